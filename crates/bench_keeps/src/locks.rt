@@ -56,7 +56,7 @@ pub fn taken_one(alloc: Global, many: u32, times: u32, key: i64) -> Result<u64, 
         take(&mut table, alloc, number, other, key)?;
         table.drop_owner(other);
     }
-    Ok(table.held().len() as u64)
+    Ok(table.count() as u64)
 }
 
 /// So often takes locks of another unit beside so many, on the keys from one on, up or down, a tenth as many and at least ten, and
@@ -78,5 +78,5 @@ pub fn taken_many(
         }
         table.drop_owner(other);
     }
-    Ok(table.held().len() as u64)
+    Ok(table.count() as u64)
 }

@@ -8,6 +8,7 @@ pub mod Near
 pub mod OneByOne
 pub mod OneLock
 pub mod Orders
+pub mod Parts
 pub mod Puts
 pub mod Runs
 pub mod Spotting

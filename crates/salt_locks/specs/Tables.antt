@@ -3,13 +3,14 @@ use Rattle.law_states.specs.KeptLocks.{Numbered, is_owned_by, saline_of}
 use Rattle.salt_locks.specs.Places.{is_no_later}
 use Rattle.salt_locks.specs.declared.table.TakeErr.{TakeErr}
 use Rattle.salt_locks.specs.declared.table.TakeErr.TheVariants.{Conflict, Memory}
-use Rattle.salt_model.specs.Locks.{clashes, lock_of, owners_of}
+use Rattle.salt_model.specs.Locks.{base_owner, clashes, lock_of, owners_of, unit_owner}
 use Rattle.salt_model.specs.declared.events.Owner.{Owner}
 use Rattle.salt_model.specs.declared.locks.Family.{Family}
 use Rattle.salt_model.specs.declared.locks.Lock.{Lock}
 use Rattle.salt_model.specs.declared.locks.Reach.{Reach}
 use Rattle.salt_values.specs.declared.id.Id.{Id}
-use Rattle.std.specs.List.{filter}
+use Rattle.salt_values.specs.Id.{in_order}
+use Rattle.std.specs.List.{filter, filter_map}
 use Rattle.std.specs.Prelude.{Bool, Err, List, Ok, Result, [], if◌then◌else◌, map, not, ℕ, ◌∷◌, ◌≡◌}
 
 -- the locks with their numbers, which stand beside them
@@ -38,6 +39,13 @@ salted u b n = record { number = n.number; lock = salted_lock u b n.lock }
 
 abbrev pub is_of_another : Owner → Numbered → Bool
 is_of_another o n = not (is_owned_by o n.lock)
+
+-- the units, and the programs, that own one of these locks, each once and in order
+abbrev pub units_in : List Lock → List Id
+units_in ls = in_order (filter_map unit_owner ls)
+
+abbrev pub bases_in : List Lock → List Id
+bases_in ls = in_order (filter_map base_owner ls)
 
 -- the owners of the locks that clash with what an owner asks
 abbrev pub owners_against : Owner → Family → Reach → List Lock → List Owner

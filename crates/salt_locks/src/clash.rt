@@ -1,16 +1,18 @@
 //! Which held locks clash with what is asked.
 
-ghost use Rattle.salt_locks.specs.Tables.{owners_against};
+ghost use Rattle.salt_locks.specs.Tables.{bases_in, owners_against, units_in};
 ghost use Rattle.salt_model.specs.Locks.{clashes, is_clash, is_read, is_same_owner};
+ghost use Rattle.salt_model.specs.declared.locks.Lock.{Lock};
 ghost use Rattle.salt_ranges.specs.Ranges.{meets};
 ghost use Rattle.std.specs.List.{find};
 ghost use Rattle.std.specs.Option.{option_copied};
-ghost use Rattle.std.specs.Prelude.{IfOk, not, ◌&&◌, ◌==◌, ◌≡◌};
+ghost use Rattle.std.specs.Prelude.{IfOk, List, OnOk, drop, length, not, take, ◌&&◌, ◌-◌, ◌==◌, ◌∷◌, ◌≡◌, ◌≤◌};
 
 use crate::owners::{is_same_owner, joined};
 use salt_model::{Family, Lock, Mode, Owner, Owners, Reach};
-use salt_values::insert_id;
+use salt_values::{Id, insert_id};
 use std::alloc::{AllocError, Global};
+use std::collections::VecDeque;
 
 fn is_read(mode: Mode) -> bool
     ensures { result ≡ is_read mode }
@@ -45,41 +47,62 @@ pub fn clashes(owner: Owner, family: Family, reach: &Reach, lock: &Lock) -> bool
     is_clash(lock.family, lock.mode, family, reach.mode) && is_against(owner, reach, lock)
 }
 
-/// The first of the locks that clashes with what an owner asks. None is looked at behind it.
+/// The first of the locks from one place to another that clashes with what an owner asks. None is looked at behind it.
 pub fn first_against<'a>(
-    locks: &'a [Lock],
+    locks: &'a VecDeque<Lock>,
+    part: (usize, usize),
     owner: Owner,
     family: Family,
     reach: &Reach,
 ) -> Option<&'a Lock>
-    ensures { option_copied result ≡ find (clashes owner family reach.now) locks.now }
+    requires { part.1 ≤ length locks.now.items }
+    ensures { option_copied result ≡ find (clashes owner family reach.now) (take (part.1 - part.0) (drop part.0 locks.now.items)) }
 {
-    locks
-        .iter()
-        .find(|lock| clashes(owner, family, reach, lock))
+    let (from, to) = part;
+    let mut at = from;
+    while at < to {
+        let lock = &locks[at];
+        if clashes(owner, family, reach, lock) {
+            return Some(lock);
+        }
+        at += 1;
+    }
+    None
 }
 
-/// The owners of those of the locks that clash with what an owner asks.
+/// Puts an owner among the units or among the programs.
+fn insert_owner(owner: Owner, units: &mut Vec<Id>, bases: &mut Vec<Id>) -> Result<(), AllocError>
+    ensures units { OnOk result ((l : Lock) (ls : List Lock) → l.owner ≡ owner → units.old.items ≡ units_in ls → units.new.items ≡ units_in (l ∷ ls)) }
+    ensures bases { OnOk result ((l : Lock) (ls : List Lock) → l.owner ≡ owner → bases.old.items ≡ bases_in ls → bases.new.items ≡ bases_in (l ∷ ls)) }
+{
+    match owner {
+        Owner::Unit(unit) => insert_id(units, unit),
+        Owner::Base(base) => insert_id(bases, base),
+    }
+}
+
+/// The owners of those of the locks from one place to another that clash with what an owner asks.
 pub fn owners_against(
     alloc: Global,
-    locks: &[Lock],
+    locks: &VecDeque<Lock>,
+    part: (usize, usize),
     owner: Owner,
     family: Family,
     reach: &Reach,
 ) -> Result<Owners, AllocError>
-    ensures { IfOk result (λ owners. owners ≡ owners_against owner family reach.now locks.now) }
+    requires order { part.0 ≤ part.1 }
+    requires within { part.1 ≤ length locks.now.items }
+    ensures { IfOk result (λ owners. owners ≡ owners_against owner family reach.now (take (part.1 - part.0) (drop part.0 locks.now.items))) }
 {
+    let (from, to) = part;
     let mut units = Vec::new(alloc);
     let mut bases = Vec::new(alloc);
-    let mut left = locks.len();
-    while left > 0 {
+    let mut left = to;
+    while left > from {
         left -= 1;
         let lock = &locks[left];
         if clashes(owner, family, reach, lock) {
-            match lock.owner {
-                Owner::Unit(unit) => insert_id(&mut units, unit)?,
-                Owner::Base(base) => insert_id(&mut bases, base)?,
-            }
+            insert_owner(lock.owner, &mut units, &mut bases)?;
         }
     }
     joined(alloc, &units, &bases)

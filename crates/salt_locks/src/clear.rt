@@ -4,12 +4,13 @@ ghost use Rattle.salt_locks.specs.Clear.{IsMarked, ends_by, ends_no_later, is_hi
 ghost use Rattle.salt_locks.specs.Places.{AreInOrder, is_low_at_most, is_up_to};
 ghost use Rattle.salt_model.specs.declared.locks.Lock.{Lock};
 ghost use Rattle.std.specs.List.{filter, prefix_len};
-ghost use Rattle.std.specs.Prelude.{Bool, false, get_or, length, true, ℕ, ◌<◌, ◌≡◌, ◌≤◌};
+ghost use Rattle.std.specs.Prelude.{Bool, drop, false, get_or, length, take, true, ℕ, ◌-◌, ◌<◌, ◌≡◌, ◌≤◌};
 
 use crate::places::{count_below, count_to};
 use salt_model::Lock;
 use salt_ranges::KeyRange;
 use salt_values::Key;
+use std::collections::VecDeque;
 
 fn is_high_at_most(hi: &Option<Key>, lo: &Option<Key>) -> bool
     ensures { result ≡ is_high_at_most hi.now lo.now }
@@ -38,43 +39,64 @@ pub fn ends_by(lock: &Lock, other: &Lock) -> bool
     lock.table != other.table || is_high_at_most(&lock.range.hi, &other.range.lo)
 }
 
+/// Whether the lock at a place is clear.
+fn is_clear_at(clear: &VecDeque<bool>, at: usize) -> bool
+    requires { at < length clear.now.items }
+    ensures { result ≡ get_or clear.now.items at false }
+{
+    clear[at]
+}
+
 /// The first place from which a search for locks that reach up to a lower end has to begin.
-pub fn first_reaching(locks: &[Lock], clear: &[bool], table: u16, low: &Option<Key>) -> usize
-    requires order { AreInOrder locks.now }
-    requires marked { IsMarked clear.now locks.now }
-    ensures { (k : ℕ) (d : Lock) → k < result → is_reaching table low.now (get_or locks.now k d) ≡ false }
+pub fn first_reaching(
+    locks: &VecDeque<Lock>,
+    clear: &VecDeque<bool>,
+    table: u16,
+    low: &Option<Key>,
+) -> usize
+    requires order { AreInOrder locks.now.items }
+    requires marked { IsMarked clear.now.items locks.now.items }
+    ensures { (k : ℕ) (d : Lock) → k < result → is_reaching table low.now (get_or locks.now.items k d) ≡ false }
 {
     let mut left = count_below(locks, table, low);
     while left > 0 {
-        if locks[left - 1].table != table {
+        let last = &locks[left - 1];
+        if last.table != table {
             return left;
         }
         left -= 1;
-        if clear[left] {
+        if is_clear_at(clear, left) {
             return left;
         }
     }
     left
 }
 
-/// A part of the locks in which all stand that are on a table and have a key in common with a range.
-pub fn met<'a>(locks: &'a [Lock], clear: &[bool], table: u16, range: &KeyRange) -> &'a [Lock]
-    requires order { AreInOrder locks.now }
-    requires marked { IsMarked clear.now locks.now }
-    ensures { filter (is_met table range.now) result.now ≡ filter (is_met table range.now) locks.now }
+/// Where a part of the locks begins and ends in which all stand that are on a table and have a key in common with a range.
+pub fn met(
+    locks: &VecDeque<Lock>,
+    clear: &VecDeque<bool>,
+    table: u16,
+    range: &KeyRange,
+) -> (usize, usize)
+    requires order { AreInOrder locks.now.items }
+    requires marked { IsMarked clear.now.items locks.now.items }
+    ensures part { filter (is_met table range.now) (take (result.1 - result.0) (drop result.0 locks.now.items)) ≡ filter (is_met table range.now) locks.now.items }
+    ensures order { result.0 ≤ result.1 }
+    ensures within { result.1 ≤ length locks.now.items }
 {
     let to = count_to(locks, table, &range.hi);
     let from = first_reaching(locks, clear, table, &range.lo).min(to);
-    &locks[from..to]
+    (from, to)
 }
 
 /// Whether all locks before the place of a new one end by it.
-pub fn is_clear(locks: &[Lock], clear: &[bool], place: usize, lock: &Lock) -> bool
-    requires order { AreInOrder locks.now }
-    requires marked { IsMarked clear.now locks.now }
-    requires place { place ≡ prefix_len (is_up_to lock.now.table (λ lo. is_low_at_most lo lock.now.range.lo)) locks.now }
-    requires bound { place ≤ length locks.now }
-    ensures { result ≡ true → (k : ℕ) (d : Lock) → k < place → ends_by (get_or locks.now k d) lock.now ≡ true }
+pub fn is_clear(locks: &VecDeque<Lock>, clear: &VecDeque<bool>, place: usize, lock: &Lock) -> bool
+    requires order { AreInOrder locks.now.items }
+    requires marked { IsMarked clear.now.items locks.now.items }
+    requires place { place ≡ prefix_len (is_up_to lock.now.table (λ lo. is_low_at_most lo lock.now.range.lo)) locks.now.items }
+    requires bound { place ≤ length locks.now.items }
+    ensures { result ≡ true → (k : ℕ) (d : Lock) → k < place → ends_by (get_or locks.now.items k d) lock.now ≡ true }
 {
     let mut left = place;
     while left > 0 {
@@ -83,7 +105,10 @@ pub fn is_clear(locks: &[Lock], clear: &[bool], place: usize, lock: &Lock) -> bo
         if !ends_by(before, lock) {
             return false;
         }
-        if clear[left] || before.table != lock.table {
+        if is_clear_at(clear, left) {
+            return true;
+        }
+        if before.table != lock.table {
             return true;
         }
     }
@@ -91,13 +116,13 @@ pub fn is_clear(locks: &[Lock], clear: &[bool], place: usize, lock: &Lock) -> bo
 }
 
 /// Those of the locks behind the place of a new one that begin before it ends are clear no more.
-pub fn cover(clear: &mut Vec<bool>, locks: &[Lock], place: usize, lock: &Lock)
-    requires order { AreInOrder locks.now }
-    requires marked { IsMarked clear.old.items locks.now }
-    requires place { place ≡ prefix_len (is_up_to lock.now.table (λ lo. is_low_at_most lo lock.now.range.lo)) locks.now }
-    requires bound { place ≤ length locks.now }
-    ensures marked { IsMarked clear.new.items locks.now }
-    ensures later { (k : ℕ) (d : Lock) (b : Bool) → place ≤ k → k < length locks.now → get_or clear.new.items k b ≡ true → ends_by lock.now (get_or locks.now k d) ≡ true }
+pub fn cover(clear: &mut VecDeque<bool>, locks: &VecDeque<Lock>, place: usize, lock: &Lock)
+    requires order { AreInOrder locks.now.items }
+    requires marked { IsMarked clear.old.items locks.now.items }
+    requires place { place ≡ prefix_len (is_up_to lock.now.table (λ lo. is_low_at_most lo lock.now.range.lo)) locks.now.items }
+    requires bound { place ≤ length locks.now.items }
+    ensures marked { IsMarked clear.new.items locks.now.items }
+    ensures later { (k : ℕ) (d : Lock) (b : Bool) → place ≤ k → k < length locks.now.items → get_or clear.new.items k b ≡ true → ends_by lock.now (get_or locks.now.items k d) ≡ true }
 {
     let mut at = place;
     while at < locks.len() {
@@ -110,10 +135,10 @@ pub fn cover(clear: &mut Vec<bool>, locks: &[Lock], place: usize, lock: &Lock)
 }
 
 /// Says of each lock whether it is clear.
-pub fn mark(clear: &mut Vec<bool>, locks: &[Lock])
-    requires order { AreInOrder locks.now }
-    requires length { length clear.old.items ≡ length locks.now }
-    ensures { IsMarked clear.new.items locks.now }
+pub fn mark(clear: &mut VecDeque<bool>, locks: &VecDeque<Lock>)
+    requires order { AreInOrder locks.now.items }
+    requires length { length clear.old.items ≡ length locks.now.items }
+    ensures { IsMarked clear.new.items locks.now.items }
 {
     let mut last = 0;
     let mut at = 0;

@@ -14,6 +14,7 @@ use crate::owners::is_same_owner;
 use crate::places::{count_below, count_no_later};
 use crate::spots::Spot;
 use salt_model::{Lock, Owner};
+use std::collections::VecDeque;
 
 /// So many locks go one after another; where there are more, all are moved at once.
 pub const FEW: usize = 8;
@@ -21,9 +22,9 @@ pub const FEW: usize = 8;
 /// The lock at a place goes. Whether it was on more than one key.
 fn remove_at(
     at: usize,
-    numbers: &mut Vec<u64>,
-    clear: &mut Vec<bool>,
-    locks: &mut Vec<Lock>,
+    numbers: &mut VecDeque<u64>,
+    clear: &mut VecDeque<bool>,
+    locks: &mut VecDeque<Lock>,
 ) -> bool
     requires below { at < length locks.old.items }
     requires numbers { length numbers.old.items ≡ length locks.old.items }
@@ -32,10 +33,12 @@ fn remove_at(
     ensures clear { clear.new.items ≡ remove clear.old.items at }
     ensures locks { locks.new.items ≡ remove locks.old.items at }
 {
-    numbers.remove(at);
-    clear.remove(at);
-    let lock = locks.remove(at);
-    !ends_by(&lock, &lock)
+    let _number = numbers.remove(at);
+    let _clear = clear.remove(at);
+    match locks.remove(at) {
+        Some(lock) => !ends_by(&lock, &lock),
+        None => false,
+    }
 }
 
 /// An owner's locks of one spot go, which stand between these places. Whether one of them was on more than one key.
@@ -44,9 +47,9 @@ fn drop_between(
     spot: &Spot,
     from: usize,
     to: usize,
-    numbers: &mut Vec<u64>,
-    clear: &mut Vec<bool>,
-    locks: &mut Vec<Lock>,
+    numbers: &mut VecDeque<u64>,
+    clear: &mut VecDeque<bool>,
+    locks: &mut VecDeque<Lock>,
 ) -> bool
     requires numbers { length numbers.old.items ≡ length locks.old.items }
     requires order { AreInOrder locks.old.items }
@@ -75,9 +78,9 @@ fn drop_between(
 fn drop_spot(
     owner: Owner,
     spot: &Spot,
-    numbers: &mut Vec<u64>,
-    clear: &mut Vec<bool>,
-    locks: &mut Vec<Lock>,
+    numbers: &mut VecDeque<u64>,
+    clear: &mut VecDeque<bool>,
+    locks: &mut VecDeque<Lock>,
 ) -> bool
     requires numbers { length numbers.old.items ≡ length locks.old.items }
     requires order { AreInOrder locks.old.items }
@@ -97,9 +100,9 @@ fn drop_spot(
 pub fn drop_at(
     owner: Owner,
     spots: &[Spot],
-    numbers: &mut Vec<u64>,
-    clear: &mut Vec<bool>,
-    locks: &mut Vec<Lock>,
+    numbers: &mut VecDeque<u64>,
+    clear: &mut VecDeque<bool>,
+    locks: &mut VecDeque<Lock>,
 )
     requires numbers { length numbers.old.items ≡ length locks.old.items }
     requires order { AreInOrder locks.old.items }
@@ -122,9 +125,9 @@ pub fn drop_at(
 /// An owner's locks go, from the last one on, until a few have. How many locks it has not looked at.
 pub fn drop_few(
     owner: Owner,
-    numbers: &mut Vec<u64>,
-    clear: &mut Vec<bool>,
-    locks: &mut Vec<Lock>,
+    numbers: &mut VecDeque<u64>,
+    clear: &mut VecDeque<bool>,
+    locks: &mut VecDeque<Lock>,
 ) -> usize
     requires numbers { length numbers.old.items ≡ length locks.old.items }
     requires order { AreInOrder locks.old.items }
@@ -152,14 +155,15 @@ pub fn drop_few(
 }
 
 /// Leaves the numbers of the locks of others.
-fn drop_numbers(owner: Owner, numbers: &mut Vec<u64>, locks: &[Lock])
-    requires { length numbers.old.items ≡ length locks.now }
-    ensures { numbers.new.items ≡ map (λ n. n.number) (filter (is_of_another owner) (numbered numbers.old.items locks.now)) }
+fn drop_numbers(owner: Owner, numbers: &mut VecDeque<u64>, locks: &VecDeque<Lock>)
+    requires { length numbers.old.items ≡ length locks.now.items }
+    ensures { numbers.new.items ≡ map (λ n. n.number) (filter (is_of_another owner) (numbered numbers.old.items locks.now.items)) }
 {
     let mut kept = 0;
     let mut at = 0;
     while at < locks.len() {
-        if !is_same_owner(owner, locks[at].owner) {
+        let lock = &locks[at];
+        if !is_same_owner(owner, lock.owner) {
             numbers[kept] = numbers[at];
             kept += 1;
         }
@@ -169,7 +173,12 @@ fn drop_numbers(owner: Owner, numbers: &mut Vec<u64>, locks: &[Lock])
 }
 
 /// An owner's locks go, all at once.
-pub fn drop_all(owner: Owner, numbers: &mut Vec<u64>, clear: &mut Vec<bool>, locks: &mut Vec<Lock>)
+pub fn drop_all(
+    owner: Owner,
+    numbers: &mut VecDeque<u64>,
+    clear: &mut VecDeque<bool>,
+    locks: &mut VecDeque<Lock>,
+)
     requires numbers { length numbers.old.items ≡ length locks.old.items }
     requires order { AreInOrder locks.old.items }
     requires clear { length clear.old.items ≡ length locks.old.items }

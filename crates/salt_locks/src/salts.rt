@@ -13,6 +13,7 @@ use crate::places::{count_below, count_no_later};
 use crate::spots::Spot;
 use salt_model::{Family, Lock, Owner};
 use salt_values::Id;
+use std::collections::VecDeque;
 
 fn salt_lock(unit: Id, base: Id, lock: &mut Lock)
     ensures { lock.new ≡ salted_lock unit base lock.old }
@@ -24,7 +25,7 @@ fn salt_lock(unit: Id, base: Id, lock: &mut Lock)
 }
 
 /// Looks at all locks.
-fn salt_all(unit: Id, base: Id, locks: &mut Vec<Lock>)
+fn salt_all(unit: Id, base: Id, locks: &mut VecDeque<Lock>)
     ensures { locks.new.items ≡ map (salted_lock unit base) locks.old.items }
 {
     let mut at = 0;
@@ -35,7 +36,7 @@ fn salt_all(unit: Id, base: Id, locks: &mut Vec<Lock>)
 }
 
 /// Looks at the locks of one spot, which stand between these places.
-fn salt_between(unit: Id, base: Id, spot: &Spot, from: usize, to: usize, locks: &mut Vec<Lock>)
+fn salt_between(unit: Id, base: Id, spot: &Spot, from: usize, to: usize, locks: &mut VecDeque<Lock>)
     requires within { to ≤ length locks.old.items }
     requires before { (k : ℕ) (d : Lock) → k < from → spot_of (get_or locks.old.items k d) ≡ spot.now → ⊥ }
     requires behind { (k : ℕ) (d : Lock) → to ≤ k → k < length locks.old.items → spot_of (get_or locks.old.items k d) ≡ spot.now → ⊥ }
@@ -51,7 +52,7 @@ fn salt_between(unit: Id, base: Id, spot: &Spot, from: usize, to: usize, locks: 
 }
 
 /// Looks at the locks of one spot.
-fn salt_spot(unit: Id, base: Id, spot: &Spot, locks: &mut Vec<Lock>)
+fn salt_spot(unit: Id, base: Id, spot: &Spot, locks: &mut VecDeque<Lock>)
     requires { AreInOrder locks.old.items }
     ensures order { AreInOrder locks.new.items }
     ensures salted { map (salted_lock unit base) locks.new.items ≡ map (salted_lock unit base) locks.old.items }
@@ -63,7 +64,7 @@ fn salt_spot(unit: Id, base: Id, spot: &Spot, locks: &mut Vec<Lock>)
 }
 
 /// Looks at the locks of these spots, at which all of the unit's begin.
-fn salt_at(unit: Id, base: Id, spots: &[Spot], locks: &mut Vec<Lock>)
+fn salt_at(unit: Id, base: Id, spots: &[Spot], locks: &mut VecDeque<Lock>)
     requires order { AreInOrder locks.old.items }
     requires all { AreAt (Owner.Unit unit) spots.now locks.old.items }
     ensures { locks.new.items ≡ map (salted_lock unit base) locks.old.items }
@@ -74,7 +75,7 @@ fn salt_at(unit: Id, base: Id, spots: &[Spot], locks: &mut Vec<Lock>)
 }
 
 /// A unit's locks become saline ones of its program. Where all of them are listed, only the locks of their spots are looked at.
-pub fn salt(unit: Id, base: Id, listed: bool, spots: &[Spot], locks: &mut Vec<Lock>)
+pub fn salt(unit: Id, base: Id, listed: bool, spots: &[Spot], locks: &mut VecDeque<Lock>)
     requires order { AreInOrder locks.old.items }
     requires all { listed ≡ true → AreAt (Owner.Unit unit) spots.now locks.old.items }
     ensures { locks.new.items ≡ map (salted_lock unit base) locks.old.items }

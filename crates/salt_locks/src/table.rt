@@ -2,8 +2,7 @@
 
 ghost use Rattle.law_states.specs.KeptLocks.{Numbered};
 ghost use Rattle.law_states.specs.Members.{In};
-ghost use Rattle.salt_locks.specs.Places.{AreInOrder, is_near};
-ghost use Rattle.salt_locks.specs.Tables.{Answers, is_of_another, locks_in, numbered, numbers_in, owners_against, put, salted};
+ghost use Rattle.salt_locks.specs.Tables.{Answers, is_of_another, locks_in, owners_against, put, salted};
 ghost use Rattle.salt_locks.specs.Turns.{locks_in_turn, numbered_of};
 ghost use Rattle.salt_locks.specs.declared.table.TakeErr.TheVariants.{Memory};
 ghost use Rattle.salt_model.specs.Locks.{clashes, lock_of};
@@ -16,14 +15,14 @@ use crate::clash::{first_against, owners_against};
 use crate::clear::{cover, is_clear, met};
 use crate::copies::copy_range;
 use crate::drops::{FEW, drop_all, drop_at, drop_few};
-use crate::places::{count_no_later, near};
+use crate::places::count_no_later;
 use crate::salts::salt;
 use crate::spots::Spots;
 use crate::turns::{TakenLock, locks_in_turn};
 use salt_model::{Family, Lock, Owner, Owners, Reach};
-use salt_ranges::KeyRange;
 use salt_values::Id;
 use std::alloc::{AllocError, Global};
+use std::collections::VecDeque;
 use std::marker::Model;
 
 /// Why no lock is taken.
@@ -47,9 +46,9 @@ impl From<AllocError> for TakeErr {
 /// is clear, so that a search need not look before it; and where each owner has locks. Contracts see a list of locks with their numbers.
 #[derive(Drop)]
 pub struct LockTable {
-    numbers: Vec<u64>,
-    clear: Vec<bool>,
-    locks: Vec<Lock>,
+    numbers: VecDeque<u64>,
+    clear: VecDeque<bool>,
+    locks: VecDeque<Lock>,
     spots: Spots,
 }
 
@@ -86,33 +85,18 @@ impl LockTable {
         ensures { result ≡ [] }
     {
         LockTable {
-            numbers: Vec::new(alloc),
-            clear: Vec::new(alloc),
-            locks: Vec::new(alloc),
+            numbers: VecDeque::new(alloc),
+            clear: VecDeque::new(alloc),
+            locks: VecDeque::new(alloc),
             spots: Spots::new(alloc),
         }
     }
 
-    /// The held locks, by table and then by lower end, those without one first.
-    pub fn held(&self) -> &[Lock]
-        ensures locks { result.now ≡ locks_in self.now }
-        ensures order { AreInOrder result.now }
+    /// How many locks are held.
+    pub fn count(&self) -> usize
+        ensures { result ≡ length (locks_in self.now) }
     {
-        &self.locks
-    }
-
-    /// Of each held lock the number of its statement.
-    pub fn numbers(&self) -> &[u64]
-        ensures { result.now ≡ numbers_in self.now }
-    {
-        &self.numbers
-    }
-
-    /// Those of the held locks that are on this table and whose lower end is not above the range's upper end.
-    pub fn near(&self, table: u16, range: &KeyRange) -> &[Lock]
-        ensures { result.now ≡ filter (is_near table range.now) (locks_in self.now) }
-    {
-        near(&self.locks, table, range)
+        self.locks.len()
     }
 
     /// An owner's locks with the numbers of their statements, which ascend; where a number is there twice, the last of the two in
@@ -133,16 +117,16 @@ impl LockTable {
     ) -> Result<Owners, AllocError>
         ensures { IfOk result (λ owners. owners ≡ owners_against owner family reach.now (locks_in self.now)) }
     {
-        let locks = met(&self.locks, &self.clear, reach.table, &reach.range);
-        owners_against(alloc, locks, owner, family, reach)
+        let part = met(&self.locks, &self.clear, reach.table, &reach.range);
+        owners_against(alloc, &self.locks, part, owner, family, reach)
     }
 
     /// The first of the held locks that clashes with what is asked, if one does.
     pub fn first_clash(&self, owner: Owner, family: Family, reach: &Reach) -> Option<&Lock>
         ensures { option_copied result ≡ find (clashes owner family reach.now) (locks_in self.now) }
     {
-        let locks = met(&self.locks, &self.clear, reach.table, &reach.range);
-        first_against(locks, owner, family, reach)
+        let part = met(&self.locks, &self.clear, reach.table, &reach.range);
+        first_against(&self.locks, part, owner, family, reach)
     }
 
     /// Whether the last of the held locks that begin where this reach does is just the one that is asked for. It may be held where this

@@ -10,7 +10,7 @@ use crate::copies::copy_lock;
 use crate::owners::is_same_owner;
 use salt_model::{Lock, Owner};
 use std::alloc::{AllocError, Global};
-use std::collections::BTreeMap;
+use std::collections::{BTreeMap, VecDeque};
 
 /// A lock with the number of the statement that it was taken for.
 #[derive(Drop)]
@@ -51,11 +51,11 @@ fn listed(alloc: Global, taken: BTreeMap<u64, Lock>) -> Result<Vec<TakenLock>, A
 pub fn locks_in_turn(
     alloc: Global,
     owner: Owner,
-    numbers: &[u64],
-    locks: &[Lock],
+    numbers: &VecDeque<u64>,
+    locks: &VecDeque<Lock>,
 ) -> Result<Vec<TakenLock>, AllocError>
-    requires { length numbers.now ≡ length locks.now }
-    ensures { IfOk result (λ taken. map numbered_of taken.items ≡ locks_in_turn owner (numbered numbers.now locks.now)) }
+    requires { length numbers.now.items ≡ length locks.now.items }
+    ensures { IfOk result (λ taken. map numbered_of taken.items ≡ locks_in_turn owner (numbered numbers.now.items locks.now.items)) }
 {
     let mut taken = BTreeMap::new(alloc);
     let mut left = locks.len();

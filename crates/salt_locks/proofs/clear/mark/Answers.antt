@@ -6,15 +6,15 @@ use Rattle.std.proofs.lemmas.List.{length-set}
 
 pub loop-at-preserved : goal.loop-at-preserved
 loop-at-preserved c =
-    let ls = c.args.locks.now in
+    let ls = c.args.locks.now.items in
     let n = c.loop-at.at in
     let last = c.loop-at.last in
-    let x = c.index-locks-last.result in
-    let y = c.index-locks-at.result in
+    let x = c.index-longest.result.now in
+    let y = c.index-lock.result.now in
     let inv = c.loop-at.invariant in
     let test = c.loop-at-test.true in
     let least : last < length ls = omega (arith, inv.1, test) in
-    let marked = mark_one ls c.loop-at.clear.items last n x y c.ends_by-is_clear.result test inv.3 least c.index-locks-last.is c.index-locks-at.is c.ends_by-is_clear.ensures inv.4 inv.5 in
+    let marked = mark_one ls c.loop-at.clear.items last n x y c.ends_by-is_clear.result test inv.3 least c.index-longest.ensures c.index-lock.ensures c.ends_by-is_clear.ensures inv.4 inv.5 in
     let len = length-set c.loop-at.clear.items n c.ends_by-is_clear.result ∙ inv.3 in
     elim c.if-is_clear.branch [
       | then-is_clear w ↦ let e = w.last-is in (
@@ -24,8 +24,8 @@ loop-at-preserved c =
         len,
         marked,
         subst (λ i. EndLast i (n + 1) ls) (sym e) (elim w.then-is_clear.branch [
-          | then-is_clear-via-then-is_clear v ↦ last_clear ls last n x y c.requires.order test least c.index-locks-last.is c.index-locks-at.is (sym v.if-is_clear.ensures) inv.5
-          | then-is_clear-via-else-is_clear+then-ends_no_later v ↦ last_longer ls last n x y c.requires.order test least inv.2 c.index-locks-last.is c.index-locks-at.is (sym v.if-ends_no_later.ensures) inv.5
+          | then-is_clear-via-then-is_clear v ↦ last_clear ls last n x y c.requires.order test least c.index-longest.ensures c.index-lock.ensures (sym v.if-is_clear.ensures) inv.5
+          | then-is_clear-via-else-is_clear+then-ends_no_later v ↦ last_longer ls last n x y c.requires.order test least inv.2 c.index-longest.ensures c.index-lock.ensures (sym v.if-ends_no_later.ensures) inv.5
         ]),
       )
       | else-is_clear+else-ends_no_later w ↦ let e = w.last-is in (
@@ -34,6 +34,6 @@ loop-at-preserved c =
         λ p. omega (arith, e, inv.1),
         len,
         marked,
-        subst (λ i. EndLast i (n + 1) ls) (sym e) (last_stays ls last n x y test least c.index-locks-last.is c.index-locks-at.is (sym w.if-is_clear.ensures) (sym w.if-ends_no_later.ensures) inv.5),
+        subst (λ i. EndLast i (n + 1) ls) (sym e) (last_stays ls last n x y test least c.index-longest.ensures c.index-lock.ensures (sym w.if-is_clear.ensures) (sym w.if-ends_no_later.ensures) inv.5),
       )
     ]

@@ -7,10 +7,10 @@ use Rattle.std.specs.Prelude.{drop, take}
 abbrev pub invariant-loop-at : goal.invariant-loop-at
 invariant-loop-at l =
     (l.kept ≤ l.at)
-    × (l.at ≤ length l.locks)
-    × (length l.numbers.items ≡ length l.locks)
-    × (take l.kept l.numbers.items ++ map (λ n. n.number) (filter (is_of_another l.owner) (numbered (drop l.at l.numbers.items) (drop l.at l.locks)))
-    ≡ map (λ n. n.number) (filter (is_of_another l.owner) (numbered l.initial.numbers.items l.locks)))
+    × (l.at ≤ length l.locks.items)
+    × (length l.numbers.items ≡ length l.locks.items)
+    × (take l.kept l.numbers.items ++ map (λ n. n.number) (filter (is_of_another l.owner) (numbered (drop l.at l.numbers.items) (drop l.at l.locks.items)))
+    ≡ map (λ n. n.number) (filter (is_of_another l.owner) (numbered l.initial.numbers.items l.locks.items)))
 
 abbrev pub decreases-loop-at : goal.decreases-loop-at
-decreases-loop-at l = length l.locks - l.at
+decreases-loop-at l = length l.locks.items - l.at

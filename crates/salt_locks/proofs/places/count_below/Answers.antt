@@ -1,9 +1,9 @@
 use Rattle.salt_locks.proofs.Near.{below_closed, counted, parted, up_to_below}
 use Rattle.salt_locks.proofs.places.count_below.Goals as goal
-use Rattle.std.proofs.Common.{of_calls, rules}
+use Rattle.std.proofs.Common.{arith, of_calls, rules}
 use Rattle.std.proofs.lemmas.Fn.{always_returns_same}
 
 pub returns-clause-value : goal.returns-clause-value
-returns-clause-value c = counted (up_to_below c.args.table c.args.low.now) c.args.locks.now c.partition_point.result c.partition_point.ensures.bound
+returns-clause-value c = counted (up_to_below c.args.table c.args.low.now) c.args.locks.now.items c.partition_point.result (omega (arith, c.partition_point.ensures.bound, c.args.locks.now.ok.0))
     (c.partition_point.ensures.partitioned (up_to_below c.args.table c.args.low.now) (always_returns_same _ _ _ (λ a r f k. search (rules, of_calls)))
-    (parted (up_to_below c.args.table c.args.low.now) (below_closed c.args.table c.args.low.now) c.args.locks.now c.requires))
+    (parted (up_to_below c.args.table c.args.low.now) (below_closed c.args.table c.args.low.now) c.args.locks.now.items c.requires))

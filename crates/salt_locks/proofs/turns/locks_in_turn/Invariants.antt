@@ -6,8 +6,8 @@ use Rattle.std.specs.Prelude.{drop}
 
 abbrev pub invariant-loop-left : goal.invariant-loop-left
 invariant-loop-left l =
-    (l.left ≤ length l.locks)
-    × (at_numbers l.taken.entries ≡ locks_in_turn l.owner (numbered (drop l.left l.numbers) (drop l.left l.locks)))
+    (l.left ≤ length l.locks.items)
+    × (at_numbers l.taken.entries ≡ locks_in_turn l.owner (numbered (drop l.left l.numbers.items) (drop l.left l.locks.items)))
 
 abbrev pub decreases-loop-left : goal.decreases-loop-left
 decreases-loop-left l = l.left
