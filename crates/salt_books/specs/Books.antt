@@ -1,5 +1,7 @@
 -- What the books tell: the half of an engine's state that is of units and of what is kept.
+use Rattle.salt_ast.specs.declared.programs.ProgramDef.{ProgramDef}
 use Rattle.salt_ast.specs.declared.trees.Statement.{Statement}
+use Rattle.salt_ast.specs.declared.trees.TableDef.{TableDef}
 use Rattle.salt_books.specs.declared.books.Books.{Books}
 use Rattle.salt_books.specs.declared.held.Held.{Held}
 use Rattle.law_states.specs.OpenUnits.{OpenUnit, UnitState, belongs_to_program, belongs_to_session, unit_named}
@@ -12,8 +14,9 @@ use Rattle.salt_model.specs.Tables.{Tables, is_within, row_at}
 use Rattle.salt_model.specs.declared.events.Answer.{Answer}
 use Rattle.salt_model.specs.declared.locks.Reach.{Reach}
 use Rattle.salt_model.specs.declared.places.Place.{Place}
+use Rattle.salt_values.specs.declared.cont.Cont.{Cont}
 use Rattle.salt_values.specs.declared.id.Id.{Id}
-use Rattle.std.specs.Prelude.{Bool, IsSome, None, Option, Some, if◌then◌else◌, map, ℕ, ⊤, ◌≡◌}
+use Rattle.std.specs.Prelude.{Bool, IsSome, List, None, Option, Some, if◌then◌else◌, map, ℕ, ⊤, ◌≡◌}
 
 -- a unit that is held, as an open unit
 abbrev pub seen : Held → OpenUnit
@@ -27,6 +30,32 @@ seen h = record {
   vars = h.open.vars;
   changes = edits_of h.open.changes.items;
 }
+
+-- WHAT THEY SHOW: the tables and programs that are known, where programs go on, the last boot and the last decision; the open units,
+-- and the programs to which `go all` has still to turn
+
+abbrev pub tables_in : Books → List TableDef
+tables_in x = x.known.schema
+
+abbrev pub programs_in : Books → List ProgramDef
+programs_in x = x.known.catalogue
+
+abbrev pub conts_in : Books → List Cont
+conts_in x = x.known.conts
+
+abbrev pub boot_in : Books → ℕ
+boot_in x = x.known.boot
+
+abbrev pub decisions_in : Books → ℕ
+decisions_in x = x.known.decisions
+
+abbrev pub units_in : Books → List OpenUnit
+units_in x = map seen x.units.items
+
+abbrev pub turns_in : Books → List Id
+turns_in x = x.to_go.items
+
+-- WHAT THEY STAND FOR
 
 -- whether a unit that is held is a session's, and a program's
 unfoldable pub is_of_session : ℕ → Held → Bool
@@ -48,10 +77,10 @@ AreLoaded (Some r) rows es = (q : Place) → row_at q rows ≡ (if is_within r q
 -- the books have the state's units and numbers, and know what it keeps but for the rows of tables; they see no phase and no line
 pub record AreBooks (x : Books) (s : UnitState) : Type 0 where
   pub known : IsKnown x.known s.kept
-  pub units : map seen x.units.items ≡ s.units
+  pub units : units_in x ≡ s.units
   pub unit_count : x.unit_count ≡ s.unit_count
   pub base_count : x.base_count ≡ s.base_count
-  pub to_go : x.to_go.items ≡ s.to_go
+  pub to_go : turns_in x ≡ s.to_go
   pub early : x.early ≡ s.early
   pub named : x.named ≡ s.named
   pub owes : x.owes ≡ s.owes

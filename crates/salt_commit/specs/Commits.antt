@@ -8,7 +8,7 @@ use Rattle.salt_bytes.specs.Spellable.{Every}
 use Rattle.salt_bytes.specs.declared.moves.Move.{Move}
 use Rattle.salt_commit.specs.Prepares.{IsLogOfShares, OnePassesLimit}
 use Rattle.salt_commit.specs.Shares.{mask_of, next_decision, shares_of}
-use Rattle.salt_commit.specs.Stores.{IsStore, coordinator_device, coordinator_gate, decided_by, reading}
+use Rattle.salt_commit.specs.Stores.{IsStore, coordinator_device, coordinator_gate, decided_by, reading, shape_of_store}
 use Rattle.salt_commit.specs.declared.store.Store.{Store}
 use Rattle.salt_decisions.specs.Decisions as decisions
 use Rattle.salt_disk.specs.Disks.{View}
@@ -59,7 +59,7 @@ pub record StandsToCommit (d : View) (x : Store) (u : Id) (cs : List Change) (mv
 
 -- the shares of a unit's changes in a store
 abbrev pub shares_in : Store → List Change → List (List Change)
-shares_in x cs = shares_of (decisions.shape_of x.decisions) cs
+shares_in x cs = shares_of (shape_of_store x) cs
 
 -- the device is the coordinator's log, or that of a partition which the unit changes
 abbrev pub IsCommitLog : Store → List Change → ℕ → Type 0

@@ -9,6 +9,7 @@ use Rattle.salt_model.specs.Tables.{Entry, Tables, is_within, row_at}
 use Rattle.salt_model.specs.Words.{Every}
 use Rattle.salt_model.specs.declared.locks.Reach.{Reach}
 use Rattle.salt_model.specs.declared.places.Place.{Place}
+use Rattle.salt_partition.specs.Partitions.{rows_in}
 use Rattle.salt_partition.specs.declared.partition.Partition.{Partition}
 use Rattle.salt_stands.specs.Commits.{found_of}
 use Rattle.salt_stands.specs.Coordinator.{Coordinator}
@@ -33,7 +34,7 @@ AreRowsOf schema es = Every (λ (e : Entry). IsRowAt schema e.0 e.1) es.list
 
 -- the rows that partitions have in their maps
 abbrev pub shown_in : Partition → Tables
-shown_in x = tables_of x.rows.entries
+shown_in x = tables_of (rows_in x)
 
 abbrev pub shown_in_all : List Partition → Tables
 shown_in_all xs = joined (map shown_in xs)

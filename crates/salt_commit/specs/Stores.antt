@@ -28,7 +28,11 @@ use Rattle.std.specs.Prelude.{Option, IfSome, IsTrue, List, Ok, Some, false, len
 abbrev pub reading : Reading Definition
 reading = definitions_reading definition_in
 
--- the number of the last boot, and that of the last decision or definition
+-- WHAT IT SHOWS: its shape, the number of the last boot, and that of the last decision or definition
+
+abbrev pub shape_of_store : Store → Shape
+shape_of_store x = decisions.shape_of x.decisions
+
 abbrev pub last_boot : Store → ℕ
 last_boot x = decisions.last_boot x.decisions
 

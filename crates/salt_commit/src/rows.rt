@@ -2,8 +2,7 @@
 
 ghost use Rattle.salt_bytes.specs.Generations.{WhichLog};
 ghost use Rattle.salt_commit.specs.Loads.{AreInPlace, fits_place};
-ghost use Rattle.salt_commit.specs.Stores.{IsStore, reading};
-ghost use Rattle.salt_decisions.specs.Decisions.{shape_of};
+ghost use Rattle.salt_commit.specs.Stores.{IsStore, reading, shape_of_store};
 ghost use Rattle.salt_stands.specs.Fitting.{tables_of};
 ghost use Rattle.salt_model.specs.Kept.{Definition};
 ghost use Rattle.salt_stands.specs.Coordinator.{Coordinator};
@@ -74,7 +73,7 @@ impl Store {
     ) -> Result<bool, AllocError>
         requires callable { TakesEachKey (F.pre place.now.place) }
         requires answers { GivesPlaceOf (F.post place.now.place) }
-        requires parts { IsParts (shape_of self.now.decisions).parts }
+        requires parts { IsParts (shape_of_store self.now).parts }
         ensures fit { IfOk result (λ fit. fit ≡ true → (which : WhichLog) (c : Coordinator Definition) (v : ℕ → PartView) → IsStore reading (D.view disks.now) self.now which c v
             → AreInPlace schema.now c v) }
         ensures told { IfOk result (λ fit. (which : WhichLog) (c : Coordinator Definition) (v : ℕ → PartView) → IsStore reading (D.view disks.now) self.now which c v → IsTrue (D.view disks.now).told

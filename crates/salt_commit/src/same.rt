@@ -1,8 +1,7 @@
 //! Whether a store has the rows that changes make of another's.
 
 ghost use Rattle.salt_commit.specs.Shares.{share_at};
-ghost use Rattle.salt_commit.specs.Stores.{each_changed, rows_of_all, rows_of_store};
-ghost use Rattle.salt_decisions.specs.Decisions.{shape_of};
+ghost use Rattle.salt_commit.specs.Stores.{each_changed, rows_of_all, rows_of_store, shape_of_store};
 ghost use Rattle.salt_model.specs.Tables.{Tables, with_changes};
 ghost use Rattle.salt_partition.specs.Partitions.{rows_in};
 ghost use Rattle.salt_place.specs.Placement.{GivesPlaceOf, IsParts, TakesEachKey};
@@ -49,9 +48,9 @@ impl Store {
     ) -> Result<bool, AllocError>
         requires callable { TakesEachKey (F.pre place.now.place) }
         requires answers { GivesPlaceOf (F.post place.now.place) }
-        requires parts { IsParts (shape_of self.now.decisions).parts }
-        ensures { IfOk result (λ has. (tables : ℕ → Tables) → rows_of_store other.now ≡ rows_of_all tables (shape_of self.now.decisions).parts
-            → IsTrue has ↔ (rows_of_store self.now ≡ rows_of_all (each_changed (shape_of self.now.decisions) changes.now tables) (shape_of self.now.decisions).parts)) }
+        requires parts { IsParts (shape_of_store self.now).parts }
+        ensures { IfOk result (λ has. (tables : ℕ → Tables) → rows_of_store other.now ≡ rows_of_all tables (shape_of_store self.now).parts
+            → IsTrue has ↔ (rows_of_store self.now ≡ rows_of_all (each_changed (shape_of_store self.now) changes.now tables) (shape_of_store self.now).parts)) }
     {
         let shape = self.decisions.shape();
         let shares = shares_of(self.alloc, place, shape, changes.as_slice())?;

@@ -13,14 +13,19 @@ use Rattle.salt_model.specs.declared.places.Place.{Place}
 use Rattle.salt_values.specs.declared.change.Change.{Change}
 use Rattle.salt_values.specs.declared.id.Id.{Id}
 use Rattle.salt_conflicts.specs.Waiters.{waiter_of}
+use Rattle.salt_conflicts.specs.declared.waiters.Waiter.{Waiter}
 use Rattle.salt_conflicts.specs.declared.watching.Watching.{Watching}
 use Rattle.std.specs.Prelude.{List, map, ⊤, ◌↔◌, ◌≡◌}
+
+-- its waiting units, the longest first
+abbrev pub waiters_of : Watching → List Waiter
+waiters_of x = x.waits.items
 
 -- it is that watch, but for writers, pairs and finished programs, which are these
 pub record IsWatchBeside (d : Dependencies) (x : Watching) (w : Watch) : Type 0 where
   pub table : w.table ≡ x.locks
   pub taken : w.taken ≡ x.taken
-  pub waits : map waiter_of w.waits ≡ x.waits.items
+  pub waits : map waiter_of w.waits ≡ waiters_of x
   pub programs : w.programs ≡ x.programs.names.items
   pub dependencies : AreSame d w.dependencies
 

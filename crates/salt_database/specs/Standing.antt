@@ -1,5 +1,5 @@
 -- What an opening stands for: a state, over a storage that holds what that keeps; and what it finds to be opened.
-use Rattle.salt_books.specs.Books.{AreBooks, seen}
+use Rattle.salt_books.specs.Books.{AreBooks, boot_in, conts_in, programs_in, units_in}
 use Rattle.salt_books.specs.declared.books.Books.{Books}
 use Rattle.salt_engine.specs.Standing.{books_in}
 use Rattle.salt_engine.specs.Stored.{Stored}
@@ -18,7 +18,7 @@ use Rattle.salt_drain.specs.declared.recovery.Recovery.{Recovery}
 use Rattle.salt_storage.specs.declared.found.Numbers.{Numbers}
 use Rattle.salt_values.specs.declared.id.Id.{Id}
 use Rattle.std.specs.List.{filter}
-use Rattle.std.specs.Prelude.{Bool, None, Option, Some, [], false, length, map, true, ℕ, ⊤, ◌*◌, ◌+◌, ◌-◌, ◌≡◌}
+use Rattle.std.specs.Prelude.{Bool, None, Option, Some, [], false, length, true, ℕ, ⊤, ◌*◌, ◌+◌, ◌-◌, ◌≡◌}
 
 -- the books of an opening that is done: behind its Ready nothing is open and nothing is watched, no accepted program is unfinished, and no
 -- program is named
@@ -59,8 +59,7 @@ CanFind settled leaves found stage = ⊥
 -- the units that an opening has still to cut, and the statements that it may still do, by its books
 abbrev pub left_by : Books → ℕ
 left_by x =
-    let units = map seen x.units.items in
-    length (filter (is_earlier x.known.boot) units) + (rests_of x.known.catalogue x.known.conts - done_now x.known.boot units)
+    length (filter (is_earlier (boot_in x)) (units_in x)) + (rests_of (programs_in x) (conts_in x) - done_now (boot_in x) (units_in x))
 
 abbrev pub left_in : Stage Recovery → Option Event → ℕ
 left_in (Going x) (Some e) = 8 * left_by (recovering.books_of x) + opening_stage e

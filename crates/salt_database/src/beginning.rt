@@ -1,6 +1,7 @@
 //! A boot begins over what was found.
 
 ghost use Rattle.salt_database.specs.Finding.{BeginsOpening, Flies, IsOpenedBy, Rests, RestsOrFlies, first_in};
+ghost use Rattle.salt_books.specs.Books.{decisions_in};
 ghost use Rattle.law_states.specs.States.{State};
 ghost use Rattle.salt_model.specs.declared.events.Event.{Event};
 ghost use Rattle.salt_drain.specs.Follows.{rest_in};
@@ -77,7 +78,7 @@ pub fn begin(
 ) -> Result<(Recovery, Event), AllocError>
     requires { (f : Option Event) × (number : ℕ) × (old : State) × (new : State) × IsOpenedBy books single in_flight.now f boot number old new }
     ensures { IfOk result (λ r. (f : Option Event) (number : ℕ) (old new : State) → IsOpenedBy books single in_flight.now f boot number old new
-        → later ≡ nat_lt books.known.decisions number → BeginsOpening f number new r.0 r.1) }
+        → later ≡ nat_lt (decisions_in books) number → BeginsOpening f number new r.0 r.1) }
 {
     let mut books = books;
     books.begin_boot(boot);

@@ -1,5 +1,6 @@
 //! What an opening does, as its moves from point to point.
 
+ghost use Rattle.salt_books.specs.Books.{tables_in};
 ghost use Rattle.salt_books.specs.declared.books.Books.{Books};
 ghost use Rattle.salt_database.specs.Standing.{CanFind, IsFoundStage, ends_opening, left_in, opening_books};
 ghost use Rattle.salt_engine.specs.Flights.{flight_of};
@@ -189,7 +190,7 @@ impl<S: Storage + Drop> Opening<S> {
 
     /// The tables that are defined, unless memory ran out.
     pub fn schema(&self) -> &Schema
-        ensures { (x : Books) → opening_books self.now.stage ≡ Some x → result.now ≡ x.known.schema }
+        ensures { (x : Books) → opening_books self.now.stage ≡ Some x → result.now ≡ tables_in x }
     {
         match &self.stage {
             Stage::Going(recovery) => recovery.books().known().schema(),

@@ -1,7 +1,7 @@
 //! Devices are opened anew, behind a fall.
 
 ghost use Rattle.salt_commit.specs.Openings.{HasRoom};
-ghost use Rattle.salt_decisions.specs.Decisions.{shape_of};
+ghost use Rattle.salt_commit.specs.Stores.{shape_of_store};
 ghost use Rattle.salt_devices.specs.Leaving.{LeavesEither, LeavesAs};
 ghost use Rattle.salt_devices.specs.Opened.{IsHeldAgain};
 ghost use Rattle.salt_devices.specs.Remembering.{AreNumbersOf, Follow, IsFoundAgain, MayFollow, MayTell, Recalls, Remembers};
@@ -63,8 +63,8 @@ fn is_remembered<F: Fn(PlaceKind, &Key, u32) -> u32>(
 ) -> Result<bool, AllocError>
     requires callable { TakesEachKey (F.pre place.now.place) }
     requires answers { GivesPlaceOf (F.post place.now.place) }
-    requires parts { IsParts (shape_of store.now.decisions).parts }
-    ensures { IfOk result (λ is. (shape : Shape) (a b : Kept) → shape_of store.now.decisions ≡ shape → Recalls shape before.now numbers pending.now a b
+    requires parts { IsParts (shape_of_store store.now).parts }
+    ensures { IfOk result (λ is. (shape : Shape) (a b : Kept) → shape_of_store store.now ≡ shape → Recalls shape before.now numbers pending.now a b
         → IsTrue is ↔ (IsFoundAgain shape store.now found a ⊎ IsFoundAgain shape store.now found b)) }
 {
     let none = Changes::new(alloc);

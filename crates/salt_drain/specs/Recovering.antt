@@ -50,18 +50,18 @@ IsOfDrain (Done u failed) s = IsPartIfOpen s u
 IsOfDrain b s = ⊤
 
 pub record StandsForUnits (x : Recovery) (s : UnitState) : Type 0 where
-  pub books : AreBooks x.books s
+  pub books : AreBooks (books_of x) s
   pub opening : s.phase ≡ Opening
   pub single : x.single ≡ is_statement_line s.line
-  pub drain : IsOfDrain x.behind s
+  pub drain : IsOfDrain (behind_of x) s
 
 abbrev pub StandsForState : Recovery → State → Type 0
 StandsForState x s = StandsForUnits x s.units
 
 -- behind its end the state serves
 abbrev pub StandsBehindEvent : Event → Recovery → UnitState → Type 0
-StandsBehindEvent Ready x s = AreBooks x.books s × (s.phase ≡ Serving)
-StandsBehindEvent (Early bs) x s = AreBooks x.books s × (s.phase ≡ Serving)
+StandsBehindEvent Ready x s = AreBooks (books_of x) s × (s.phase ≡ Serving)
+StandsBehindEvent (Early bs) x s = AreBooks (books_of x) s × (s.phase ≡ Serving)
 StandsBehindEvent e x s = StandsForUnits x s
 
 -- it has done an event
@@ -69,7 +69,7 @@ pub record HasDoneEvent (x : Recovery) (e : Event) (s t : State) : Type 0 where
   pub plain : is_of_run e ≡ false
   pub after : After e s t
   pub behind : StandsBehindEvent e x t.units
-  pub follows : FollowsOn x.behind e s.units t.units
+  pub follows : FollowsOn (behind_of x) e s.units t.units
 
 abbrev pub StandsAtEvent : Recovery → Option Event → State → Type 0
 StandsAtEvent x None s = StandsForState x s

@@ -23,11 +23,11 @@ use salt_values::{Id, Ids};
 use std::alloc::AllocError;
 
 impl Recovery {
-    ghost use Rattle.salt_drain.specs.Recovering.{ChoosesNext, ChoosesOf, DoesNext, AnswersWith, IsInOpening, IsInOpeningOf, IsRecovering, StandsForState};
+    ghost use Rattle.salt_drain.specs.Recovering.{AnswersWith, ChoosesNext, ChoosesOf, DoesNext, IsInOpening, IsInOpeningOf, IsRecovering, StandsForState, books_of};
 
     /// A unit of an earlier boot is cut.
     fn cut(&mut self, unit: Id) -> Event
-        requires { HaveUnit self.old.books unit }
+        requires { HaveUnit (books_of self.old) unit }
         ensures { DoesNext (λ s. Some (Event.Ended unit End.Cut)) self.old self.new result }
     {
         self.books.end(unit);

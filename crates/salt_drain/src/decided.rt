@@ -4,7 +4,7 @@ ghost use Rattle.salt_ast.specs.ProgramTexts.{program_text};
 ghost use Rattle.salt_ast.specs.Texts.{table_text};
 ghost use Rattle.salt_ast.specs.declared.lines.Line.TheVariants.{Program, Table};
 ghost use Rattle.salt_books.specs.Asking.{IsAskedBy};
-ghost use Rattle.salt_books.specs.Books.{AreLoaded, HaveUnit};
+ghost use Rattle.salt_books.specs.Books.{AreLoaded, HaveUnit, programs_in, tables_in};
 ghost use Rattle.salt_eval.specs.Scans.{IsKeyed};
 ghost use Rattle.salt_eval.specs.Views.{tables_of};
 ghost use Rattle.law_states.specs.OpenUnits.{OpenUnit, unit_named};
@@ -32,7 +32,7 @@ use std::alloc::AllocError;
 use std::sync::ledger::Ledger;
 
 impl Recovery {
-    ghost use Rattle.salt_drain.specs.Recovering.{AnswersWith, IsOfPart, IsRecovering, StandsForState};
+    ghost use Rattle.salt_drain.specs.Recovering.{AnswersWith, IsOfPart, IsRecovering, StandsForState, books_of};
 
     /// A unit that goes on with a program does the statement that it asks for, over the rows that this reaches: one step, whatever it
     /// answers.
@@ -42,8 +42,8 @@ impl Recovery {
         rows: &Tables,
         steps: &mut Steps<L>,
     ) -> Result<Event, AllocError>
-        requires there { HaveUnit self.old.books asking.unit }
-        requires leaves_keys { leaves_keys self.old.books.known.schema asking.statement ≡ true }
+        requires there { HaveUnit (books_of self.old) asking.unit }
+        requires leaves_keys { leaves_keys (tables_in (books_of self.old)) asking.statement ≡ true }
         requires keyed { IsKeyed (tables_of rows.now.entries) }
         ensures gives { IfOk result (λ e. (s : State) (o : OpenUnit) → StandsForState self.old s → IsRecovering s → IsAskedBy asking s.units o → IsOfPart o
             → AreLoaded asking.reach (tables_of rows.now.entries) s.units.kept.tables → AnswersWith s (Some (does_in s.units o asking.statement)) self.new (Some e)) }
@@ -71,7 +71,7 @@ impl Recovery {
 
     /// The commit of a unit has been decided, with this move of its program: it commits.
     pub fn committed(&mut self, unit: Id, made: Move) -> Result<Event, AllocError>
-        requires { HaveUnit self.old.books unit }
+        requires { HaveUnit (books_of self.old) unit }
         ensures { IfOk result (λ e. (s : State) (o : OpenUnit) → StandsForState self.old s → IsRecovering s → unit_named unit s.units.units ≡ Some o
             → MovesTo made s.units.kept (conts_committed s.units.kept (next_decision s.units) o.kind o.vars)
             → AnswersWith s (Some (commits_in s.units o)) self.new (Some e)) }
@@ -97,7 +97,7 @@ impl Recovery {
         cause: Cause,
         made: Move,
     ) -> Result<Event, AllocError>
-        requires { HaveUnit self.old.books unit }
+        requires { HaveUnit (books_of self.old) unit }
         ensures { IfOk result (λ e. (s : State) (o : OpenUnit) (part : ℕ) → StandsForState self.old s → IsRecovering s → unit_named unit s.units.units ≡ Some o
             → o.kind ≡ Later base part → MovesTo made s.units.kept (conts_branched s.units.kept o.kind)
             → AnswersWith s (Some (Event.Ended unit (End.Branched (next_decision s.units) cause))) self.new (Some e)) }
@@ -112,7 +112,7 @@ impl Recovery {
 
     /// The table of the last line has been decided: it is defined.
     pub fn table_defined(&mut self, def: &TableDef) -> Result<Event, AllocError>
-        requires { table_refusal self.old.books.known.schema def.now ≡ None }
+        requires { table_refusal (tables_in (books_of self.old)) def.now ≡ None }
         ensures { IfOk result (λ e. (s : State) → StandsForState self.old s → IsRecovering s → s.units.line ≡ Table def.now
             → AnswersWith s (Some (Event.Defined (next_decision s.units) (table_text def.now))) self.new (Some e)) }
     {
@@ -124,7 +124,7 @@ impl Recovery {
     /// The program of the last line has been decided: it is defined.
     pub fn program_defined(&mut self, def: &ProgramDef) -> Result<Event, AllocError>
         requires parts { length (parts_in def.now.body) < 2 ^ 32 }
-        requires allowed { program_refusal self.old.books.known.schema self.old.books.known.catalogue def.now ≡ None }
+        requires allowed { program_refusal (tables_in (books_of self.old)) (programs_in (books_of self.old)) def.now ≡ None }
         ensures { IfOk result (λ e. (s : State) → StandsForState self.old s → IsRecovering s → s.units.line ≡ Program def.now
             → AnswersWith s (Some (Event.Defined (next_decision s.units) (program_text def.now))) self.new (Some e)) }
     {

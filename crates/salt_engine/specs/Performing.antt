@@ -83,7 +83,7 @@ IsToServeIn holds is_new stage c s = GoesWith (λ (x : Scheduler). IsToServe hol
 
 -- a scheduler stands for a state behind an event in a line, and what comes behind that comes next
 pub record GoesOnServing (holds : Kept → Type 0) (is_new : Id → Type 0) (line : Line) (x : Scheduler) (s : State) : Type 0 where
-  pub played : (r : WatchReading s.watch) → IsPlayedBefore (behind_in s r x.follow) s
+  pub played : (r : WatchReading s.watch) → IsPlayedBefore (behind_in s r (scheduling.follow_of x)) s
   pub serves : ServesLine line s
   pub stands : scheduling.StandsBehindEvent x s
   pub stored : Stored holds is_new s.units
@@ -181,7 +181,7 @@ WasBroken halt books stage = ((halt ≡ Memory) × (stage ≡ Lost)) ⊎ ((halt 
 -- a stage that is broken off by a halt: unless memory ran out, its books stay
 abbrev pub broken_by : Halt → Stage Scheduler → Stage Scheduler
 broken_by Memory stage = Lost
-broken_by halt (Going x) = Down x.books
+broken_by halt (Going x) = Down (scheduling.books_of x)
 broken_by halt stage = stage
 
 -- the stage behind a move: where that halted, it is broken off

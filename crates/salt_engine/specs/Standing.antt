@@ -26,7 +26,7 @@ use Rattle.salt_driver.specs.Opening.{HasPlainStart}
 use Rattle.salt_storage.specs.Storing.{IsSoundKept}
 use Rattle.salt_storage.specs.declared.found.Numbers.{Numbers}
 use Rattle.salt_values.specs.declared.id.Id.{Id}
-use Rattle.std.specs.Prelude.{Bool, IsSome, List, None, Option, Some, [], false, map, ℕ, ⊤, ◌≡◌, ◌⊎◌}
+use Rattle.std.specs.Prelude.{Bool, IsSome, List, None, Option, Some, [], false, ℕ, ⊤, ◌≡◌, ◌⊎◌}
 
 -- THE STAGES. With the event at hand, which the half in memory has done, it stands for the state before that.
 
@@ -91,7 +91,7 @@ books_in books (Down x) = Some x
 books_in books Lost = None
 
 abbrev pub serving_books : Stage Scheduler → Option Books
-serving_books stage = books_in (λ (x : Scheduler). x.books) stage
+serving_books stage = books_in scheduling.books_of stage
 
 -- They have the units and know what is kept; an opening counts units and programs anew. To the programs of a `go all` it goes no more,
 -- or as it went.
@@ -126,14 +126,14 @@ pub record CanReopenAt (holds : Kept → Type 0) (leaves : Kept → Kept → Typ
 
 -- what follows the event at hand
 abbrev pub follow_in : Stage Scheduler → Follow
-follow_in (Going x) = x.follow
+follow_in (Going x) = scheduling.follow_of x
 follow_in stage = Nothing
 
 -- the waiting units, and the programs to which `go all` has still to turn
 abbrev pub waits_in : Stage Scheduler → List Id
-waits_in (Going x) = map (λ w. w.unit) x.watch.waits.items
+waits_in (Going x) = scheduling.waiting_of x
 waits_in stage = []
 
 abbrev pub goes_in : Stage Scheduler → List Id
-goes_in (Going x) = x.books.to_go.items
+goes_in (Going x) = scheduling.turns_of x
 goes_in stage = []

@@ -1,5 +1,6 @@
 //! The engine: it serves lines, over a storage.
 
+ghost use Rattle.salt_books.specs.Books.{tables_in};
 ghost use Rattle.salt_books.specs.declared.books.Books.{Books};
 ghost use Rattle.salt_engine.specs.Flights.{flight_of};
 ghost use Rattle.salt_engine.specs.Standing.{IsReadyOver, ServesFrom, serving_books};
@@ -78,7 +79,7 @@ impl<S: Drop> Engine<S> {
 
     /// The tables that are defined, unless memory ran out.
     pub fn schema(&self) -> &Schema
-        ensures { (x : Books) → serving_books self.now.stage ≡ Some x → result.now ≡ x.known.schema }
+        ensures { (x : Books) → serving_books self.now.stage ≡ Some x → result.now ≡ tables_in x }
     {
         match &self.stage {
             Stage::Going(scheduler) => scheduler.books().known().schema(),

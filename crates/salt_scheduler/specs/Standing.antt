@@ -1,7 +1,7 @@
 -- What a scheduler stands for: a state; and with an event at hand, which it has done, the state before that.
 use Rattle.salt_ast.specs.declared.lines.Line.TheVariants.{GoAll}
 use Rattle.salt_ast.specs.declared.lines.Line.{Line}
-use Rattle.salt_books.specs.Books.{AreBooks}
+use Rattle.salt_books.specs.Books.{AreBooks, turns_in}
 use Rattle.salt_books.specs.Called.{name_told}
 use Rattle.salt_books.specs.Coming.{CanCome, event_meant}
 use Rattle.law_states.specs.Circles.{NoneOnCircle}
@@ -19,16 +19,33 @@ use Rattle.salt_model.specs.declared.events.Event.{Event}
 use Rattle.salt_scheduler.specs.Follows.{FollowsOn, event_of}
 use Rattle.salt_scheduler.specs.Serving.{is_served}
 use Rattle.salt_books.specs.Sound.{IsSoundState}
+use Rattle.salt_books.specs.declared.books.Books.{Books}
 use Rattle.salt_books.specs.declared.coming.Coming.TheVariants as coming
 use Rattle.salt_books.specs.declared.coming.Coming.{Coming}
 use Rattle.salt_scheduler.specs.declared.follow.Follow.TheVariants.{Accept, Release}
 use Rattle.salt_scheduler.specs.declared.follow.Follow.{Follow}
 use Rattle.salt_scheduler.specs.declared.scheduler.Scheduler.{Scheduler}
 use Rattle.salt_values.specs.declared.id.Id.{Id}
-use Rattle.salt_conflicts.specs.Watched.{IsFinishing, IsWatch}
+use Rattle.salt_conflicts.specs.Watched.{IsFinishing, IsWatch, waiters_of}
 use Rattle.salt_conflicts.specs.declared.watching.Watching.{Watching}
 use Rattle.std.specs.Option.{option_or}
-use Rattle.std.specs.Prelude.{IsTrue, List, None, Option, Some, [], true, ◌++◌, ◌∷◌, ◌≡◌, ◌⊎◌}
+use Rattle.std.specs.Prelude.{IsTrue, List, None, Option, Some, [], map, true, ◌++◌, ◌∷◌, ◌≡◌, ◌⊎◌}
+
+-- WHAT IT HAS: the books, and what follows the event at hand; units that wait, and programs to which `go all` has still to turn
+
+abbrev pub books_of : Scheduler → Books
+books_of x = x.books
+
+abbrev pub follow_of : Scheduler → Follow
+follow_of x = x.follow
+
+abbrev pub waiting_of : Scheduler → List Id
+waiting_of x = map (λ w. w.unit) (waiters_of x.watch)
+
+abbrev pub turns_of : Scheduler → List Id
+turns_of x = turns_in (books_of x)
+
+-- WHAT IT STANDS FOR
 
 -- a program of which the event at hand was the first commit
 abbrev pub accepting : Follow → List Id
@@ -45,9 +62,9 @@ IsTurning s = (s.to_go ≡ []) ⊎ (s.line ≡ GoAll)
 
 -- the watch, seen in this way, with all else; where it is calm no units wait for each other in a circle
 pub record StandsWith (watched : Watching → Watch → Type 0) (x : Scheduler) (s : State) : Type 0 where
-  pub books : AreBooks x.books s.units
+  pub books : AreBooks (books_of x) s.units
   pub watch : watched x.watch s.watch
-  pub called : (b : Id) → In b (bases_called x.follow s) → name_told x.called b ≡ Some (s.names b)
+  pub called : (b : Id) → In b (bases_called (follow_of x) s) → name_told x.called b ≡ Some (s.names b)
   pub turns : IsTurning s.units
   pub calm : IsTrue x.calm → NoneOnCircle s.watch
 
@@ -60,14 +77,14 @@ watched_by (Release b) x w = IsFinishing b x w
 watched_by f x w = IsWatch x w
 
 abbrev pub StandsBehindEvent : Scheduler → State → Type 0
-StandsBehindEvent x s = StandsWith (watched_by x.follow) x s
+StandsBehindEvent x s = StandsWith (watched_by (follow_of x)) x s
 
 -- it has done an event
 pub record HasDoneEvent (x : Scheduler) (e : Event) (s t : State) : Type 0 where
   pub served : is_served e ≡ true
   pub after : After e s t
   pub behind : StandsBehindEvent x t
-  pub follows : FollowsOn x.follow e s.units t.units
+  pub follows : FollowsOn (follow_of x) e s.units t.units
 
 abbrev pub StandsAtEvent : Scheduler → Option Event → State → Type 0
 StandsAtEvent x None s = StandsForState x s

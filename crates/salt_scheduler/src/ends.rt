@@ -32,7 +32,7 @@ use salt_values::Id;
 use std::alloc::AllocError;
 
 impl Scheduler {
-    ghost use Rattle.salt_scheduler.specs.Standing.{AnswersWithComing, ChoosesNext, DoesNext, AnswersWith, IsServing, IsServingBehind, ServesLine, StandsForState, StandsBehindEvent, behind_in};
+    ghost use Rattle.salt_scheduler.specs.Standing.{AnswersWith, AnswersWithComing, ChoosesNext, DoesNext, IsServing, IsServingBehind, ServesLine, StandsBehindEvent, StandsForState, behind_in, books_of, follow_of};
 
     /// A unit is to commit, if it is open.
     pub(crate) fn commit(&self, line: &Line, unit: Id) -> Coming
@@ -46,7 +46,7 @@ impl Scheduler {
 
     /// A unit that is to commit has been decided, with this move of its program: it commits.
     pub fn committed(&mut self, unit: Id, made: Move) -> Result<Event, AllocError>
-        requires { HaveUnit self.old.books unit }
+        requires { HaveUnit (books_of self.old) unit }
         ensures { IfOk result (λ e. (s : State) (o : OpenUnit) → StandsForState self.old s → IsSoundState s → unit_named unit s.units.units ≡ Some o
             → MovesTo made s.units.kept (conts_committed s.units.kept (next_decision s.units) o.kind o.vars)
             → AnswersWith s (Some (commits_in s.units o)) self.new (Some e)) }
@@ -94,7 +94,7 @@ impl Scheduler {
         cause: Cause,
         made: Move,
     ) -> Result<Event, AllocError>
-        requires { HaveUnit self.old.books unit }
+        requires { HaveUnit (books_of self.old) unit }
         ensures { IfOk result (λ e. (s : State) (o : OpenUnit) (part : ℕ) → StandsForState self.old s → IsSoundState s → unit_named unit s.units.units ≡ Some o
             → o.kind ≡ Later base part → MovesTo made s.units.kept (conts_branched s.units.kept o.kind)
             → AnswersWith s (Some (Event.Ended unit (End.Branched (next_decision s.units) cause))) self.new (Some e)) }
@@ -154,7 +154,7 @@ impl Scheduler {
 
     /// A program is accepted.
     fn accept(&mut self, line: &Line, base: Id) -> Result<Event, AllocError>
-        requires { self.old.follow ≡ Accept base }
+        requires { follow_of self.old ≡ Accept base }
         ensures { IfOk result (λ e. DoesNext (λ s r. Some (Event.Accepted base)) line.now self.old self.new e) }
     {
         self.watch.accept(base)?;
@@ -175,7 +175,7 @@ impl Scheduler {
 
     /// The programs are released that are due now that this one has finished.
     fn release(&mut self, line: &Line, base: Id) -> Result<Coming, AllocError>
-        requires { self.old.follow ≡ Release base }
+        requires { follow_of self.old ≡ Release base }
         ensures { IfOk result (λ coming. (s : State) (r : WatchReading s.watch) → StandsBehindEvent self.old s → ServesLine line.now s
             → AnswersWithComing s (releases (beside_by s r).due) self.new coming) }
     {
@@ -207,7 +207,7 @@ impl Scheduler {
     fn follow_up(&mut self, line: &Line) -> Result<Coming, AllocError>
         requires { IsServingBehind line.now self.old }
         ensures { IfOk result (λ coming. (s : State) (r : WatchReading s.watch) → StandsBehindEvent self.old s → ServesLine line.now s
-            → AnswersWithComing s (event_of self.old.follow s.units (beside_by s r)) self.new coming) }
+            → AnswersWithComing s (event_of (follow_of self.old) s.units (beside_by s r)) self.new coming) }
     {
         match self.follow {
             Follow::Nothing => Ok(Coming::Nothing),
@@ -223,7 +223,7 @@ impl Scheduler {
     pub fn go_on(&mut self, line: &Line) -> Result<Coming, AllocError>
         requires { IsServingBehind line.now self.old }
         ensures { IfOk result (λ coming. (s : State) (r : WatchReading s.watch) → StandsBehindEvent self.old s → ServesLine line.now s
-            → AnswersWithComing s (behind_in s r self.old.follow) self.new coming) }
+            → AnswersWithComing s (behind_in s r (follow_of self.old)) self.new coming) }
     {
         let following = self.follow_up(line)?;
         match &following {

@@ -43,7 +43,7 @@ impl Drop for Scheduler {
 }
 
 impl Scheduler {
-    ghost use Rattle.salt_scheduler.specs.Standing.{IsTurning, StandsForState};
+    ghost use Rattle.salt_scheduler.specs.Standing.{IsTurning, StandsForState, books_of};
 
     /// A scheduler over these books, which have no unit: nothing is watched, and no program has been called.
     pub fn new(alloc: Global, books: Books) -> Scheduler
@@ -61,14 +61,14 @@ impl Scheduler {
 
     /// The books.
     pub fn books(&self) -> &Books
-        ensures { result.now ≡ self.now.books }
+        ensures { result.now ≡ books_of self.now }
     {
         &self.books
     }
 
     /// The books, without locks, waits and names.
     pub fn into_books(self) -> Books
-        ensures { result ≡ self.books }
+        ensures { result ≡ books_of self }
     {
         let Scheduler {
             alloc: _alloc,
@@ -83,7 +83,7 @@ impl Scheduler {
 
     /// The tables defined.
     pub fn schema(&self) -> &Schema
-        ensures { (s : UnitState) → AreBooks self.now.books s → result.now ≡ schema_of s.kept }
+        ensures { (s : UnitState) → AreBooks (books_of self.now) s → result.now ≡ schema_of s.kept }
     {
         self.books.known().schema()
     }

@@ -2,7 +2,7 @@
 
 ghost use Rattle.std.specs.Prelude.{◌≡◌, IfOk, Option, Some, option_and_then, true};
 ghost use Rattle.salt_ast.specs.declared.lines.Line.{Line};
-ghost use Rattle.salt_books.specs.Books.{AreLoaded, HaveUnit};
+ghost use Rattle.salt_books.specs.Books.{AreLoaded, HaveUnit, tables_in};
 ghost use Rattle.salt_eval.specs.Scans.{IsKeyed};
 ghost use Rattle.salt_eval.specs.Views.{tables_of};
 ghost use Rattle.salt_books.specs.Asking.{IsAskedBy};
@@ -28,7 +28,7 @@ use salt_values::Id;
 use std::alloc::AllocError;
 
 impl Scheduler {
-    ghost use Rattle.salt_scheduler.specs.Standing.{ChoosesNext, DoesNext, AnswersWith, IsServing, ServesLine, StandsForState};
+    ghost use Rattle.salt_scheduler.specs.Standing.{AnswersWith, ChoosesNext, DoesNext, IsServing, ServesLine, StandsForState, books_of};
 
     /// A unit begins.
     pub(crate) fn begin(&mut self, line: &Line, kind: UnitKind) -> Result<Event, AllocError>
@@ -48,8 +48,8 @@ impl Scheduler {
 
     /// A unit does the statement that it asks for, over the rows that this reaches.
     pub fn done(&mut self, asking: Asking, rows: &Tables) -> Result<Event, AllocError>
-        requires there { HaveUnit self.old.books asking.unit }
-        requires leaves_keys { leaves_keys self.old.books.known.schema asking.statement ≡ true }
+        requires there { HaveUnit (books_of self.old) asking.unit }
+        requires leaves_keys { leaves_keys (tables_in (books_of self.old)) asking.statement ≡ true }
         requires keyed { IsKeyed (tables_of rows.now.entries) }
         ensures { IfOk result (λ e. (s : State) (o : OpenUnit) → StandsForState self.old s → IsSoundState s → IsAskedBy asking s.units o
             → AreLoaded asking.reach (tables_of rows.now.entries) s.units.kept.tables → AnswersWith s (Some (does_in s.units o asking.statement)) self.new (Some e)) }
@@ -77,7 +77,7 @@ impl Scheduler {
 
     /// A unit waits for these owners.
     fn wait(&mut self, line: &Line, asking: Asking, owners: Owners) -> Result<Event, AllocError>
-        requires { HaveUnit self.old.books asking.unit }
+        requires { HaveUnit (books_of self.old) asking.unit }
         ensures { IfOk result (λ e. (s : State) (o : OpenUnit) → StandsForState self.old s → ServesLine line.now s → IsAskedBy asking s.units o
             → AnswersWith s (Some (Event.Waits asking.unit owners)) self.new (Some e)) }
     {
