@@ -1,13 +1,12 @@
 -- The log that counts, with one entry more.
 use Rattle.salt_bytes.proofs.Logs.{reads_entry}
-use Rattle.salt_bytes.specs.Conts.{move_in}
-use Rattle.salt_bytes.specs.Coordinator.{CoordinatorEntry, Decision, entry_in, spell_entry}
+use Rattle.salt_bytes.specs.Coordinator.{CoordinatorEntry, entry_in, spell_entry}
 use Rattle.salt_bytes.specs.Generations.{LogA, LogB, WhichLog}
 use Rattle.salt_bytes.specs.Log.{entries_in}
 use Rattle.salt_bytes.specs.Spellable.{IsSpellableEntry}
 use Rattle.salt_decisions.proofs.Contents.{log_bytes}
-use Rattle.salt_decisions.proofs.Moving.{before, moved_push, moved_rises}
-use Rattle.salt_decisions.specs.Decisions.{AreOpen, IsBeforeOrWith, IsCounting, decided, log_with}
+use Rattle.salt_decisions.proofs.Moving.{before}
+use Rattle.salt_decisions.specs.Decisions.{IsBeforeOrWith, IsCounting, log_with}
 use Rattle.salt_disk.specs.Disks.{EachImage, KeepsOthers, View}
 use Rattle.salt_disk.specs.declared.disks.DiskErr.{DiskErr}
 use Rattle.salt_gatelog.specs.Log as gates
@@ -17,13 +16,11 @@ use Rattle.salt_stands.proofs.CoordinatorLogs.{coordinator_push}
 use Rattle.salt_stands.proofs.Pairs.{pair_push}
 use Rattle.salt_stands.specs.Coordinator.{device_of}
 use Rattle.salt_stands.specs.CoordinatorLog.{CoordinatorLog, Told, coordinator_generation, coordinator_in, tell}
-use Rattle.salt_stands.specs.OpenConts.{do_rise, make_move, moved}
 use Rattle.salt_stands.specs.Pieces.{HasOneMore, IsSameAt, other_log}
 use Rattle.salt_stands.specs.Stands.{logs_of}
-use Rattle.salt_values.specs.declared.cont.Cont.{Cont}
-use Rattle.std.proofs.Common.{Err, IsTrue, List, None, Ok, OnOk, Result, Some, [], ap, arith, inl, inr, refl, subst, sym, true, ℕ, ◌+◌, ◌++◌, ◌≡◌, ◌≢◌, ◌∙◌, ◌∷◌}
+use Rattle.std.proofs.Common.{Err, IsTrue, List, None, Ok, OnOk, Result, Some, [], ap, arith, inl, inr, refl, subst, sym, ℕ, ◌+◌, ◌++◌, ◌≡◌, ◌≢◌, ◌∙◌, ◌∷◌}
 use Rattle.std.proofs.lemmas.Bool.Decides.{Decides-eqb}
-use Rattle.std.specs.Prelude.{◌==◌, option_and_then}
+use Rattle.std.specs.Prelude.{◌==◌}
 use Rattle.std.specs.Result.{result_err}
 use Rattle.std.specs.Bool.{then_some}
 
@@ -78,14 +75,3 @@ read_so parts entry a b same is good = ap (entry_in parts) (same ∙ is) ∙ rea
 -- and follows on
 pub next_told : {A : Type 0} (n m : ℕ) (x : A) → n ≡ m → then_some (n + 1 == m + 1) x ≡ Some x
 next_told n m x e = ap (λ b. then_some b x) ((Decides-eqb (n + 1) (m + 1)).1 (omega (arith, e)))
-
--- what a decision leaves open
-pub open_next : (conts more : List Cont) (log : CoordinatorLog) (d : Decision) (format : ℕ) → format ≡ log.header.format → AreOpen conts log
-    → (do_rise conts ≡ true → (cs : List Cont) → option_and_then (make_move conts) (move_in format d.move) ≡ Some cs → more ≡ cs) → AreOpen more (decided log d)
-open_next conts more log d format is h step rise es e =
-    let f = log.header.format in
-    let so_far = moved f (Some log.header.conts) log.told.decided in
-    let b = before so_far (λ cs. option_and_then (make_move cs) (move_in f d.move)) es (sym (moved_push f (Some log.header.conts) log.told.decided d) ∙ e) in
-    let same : conts ≡ b.conts = h rise b.conts b.was in
-    step (ap do_rise same ∙ moved_rises f log.told.decided log.header.conts b.conts rise b.was) es
-    (ap (λ k. option_and_then (make_move conts) (move_in k d.move)) is ∙ ap (λ cs. option_and_then (make_move cs) (move_in f d.move)) same ∙ b.goes)

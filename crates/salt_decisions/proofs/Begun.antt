@@ -6,12 +6,9 @@ use Rattle.salt_bytes.specs.Generations.{BothBlank, Content, Counts, LogA, LogB,
 use Rattle.salt_bytes.specs.Log.{entries_in}
 use Rattle.salt_bytes.specs.Spellable.{IsSpellableHeader}
 use Rattle.salt_decisions.proofs.Contents.{log_bytes}
-use Rattle.salt_decisions.proofs.Moving.{moved_by_moves}
-use Rattle.salt_decisions.specs.Decisions.{AreOpen, HoldsLog, IsCounting, IsDecisions}
-use Rattle.salt_decisions.specs.Moves.{moved_by}
+use Rattle.salt_decisions.specs.Decisions.{HoldsLog, IsCounting, IsDecisions}
 use Rattle.salt_decisions.specs.Opened.{FullAtFirst, IsBlankImage, IsFirstImage, begun, first_payload}
 use Rattle.salt_decisions.specs.Pair.{IsCounted}
-use Rattle.salt_decisions.specs.Read.{IsOf}
 use Rattle.salt_decisions.specs.Which.{which_in}
 use Rattle.salt_decisions.specs.declared.decisions.Decisions.{Decisions}
 use Rattle.salt_decisions.specs.declared.read.ReadLog.{ReadLog}
@@ -25,14 +22,12 @@ use Rattle.salt_gatelog.specs.declared.log.GateLog.{GateLog}
 use Rattle.salt_stands.proofs.FirstOpening.{is_created}
 use Rattle.salt_stands.proofs.Pairs.{pair_same}
 use Rattle.salt_stands.specs.Coordinator.{Logs, coordinator_pair, device_of}
-use Rattle.salt_stands.specs.CoordinatorLog.{CoordinatorLog, coordinator_generation, coordinator_in, heard, told_by_header, with_told}
+use Rattle.salt_stands.specs.CoordinatorLog.{coordinator_generation, coordinator_in, heard, told_by_header, with_told}
 use Rattle.salt_stands.specs.FirstOpening.{IsCreated, first_header}
 use Rattle.salt_stands.specs.LogDevices.{IsCoordinatorLog}
-use Rattle.salt_stands.specs.OpenConts.{do_rise}
 use Rattle.salt_stands.specs.Pieces.{other_log}
 use Rattle.salt_stands.specs.Stands.{is_same_kind, is_same_shape, logs_of}
 use Rattle.salt_place.specs.Placement.{IsParts}
-use Rattle.salt_values.specs.declared.cont.Cont.{Cont}
 use Rattle.salt_place.specs.declared.placement.PlaceKind.TheVariants.{Bands, Remainder}
 use Rattle.salt_place.specs.declared.placement.PlaceKind.{PlaceKind}
 use Rattle.salt_place.specs.declared.placement.Shape.{Shape}
@@ -197,21 +192,7 @@ blank_with_a d e log keeps device is told blank =
 pub blank_stays : (d e : View) → e.bytes 0 ≡ d.bytes 0 → e.bytes 1 ≡ d.bytes 1 → coordinator_pair (logs_of d.bytes) ≡ BothBlank → coordinator_pair (logs_of e.bytes) ≡ BothBlank
 blank_stays d e first second blank = pair_same coordinator_generation coordinator_in 0 (logs_of d.bytes) (logs_of e.bytes) (ap entries_in first) (ap entries_in second) ∙ blank
 
-pub nothing_open : (conts : List Cont) (asked : Shape) → conts ≡ [] → AreOpen conts (begun asked)
-nothing_open conts asked none rise cs e = none ∙ is
-  where
-    is : [] ≡ cs
-    is = cc
-
 -- A LOG THAT IS OPENED
-
-pub open_so : (r : ReadLog) (l : CoordinatorLog) → IsOf r l → (going cs : List Cont) (ms : List (List ℕ)) → cs ≡ r.conts → ms ≡ r.said.moves
-    → (do_rise cs ≡ true → (es : List Cont) → moved_by r.format (Some cs) ms ≡ Some es → going ≡ es) → AreOpen going l
-open_so r l h going cs ms x y step rise es e =
-    let f = l.header.format in
-    let hc = l.header.conts in
-    step (ap do_rise (x ∙ h.conts) ∙ rise) es
-    (ap (λ k. moved_by k (Some cs) ms) h.format ∙ ap (λ k. moved_by f (Some k) ms) (x ∙ h.conts) ∙ ap (moved_by f (Some hc)) (y ∙ h.says.moves) ∙ sym (moved_by_moves f (Some hc) l.told.decided) ∙ e)
 
 other_settled : (e : View) (which : WhichLog) → IsSettled e 0 → IsSettled e 1 → IsSettled e (device_of 0 (other_log which))
 other_settled e LogA a b = b

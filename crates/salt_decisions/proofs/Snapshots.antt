@@ -6,7 +6,7 @@ use Rattle.salt_bytes.specs.Log.{entries_in}
 use Rattle.salt_bytes.specs.Spellable.{IsSpellableHeader}
 use Rattle.salt_decisions.proofs.Appended.{other_dev}
 use Rattle.salt_decisions.proofs.Contents.{log_bytes}
-use Rattle.salt_decisions.specs.Decisions.{AreOpen, HasSameEntries, IsCounting, IsDecisions, IsSnapshotImage, next_header, snapshotted}
+use Rattle.salt_decisions.specs.Decisions.{HasSameEntries, IsCounting, IsDecisions, IsSnapshotImage, next_header, snapshotted}
 use Rattle.salt_decisions.specs.HeaderPayload.{header_with}
 use Rattle.salt_decisions.specs.declared.decisions.Decisions.{Decisions}
 use Rattle.salt_disk.specs.Disks.{EachImage, FullExactly, FullOnly, IsSettled, IsUnchanged, KeepsOthers, Shrinks, View}
@@ -80,8 +80,8 @@ module _ (d0 : View) (x : Decisions) (which : WhichLog) (log : CoordinatorLog) (
   settled : IsSettled d0 (device_of 0 which)
   settled = subst (λ dev. IsSettled d0 dev) h.counting.device h.counting.is_log.settled
 
-  same_header : (conts : List Cont) → conts ≡ x.conts → header_with (next_generation x.generation) x.shape x.boot x.decisions x.definitions conts ≡ next_header log conts
-  same_header conts going = λ i. record {
+  same_header : (conts : List Cont) → header_with (next_generation x.generation) x.shape x.boot x.decisions x.definitions conts ≡ next_header log conts
+  same_header conts = λ i. record {
     format = 3;
     generation = next_generation (h.holds.generation i);
     shape = h.holds.shape i;
@@ -95,13 +95,13 @@ module _ (d0 : View) (x : Decisions) (which : WhichLog) (log : CoordinatorLog) (
   pub counting_images : (e : View) → Shrinks d0 e (device_of 0 which) → EachImage e (device_of 0 which) (HasSameEntries (d0.bytes (device_of 0 which)))
   counting_images e shrinks told c left = ap entries_in (settled c (shrinks c left))
 
-  module _ (d1 d2 : View) (gate gate' : GateLog) (payload : List ℕ) (conts : List Cont) (going : conts ≡ x.conts)
+  module _ (d1 d2 : View) (gate gate' : GateLog) (payload : List ℕ) (conts : List Cont)
       (is : payload ≡ spell_header (header_with (next_generation x.generation) x.shape x.boot x.decisions x.definitions conts))
       (good : IsSpellableHeader (header_with (next_generation x.generation) x.shape x.boot x.decisions x.definitions conts))
       (device : gates.device_of gate ≡ device_of 0 (other_log which)) (first : KeepsOthers (device_of 0 (other_log which)) d0 d1 None) (second : KeepsOthers (device_of 0 (other_log which)) d1 d2 None)
       (same : gates.device_of gate' ≡ gates.device_of gate) (is_log : IsLog d2 gate' (payload ∷ [])) where
     reads : header_in payload ≡ Some (next_header log conts)
-    reads = ap header_in is ∙ reads_header (header_with (next_generation x.generation) x.shape x.boot x.decisions x.definitions conts) good ∙ ap (λ (k : CoordinatorHeader). Some k) (same_header conts going)
+    reads = ap header_in is ∙ reads_header (header_with (next_generation x.generation) x.shape x.boot x.decisions x.definitions conts) good ∙ ap (λ (k : CoordinatorHeader). Some k) (same_header conts)
 
     pub snapshot_counts : IsCounting d2 gate' (other_log which) (snapshotted log conts)
     snapshot_counts = record {
@@ -116,13 +116,6 @@ module _ (d0 : View) (x : Decisions) (which : WhichLog) (log : CoordinatorLog) (
           (ap (λ dev. entries_in (d2.bytes dev)) (sym device ∙ sym same) ∙ log_bytes d2 gate' (payload ∷ []) told is_log)
           (ap entries_in ((second.kept (device_of 0 which) apart).bytes ∙ (first.kept (device_of 0 which) apart).bytes));
     }
-
--- where these are open, no move stands behind the header
-pub snapshot_open : (conts : List Cont) (log : CoordinatorLog) (now : List Cont) → now ≡ conts → AreOpen now (snapshotted log conts)
-snapshot_open conts log now same rise cs e = same ∙ is
-  where
-    is : conts ≡ cs
-    is = cc
 
 -- WHAT IT LEAVES of the other log's device
 

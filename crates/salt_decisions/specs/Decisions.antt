@@ -41,14 +41,11 @@ last_decision x = x.decisions
 abbrev pub definitions_in : Decisions → List Definition
 definitions_in x = x.definitions
 
-abbrev pub open_conts : Decisions → List Cont
-open_conts x = x.conts
-
 -- these continuations are open, where the header's are in order and each move goes on from those before it
 abbrev pub AreOpen : List Cont → CoordinatorLog → Type 0
 AreOpen conts log = do_rise log.header.conts ≡ true → (cs : List Cont) → moved log.header.format (Some log.header.conts) log.told.decided ≡ Some cs → conts ≡ cs
 
--- what it says is what the log says
+-- what it says is what the log says; the continuations that are open its caller keeps
 pub record HoldsLog (x : Decisions) (log : CoordinatorLog) : Type 0 where
   pub format : x.format ≡ log.header.format
   pub generation : x.generation ≡ log.header.generation
@@ -56,7 +53,6 @@ pub record HoldsLog (x : Decisions) (log : CoordinatorLog) : Type 0 where
   pub boot : last_boot x ≡ log.told.boot
   pub decisions : last_decision x ≡ log.told.decisions
   pub definitions : map numbered_of (definitions_in x) ≡ log.told.definitions
-  pub conts : AreOpen (open_conts x) log
   pub parts : is_number_of_parts x.shape.parts ≡ true
 
 -- The log counts of the coordinator's pair, and nothing is pending on either device. What it says is that of the device's
@@ -127,8 +123,8 @@ next_header log conts = record {
 abbrev pub snapshotted : CoordinatorLog → List Cont → CoordinatorLog
 snapshotted log conts = record { header = next_header log conts; told = told_by_header (next_header log conts) }
 
-abbrev pub snapshot_payload : Decisions → List ℕ
-snapshot_payload x = spell_header (header_with (next_generation x.generation) x.shape x.boot x.decisions x.definitions x.conts)
+abbrev pub snapshot_payload : Decisions → List Cont → List ℕ
+snapshot_payload x conts = spell_header (header_with (next_generation x.generation) x.shape x.boot x.decisions x.definitions conts)
 
 -- what it may leave of the other log's device: the bytes from before, nothing, or the header alone
 abbrev pub IsSnapshotImage : List ℕ → List ℕ → List ℕ → Type 0

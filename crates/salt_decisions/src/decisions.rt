@@ -2,7 +2,7 @@
 
 ghost use Rattle.salt_bytes.specs.Coordinator.{Boots, CoordinatorEntry, Decides, Defines, entry_in, spell_entry};
 ghost use Rattle.salt_bytes.specs.Generations.{WhichLog};
-ghost use Rattle.salt_decisions.specs.Decisions.{HasSameEntries, IsBeforeOrWith, IsCounting, IsDecisions, IsSnapshotImage, booted, count_in, decided, defined, definitions_in, device_in, format_of, gate_in, last_boot, last_decision, log_with, next_decision, next_definition, open_conts, shape_of, snapshot_payload, snapshotted};
+ghost use Rattle.salt_decisions.specs.Decisions.{AreOpen, HasSameEntries, IsBeforeOrWith, IsCounting, IsDecisions, IsSnapshotImage, booted, count_in, decided, defined, definitions_in, device_in, format_of, gate_in, last_boot, last_decision, log_with, next_decision, next_definition, shape_of, snapshot_payload, snapshotted};
 ghost use Rattle.salt_disk.specs.Disks.{EachImage, FullExactly, FullOnly, HasCause, IsUnchanged, KeepsOthers};
 ghost use Rattle.salt_disk.specs.declared.disks.DiskErr.TheVariants.{Full};
 ghost use Rattle.salt_gatelog.specs.Log as gates;
@@ -15,13 +15,12 @@ ghost use Rattle.std.specs.Result.{result_err};
 
 use crate::header::{Definition, Definitions};
 use crate::header_payload::{FORMAT, header_payload};
-use crate::moves::make_move;
 use crate::payload::{boot_frame, decision_frame, definition_frame};
 use crate::which::Which;
 use salt_disk::{DiskErr, Disks};
 use salt_gatelog::{GateLog, create, next_generation};
 use salt_place::Shape;
-use salt_values::{Cont, Conts, Id};
+use salt_values::{Cont, Id};
 use sqlite_items::Items;
 use std::alloc::Global;
 
@@ -37,8 +36,6 @@ pub struct Decisions {
     pub(crate) boot: u64,
     pub(crate) decisions: u64,
     pub(crate) definitions: Definitions,
-    // the open continuations
-    pub(crate) conts: Conts,
 }
 
 /// Appends the entry that a frame holds to the log that counts. After Ok the log says what the entry tells. Whatever it answers,
@@ -99,13 +96,6 @@ impl Decisions {
         ensures { result ≡ count_in self.now }
     {
         self.gate.count()
-    }
-
-    /// The continuations that are open, in order of acceptance.
-    pub fn conts(&self) -> &[Cont]
-        ensures { result.now ≡ open_conts self.now }
-    {
-        self.conts.as_slice()
     }
 
     /// Appends the next boot's entry, and gives its number. Each image of the log's device has the entry more, or not.
@@ -191,7 +181,6 @@ impl Decisions {
         ensures untouched { (n : ℕ) → result ≡ Err (Full n) → IsUnchanged (D.view disks.old) (D.view disks.new) (device_in self.old) }
     {
         let number = self.decisions + 1;
-        make_move(alloc, self.format, &mut self.conts, mv)?;
         let frame = decision_frame(alloc, number, unit, parts, mv)?;
         append_entry(disks, &mut self.gate, frame)?;
         self.decisions = number;
@@ -199,29 +188,28 @@ impl Decisions {
     }
 
     /// Begins the pair's other log with the next generation's header: the boot, the number of the last decision, the
-    /// definitions, and the open continuations, which `conts` are. The header's format is 3. From then on that log counts.
-    /// Until the header stands there its device has what it had, or is blank.
+    /// definitions, and the continuations that the log leaves open, which its caller keeps and lends. The header's format is 3.
+    /// From then on that log counts. Until the header stands there its device has what it had, or is blank.
     pub fn snapshot<D: Disks>(
         &mut self,
         alloc: Global,
         disks: &mut D,
         conts: &[Cont],
     ) -> Result<(), DiskErr>
-        requires log { (which : WhichLog) × ((log : CoordinatorLog) × IsDecisions (D.view disks.old) self.old which log) }
-        requires going { conts.now ≡ open_conts self.old }
+        requires log { (which : WhichLog) × ((log : CoordinatorLog) × IsDecisions (D.view disks.old) self.old which log × AreOpen conts.now log) }
 
         ensures ok { (which : WhichLog) (log : CoordinatorLog) → IsDecisions (D.view disks.old) self.old which log
             → OnOk result (IsDecisions (D.view disks.new) self.new (other_log which) (snapshotted log conts.now)) }
         ensures counting { (which : WhichLog) (log : CoordinatorLog) → IsDecisions (D.view disks.old) self.old which log
             → EachImage (D.view disks.new) (device_of 0 which) (HasSameEntries ((D.view disks.old).bytes (device_of 0 which))) }
         ensures images { (which : WhichLog) (log : CoordinatorLog) → IsDecisions (D.view disks.old) self.old which log
-            → EachImage (D.view disks.new) (device_of 0 (other_log which)) (IsSnapshotImage ((D.view disks.old).bytes (device_of 0 (other_log which))) (snapshot_payload self.old)) }
+            → EachImage (D.view disks.new) (device_of 0 (other_log which)) (IsSnapshotImage ((D.view disks.old).bytes (device_of 0 (other_log which))) (snapshot_payload self.old conts.now)) }
 
         ensures others { (which : WhichLog) (log : CoordinatorLog) → IsDecisions (D.view disks.old) self.old which log
             → KeepsOthers (device_of 0 (other_log which)) (D.view disks.old) (D.view disks.new) (result_err result) }
         ensures cause { HasCause (D.view disks.old) (D.view disks.new) (result_err result) }
         ensures full { (which : WhichLog) (log : CoordinatorLog) → IsDecisions (D.view disks.old) self.old which log
-            → FullOnly (device_of 0 (other_log which)) ((D.view disks.old).limit (device_of 0 (other_log which))) (10 + length (snapshot_payload self.old)) (result_err result) }
+            → FullOnly (device_of 0 (other_log which)) ((D.view disks.old).limit (device_of 0 (other_log which))) (10 + length (snapshot_payload self.old conts.now)) (result_err result) }
     {
         let generation = next_generation(self.generation);
         let definitions = self.definitions.as_slice();

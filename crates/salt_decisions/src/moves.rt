@@ -1,18 +1,15 @@
-//! What decided moves make of the open continuations.
+//! What a move makes of the open continuations.
 
-ghost use Rattle.salt_bytes.specs.Conts.{move_in};
 ghost use Rattle.salt_bytes.specs.declared.moves.Move.TheVariants.{Continue, Finish};
-ghost use Rattle.salt_decisions.specs.Moves.{moved_by};
 ghost use Rattle.salt_stands.specs.OpenConts.{do_rise, make_move};
 ghost use Rattle.salt_values.specs.Id.{is_same_id};
 ghost use Rattle.salt_values.specs.declared.cont.Cont.{Cont};
 ghost use Rattle.std.specs.List.{position};
-ghost use Rattle.std.specs.Prelude.{IfOk, List, OnOk, Some, true, ◌≡◌, option_and_then};
+ghost use Rattle.std.specs.Prelude.{List, OnOk, Some, true, ◌≡◌};
 
 use salt_bytes::Move;
-use salt_codec::take_move;
-use salt_values::{Bytes, Cont, Conts, Id, copies, is_same_id};
-use std::alloc::{AllocError, Global};
+use salt_values::{Cont, Conts, Id, is_same_id};
+use std::alloc::AllocError;
 
 /// Where the continuation of a program stands.
 fn place_of(conts: &[Cont], base: Id) -> Option<usize>
@@ -58,31 +55,4 @@ pub fn apply_move(conts: &mut Conts, made: Move) -> Result<(), AllocError>
             Ok(())
         }
     }
-}
-
-/// Makes the move that these bytes are, under the format of the header that it stands behind. Bytes that are no move change
-/// nothing. After an error the continuations are as before.
-pub fn make_move(alloc: Global, format: u8, conts: &mut Conts, mv: &[u8]) -> Result<(), AllocError>
-    ensures { do_rise conts.old ≡ true → (cs : List Cont) → option_and_then (make_move conts.old) (move_in format mv.now) ≡ Some cs → OnOk result (conts.new ≡ cs) }
-{
-    match take_move(alloc, format, mv)? {
-        Some(made) => apply_move(conts, made),
-        None => Ok(()),
-    }
-}
-
-/// The continuations that a header and the moves behind it leave open.
-pub fn open_conts(
-    alloc: Global,
-    format: u8,
-    conts: &[Cont],
-    moves: &[Bytes],
-) -> Result<Conts, AllocError>
-    ensures { do_rise conts.now ≡ true → (cs : List Cont) → moved_by format (Some conts.now) moves.now ≡ Some cs → IfOk result (λ made. made ≡ cs) }
-{
-    let mut made = copies(alloc, conts)?;
-    for mv in moves {
-        make_move(alloc, format, &mut made, mv.as_slice())?;
-    }
-    Ok(made)
 }

@@ -23,7 +23,6 @@ use crate::decisions::Decisions;
 use crate::error::OpenErr;
 use crate::header_payload::{FORMAT, header_payload};
 use crate::kept::{Kept, texts_of};
-use crate::moves::open_conts;
 use crate::pair::{LogPair, read_pair};
 use crate::read::ReadLog;
 use crate::said::Said;
@@ -88,7 +87,7 @@ pub fn peek<D: Disks>(alloc: Global, disks: &mut D) -> Result<Option<(Shape, Kep
     }
 }
 
-/// What a log that was read keeps, and the log itself with the continuations that it leaves open.
+/// What a log that was read keeps, and the log itself.
 fn opened(alloc: Global, which: Which, log: ReadLog) -> Result<(Decisions, Kept), AllocError>
     ensures holds { (l : CoordinatorLog) → IsOf log l → IfOk result (λ made. HoldsLog made.0 l × IsKept made.1 l) }
     ensures same { IfOk result (λ made. (made.0.which ≡ which) × (made.0.gate ≡ log.gate)) }
@@ -110,7 +109,6 @@ fn opened(alloc: Global, which: Which, log: ReadLog) -> Result<(Decisions, Kept)
         masks,
         moves,
     } = said;
-    let going = open_conts(alloc, format, conts.as_slice(), moves.as_slice())?;
     let texts = texts_of(alloc, definitions.as_slice())?;
     let counting = Decisions {
         which,
@@ -121,7 +119,6 @@ fn opened(alloc: Global, which: Which, log: ReadLog) -> Result<(Decisions, Kept)
         boot,
         decisions,
         definitions,
-        conts: going,
     };
     let kept = Kept {
         boot,
@@ -183,7 +180,6 @@ fn begin<D: Disks>(alloc: Global, disks: &mut D, shape: Shape) -> Result<Decisio
         boot: 0,
         decisions: 0,
         definitions: Items::new(alloc),
-        conts: Items::new(alloc),
     })
 }
 

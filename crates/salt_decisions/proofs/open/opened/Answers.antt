@@ -1,4 +1,3 @@
-use Rattle.salt_decisions.proofs.Begun.{open_so}
 use Rattle.salt_decisions.proofs.Keeping.{keeps_so}
 use Rattle.salt_decisions.proofs.open.opened.Goals as goal
 use Rattle.salt_decisions.specs.Header.{numbered_of}
@@ -16,8 +15,7 @@ returns-clause-holds c l h =
         boot = h.says.boot;
         decisions = h.says.decisions;
         definitions = h.says.definitions;
-        conts = open_so r l h c.in_ok-going.going c.as_slice.result.now c.as_slice-2.result.now c.as_slice.ensures c.as_slice-2.ensures c.in_ok-going.ensures;
         parts = h.parts;
       },
-      keeps_so r l c.device.result h c.in_ok-texts.texts (c.in_ok-texts.ensures ∙ ap (map (λ d. text_of (numbered_of d))) c.as_slice-3.ensures),
+      keeps_so r l c.device.result h c.in_ok-texts.texts (c.in_ok-texts.ensures ∙ ap (map (λ d. text_of (numbered_of d))) c.as_slice.ensures),
     )

@@ -33,7 +33,6 @@ returns-clause-ok g c which log h =
         boot = ap (λ n. n + 1) h.holds.boot;
         decisions = h.holds.decisions;
         definitions = h.holds.definitions;
-        conts = h.holds.conts;
         parts = h.holds.parts;
       };
       counting = c.in_ok-append_entry.ensures.ok which log entry (booted log).told h.counting (read_so log.header.shape.parts entry (payload_in c.in_ok-frame.frame.items) (payload_in c.in_ok-frame.frame.items) refl c.in_ok-frame.ensures.payload good) tells;

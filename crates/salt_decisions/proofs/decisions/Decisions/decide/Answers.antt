@@ -1,6 +1,6 @@
 use Rattle.salt_bytes.specs.Coordinator.{Decides, Decision, spell_entry}
 use Rattle.salt_bytes.specs.Spellable.{IsSpellableEntry}
-use Rattle.salt_decisions.proofs.Appended.{next_told, open_next, read_so, spelled_so}
+use Rattle.salt_decisions.proofs.Appended.{next_told, read_so, spelled_so}
 use Rattle.salt_decisions.proofs.decisions.Decisions.decide.Goals as goal
 use Rattle.salt_decisions.specs.Decisions.{decided, next_decision}
 use Rattle.salt_gatelog.specs.Log.{payload_in}
@@ -35,7 +35,6 @@ returns-clause-ok g c which log h =
         boot = h.holds.boot;
         decisions = refl;
         definitions = h.holds.definitions;
-        conts = open_next x.conts c.make_move.new.conts log d x.format h.holds.format h.holds.conts c.in_ok-make_move.ensures;
         parts = h.holds.parts;
       };
       counting = c.in_ok-append_entry.ensures.ok which log (Decides d) (decided log d).told h.counting (read_so log.header.shape.parts (Decides d) (payload_in c.in_ok-frame.frame.items) (payload_in c.in_ok-frame.frame.items) refl c.in_ok-frame.ensures.payload good)

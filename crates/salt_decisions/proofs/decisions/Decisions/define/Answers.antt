@@ -41,7 +41,6 @@ returns-clause-ok g c which log h =
         decisions = refl;
         definitions = ap (map numbered_of) c.in_ok-push.ensures.ok ∙ map_push numbered_of x.definitions made ∙ ap (λ l. l ++ numbered_of made ∷ []) h.holds.definitions
             ∙ ap (λ (text : List ℕ). log.told.definitions ++ spelled text ∷ []) c.in_ok-from_slice.ensures;
-        conts = h.holds.conts;
         parts = h.holds.parts;
       };
       counting = c.in_ok-append_entry.ensures.ok which log entry (defined log t).told h.counting (read_so log.header.shape.parts entry (payload_in c.in_ok-frame.frame.items) (payload_in c.in_ok-frame.frame.items) refl c.in_ok-frame.ensures.payload good)

@@ -1,7 +1,7 @@
 use Rattle.salt_bytes.specs.Coordinator.{CoordinatorHeader, spell_header}
 use Rattle.salt_bytes.specs.Generations.{next_generation}
 use Rattle.salt_bytes.specs.Spellable.{IsSpellableHeader}
-use Rattle.salt_decisions.proofs.Snapshots.{apart_from, counting_images, next_is_some, snapshot_counts, snapshot_open}
+use Rattle.salt_decisions.proofs.Snapshots.{apart_from, counting_images, next_is_some, snapshot_counts}
 use Rattle.salt_decisions.proofs.decisions.Decisions.snapshot.Goals as goal
 use Rattle.salt_decisions.specs.HeaderPayload.{header_with}
 use Rattle.salt_decisions.specs.Which.{which_in}
@@ -11,7 +11,7 @@ use Rattle.salt_disk.specs.Disks.{KeepsOthers}
 use Rattle.salt_gatelog.specs.Log as gates
 use Rattle.salt_stands.specs.Coordinator.{device_of}
 use Rattle.salt_stands.specs.Pieces.{other_log}
-use Rattle.std.proofs.Common.{List, None, [], ap, refl, subst, sym, true, ℕ, ◌≡◌, ◌∙◌}
+use Rattle.std.proofs.Common.{List, None, [], ap, refl, subst, true, ℕ, ◌≡◌, ◌∙◌}
 use Rattle.std.specs.Prelude.{nat_le}
 
 pub returns-clause-ok : goal.returns-clause-ok
@@ -40,10 +40,9 @@ returns-clause-ok g c which log h =
         boot = h.holds.boot;
         decisions = h.holds.decisions;
         definitions = h.holds.definitions;
-        conts = snapshot_open conts log x.conts (sym c.requires.going);
         parts = h.holds.parts;
       };
-      counting = snapshot_counts d0 x which log h d1 d2 c.in_ok-gate.gate c.append.new.self c.deref.result.now conts c.requires.going
+      counting = snapshot_counts d0 x which log h d1 d2 c.in_ok-gate.gate c.append.new.self c.deref.result.now conts
           (c.deref.ensures.value ∙ c.in_ok-payload.ensures.put ∙ ap spell_header same) good device first second c.append.ensures.device (c.in_ok-append.ensures.ok [] c.in_ok-gate.ensures.log.1);
     }
 
