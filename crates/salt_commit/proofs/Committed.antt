@@ -9,20 +9,16 @@ use Rattle.salt_commit.proofs.Pageless.{prepared_unnamed}
 use Rattle.salt_commit.proofs.Standing.{apart_from_part, if_some, partitions_stay}
 use Rattle.salt_commit.proofs.Undecided.{IsInHand, before_decision, decisions_kept, may_prepare}
 use Rattle.salt_commit.specs.Commits.{IsCommitLog, MayCommitUnit, shares_in}
-use Rattle.salt_commit.specs.Errors.{disk_err_of, store_err, store_err_of}
 use Rattle.salt_commit.specs.Openings.{NamesPages}
 use Rattle.salt_commit.specs.Prepares.{AreSharesLast, IsLogOfShares, MayPrepareEach, StandForShares, StandWithShares, applied_with_shares, with_shares}
 use Rattle.salt_commit.specs.Shares.{mask_of, next_decision, share_at, shares_of}
 use Rattle.salt_commit.specs.Stores.{ArePartitions, IsStore, StandForEither, decided_by, last_decision}
-use Rattle.salt_commit.specs.declared.error.StoreErr.TheVariants as store
-use Rattle.salt_commit.specs.declared.error.StoreErr.{StoreErr}
 use Rattle.salt_commit.specs.declared.store.Store.{Store}
 use Rattle.salt_decisions.proofs.Appended.{spelled_so}
 use Rattle.salt_decisions.specs.Decisions as decisions
 use Rattle.salt_decisions.specs.Decisions.{IsBeforeOrWith, IsDecisions, decided, device_in}
 use Rattle.salt_disk.proofs.CallAfterCall.{keeps_on, keeps_wider, kept_on}
 use Rattle.salt_disk.specs.Disks.{EachImage, IsImage, IsUnchanged, KeepsAll, KeepsBut, KeepsOthers, Shrinks, View}
-use Rattle.salt_disk.specs.declared.disks.DiskErr.TheVariants.{Failed, Full, Memory, Stopped}
 use Rattle.salt_disk.specs.declared.disks.DiskErr.{DiskErr}
 use Rattle.salt_partition.specs.Partitions.{IsPartition, prepared}
 use Rattle.salt_stands.specs.Commits.{found_after, found_of, parts_of, view_after}
@@ -37,9 +33,10 @@ use Rattle.salt_values.specs.declared.change.Change.{Change}
 use Rattle.salt_values.specs.declared.cont.Cont.{Cont}
 use Rattle.salt_values.specs.declared.id.Id.{Id}
 use Rattle.salt_place.specs.declared.placement.Shape.{Shape}
-use Rattle.std.proofs.Common.{Err, IsTrue, List, None, Ok, Option, Result, Some, ap, arith, inl, inr, length, refl, subst, sym, true, ℕ, ◌*◌, ◌+◌, ◌<◌, ◌^◌, ◌≡◌, ◌≤◌, ◌∙◌}
+use Rattle.std.proofs.Common.{Err, IsTrue, List, None, Ok, Option, Result, Some, ap, arith, inl, inr, length, subst, sym, true, ℕ, ◌*◌, ◌+◌, ◌<◌, ◌^◌, ◌≡◌, ◌≤◌, ◌∙◌}
 use Rattle.std.proofs.lemmas.Bool.Decides.{nat_tests}
 use Rattle.std.specs.Prelude.{nat_lt, slice_get}
+use Rattle.std.specs.Result.{result_err}
 
 parts_known : (n : ℕ) → is_number_of_parts n ≡ true → IsParts n
 parts_known n h = (low, high)
@@ -50,15 +47,9 @@ parts_known n h = (low, high)
     high : n ≤ 8
     high = grind (arith, nat_tests)
 
-same_err : (e : DiskErr) → disk_err_of (store_err_of e) ≡ e
-same_err Failed = refl
-same_err Stopped = refl
-same_err (Full dev) = refl
-same_err Memory = refl
-
--- the disks' answer goes on as the store's
-pub answer_is : {T : Type 0} (result : Result T StoreErr) (s : StoreErr) (e : DiskErr) → result ≡ Err s → s ≡ store_err_of e → store_err result ≡ Some e
-answer_is result s e is from = ap store_err is ∙ ap (λ k. Some (disk_err_of k)) from ∙ ap Some (same_err e)
+-- a call's answer goes on
+pub answer_is : {T : Type 0} (result : Result T DiskErr) (s e : DiskErr) → result ≡ Err s → s ≡ e → result_err result ≡ Some e
+answer_is result s e is from = ap result_err is ∙ ap (λ (k : DiskErr). Some k) from
 
 module _ {D : Type 0} (r : Reading D) (d : View) (x : Store) (which : WhichLog) (c : Coordinator D) (v : ℕ → PartView) (is : IsStore r d x which c v)
     (u : Id) (cs : List Change) (mv : List ℕ) (m : Move) (conts : List Cont) (may : MayCommitUnit r c v u cs mv m conts)
@@ -158,13 +149,6 @@ module _ {D : Type 0} (r : Reading D) (d : View) (x : Store) (which : WhichLog) 
             (applied (with_shares u (shares_of c.log.header.shape cs) v) (decided_by c) h.are h.last))
 
 -- A FULL DEVICE is as it was before all calls
-
--- the store's answer goes back to the disks'
-pub full_back : (e : DiskErr) (n : ℕ) → store_err_of e ≡ store.Full n → e ≡ Full n
-full_back Failed n h = absurd cc
-full_back Stopped n h = absurd cc
-full_back (Full dev) n h = cc
-full_back Memory n h = absurd cc
 
 -- the coordinator's log is none of those of the shares
 pub decision_untouched : {D : Type 0} (r : Reading D) (d b e : View) (x : Store) (which : WhichLog) (c : Coordinator D) (v : ℕ → PartView) → IsStore r d x which c v → (ss : List (List Change))

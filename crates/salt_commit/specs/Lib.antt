@@ -1,4 +1,3 @@
-pub mod Errors
 pub mod Stores
 pub mod Shares
 pub mod Prepares

@@ -3,13 +3,13 @@
 ghost use Rattle.salt_bytes.specs.Generations.{WhichLog};
 ghost use Rattle.salt_bytes.specs.declared.moves.Move.{Move};
 ghost use Rattle.salt_commit.specs.Commits.{CommitPassesLimit, IsCommitLog, MayCommitUnit, StandsToCommit};
-ghost use Rattle.salt_commit.specs.Errors.{store_err};
 ghost use Rattle.salt_commit.specs.Openings.{NamesPages};
 ghost use Rattle.salt_commit.specs.Prepares.{FullWhere};
 ghost use Rattle.salt_commit.specs.Shares.{next_decision};
 ghost use Rattle.salt_commit.specs.Stores.{IsStore, StandForEither, last_decision, reading, rows_of_store};
-ghost use Rattle.salt_commit.specs.declared.error.StoreErr.{StoreErr};
+ghost use Rattle.salt_disk.specs.declared.disks.DiskErr.{DiskErr};
 ghost use Rattle.salt_disk.specs.Disks.{HasCause, IsImage, IsUnchanged, KeepsBut};
+ghost use Rattle.salt_disk.specs.declared.disks.DiskErr.TheVariants.{Full, Memory};
 ghost use Rattle.salt_model.specs.Kept.{Definition};
 ghost use Rattle.salt_stands.specs.Commits.{found_after, found_of, parts_of, view_after};
 ghost use Rattle.salt_stands.specs.Coordinator.{Coordinator};
@@ -17,6 +17,7 @@ ghost use Rattle.salt_stands.specs.Pieces.{PartView, with_decision};
 ghost use Rattle.salt_place.specs.Placement.{GivesPlaceOf, TakesEachKey};
 ghost use Rattle.salt_values.specs.declared.cont.Cont.{Cont};
 ghost use Rattle.std.specs.Prelude.{Err, IfOk, IsTrue, List, OnOk, ℕ, ◌+◌, ◌-◌, ◌<◌, ◌^◌, ◌≡◌, ◌≢◌};
+ghost use Rattle.std.specs.Result.{result_err};
 
 use crate::error::StoreErr;
 use crate::prepare::{apply_all, prepare_all};
@@ -56,11 +57,11 @@ impl Store {
             → MayCommitUnit reading c v unit changes.now mv.now m conts → IsTrue (D.view disks.old).told
             → (image : ℕ → List ℕ) → IsImage (D.view disks.new) image → (p dev : ℕ) → p < parts_of c → NamesPages image p dev → ⊥ }
 
-        ensures stay { (e : StoreErr) → result ≡ Err e → e ≢ StoreErr.Memory → rows_of_store self.new ≡ rows_of_store self.old }
-        ensures others { KeepsBut (IsCommitLog self.old changes.now) (D.view disks.old) (D.view disks.new) (store_err result) }
-        ensures cause { HasCause (D.view disks.old) (D.view disks.new) (store_err result) }
-        ensures full { FullWhere (CommitPassesLimit (D.view disks.old).limit self.old unit changes.now mv.now) (store_err result) }
-        ensures untouched { (n : ℕ) → result ≡ Err (StoreErr.Full n) → IsUnchanged (D.view disks.old) (D.view disks.new) n }
+        ensures stay { (e : DiskErr) → result ≡ Err e → e ≢ Memory → rows_of_store self.new ≡ rows_of_store self.old }
+        ensures others { KeepsBut (IsCommitLog self.old changes.now) (D.view disks.old) (D.view disks.new) (result_err result) }
+        ensures cause { HasCause (D.view disks.old) (D.view disks.new) (result_err result) }
+        ensures full { FullWhere (CommitPassesLimit (D.view disks.old).limit self.old unit changes.now mv.now) (result_err result) }
+        ensures untouched { (n : ℕ) → result ≡ Err (Full n) → IsUnchanged (D.view disks.old) (D.view disks.new) n }
     {
         told_changes(changes.as_slice());
         let shape = self.decisions.shape();

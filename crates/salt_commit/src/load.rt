@@ -1,7 +1,6 @@
 //! The rows of a range are loaded.
 
 ghost use Rattle.salt_bytes.specs.Generations.{WhichLog};
-ghost use Rattle.salt_commit.specs.Errors.{store_err};
 ghost use Rattle.salt_commit.specs.Loads.{AreRowsOf, IsPartOf};
 ghost use Rattle.salt_commit.specs.Reads.{StandsInPlace};
 ghost use Rattle.salt_commit.specs.Stores.{IsStore, reading, rows_of_store};
@@ -85,11 +84,11 @@ impl Store {
             → IfOk result (λ rows. IsPartOf reach.now (view.tables_of rows.entries) (found_of c v).kept.tables) }
         ensures typed { IfOk result (λ rows. AreRowsOf schema.now (view.tables_of rows.entries)) }
         ensures stands { (which : WhichLog) (c : Coordinator Definition) (v : ℕ → PartView) → IsStore reading (D.view disks.old) self.old which c v
-            → UnlessDown (store_err result) (IsStore reading (D.view disks.new) self.new which c v) }
+            → UnlessDown (result_err result) (IsStore reading (D.view disks.new) self.new which c v) }
         ensures stay { rows_of_store self.new ≡ rows_of_store self.old }
-        ensures kept { KeepsAll (D.view disks.old) (D.view disks.new) (store_err result) }
-        ensures cause { HasCause (D.view disks.old) (D.view disks.new) (store_err result) }
-        ensures answers { OnlyFails (store_err result) }
+        ensures kept { KeepsAll (D.view disks.old) (D.view disks.new) (result_err result) }
+        ensures cause { HasCause (D.view disks.old) (D.view disks.new) (result_err result) }
+        ensures answers { OnlyFails (result_err result) }
     {
         let alloc = self.alloc;
         let mut rows = BTreeMap::new(alloc);

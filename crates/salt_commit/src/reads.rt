@@ -1,7 +1,6 @@
 //! What stands in a store is read.
 
 ghost use Rattle.salt_bytes.specs.Generations.{WhichLog};
-ghost use Rattle.salt_commit.specs.Errors.{store_err};
 ghost use Rattle.salt_commit.specs.Reads.{StandsInPlace, is_over, is_past};
 ghost use Rattle.salt_commit.specs.Stores.{IsStore, StandsOnDevices, reading, row_in, rows_of_store};
 ghost use Rattle.salt_disk.specs.Disks.{HasCause, KeepsAll, OnlyFails, UnlessDown};
@@ -13,6 +12,7 @@ ghost use Rattle.salt_stands.specs.Pieces.{PartView};
 ghost use Rattle.salt_place.specs.Placement.{GivesPlaceOf, TakesEachKey};
 ghost use Rattle.std.specs.Option.{option_copied};
 ghost use Rattle.std.specs.Prelude.{IfOk, IsTrue, length, ℕ, ◌<◌, ◌≡◌};
+ghost use Rattle.std.specs.Result.{result_err};
 
 use crate::error::StoreErr;
 use crate::nexts::next_of_all;
@@ -58,10 +58,10 @@ impl Store {
         ensures row { (which : WhichLog) (c : Coordinator Definition) (v : ℕ → PartView) → IsStore reading (D.view disks.old) self.old which c v → IsTrue (D.view disks.old).told
             → IfOk result (λ row. row ≡ row_in (found_of c v) table key.now) }
         ensures stands { (which : WhichLog) (c : Coordinator Definition) (v : ℕ → PartView) → IsStore reading (D.view disks.old) self.old which c v
-            → UnlessDown (store_err result) (IsStore reading (D.view disks.new) self.new which c v) }
-        ensures kept { KeepsAll (D.view disks.old) (D.view disks.new) (store_err result) }
-        ensures cause { HasCause (D.view disks.old) (D.view disks.new) (store_err result) }
-        ensures answers { OnlyFails (store_err result) }
+            → UnlessDown (result_err result) (IsStore reading (D.view disks.new) self.new which c v) }
+        ensures kept { KeepsAll (D.view disks.old) (D.view disks.new) (result_err result) }
+        ensures cause { HasCause (D.view disks.old) (D.view disks.new) (result_err result) }
+        ensures answers { OnlyFails (result_err result) }
     {
         let number = part_of(place, self.decisions.shape(), key);
         let part = &mut self.parts[number as usize];
@@ -83,11 +83,11 @@ impl Store {
         ensures row { (which : WhichLog) (c : Coordinator Definition) (v : ℕ → PartView) → IsStore reading (D.view disks.old) self.old which c v
             → IfOk result (λ row. row ≡ next_row table range.now (option_copied after.entry) (each_tables c v number)) }
         ensures stands { (which : WhichLog) (c : Coordinator Definition) (v : ℕ → PartView) → IsStore reading (D.view disks.old) self.old which c v
-            → UnlessDown (store_err result) (IsStore reading (D.view disks.new) self.new which c v) }
+            → UnlessDown (result_err result) (IsStore reading (D.view disks.new) self.new which c v) }
         ensures stay { rows_of_store self.new ≡ rows_of_store self.old }
-        ensures kept { KeepsAll (D.view disks.old) (D.view disks.new) (store_err result) }
-        ensures cause { HasCause (D.view disks.old) (D.view disks.new) (store_err result) }
-        ensures answers { OnlyFails (store_err result) }
+        ensures kept { KeepsAll (D.view disks.old) (D.view disks.new) (result_err result) }
+        ensures cause { HasCause (D.view disks.old) (D.view disks.new) (result_err result) }
+        ensures answers { OnlyFails (result_err result) }
     {
         let part = &mut self.parts[number as usize];
         let row = part.next_in(disks, table, range, after)?;
@@ -106,11 +106,11 @@ impl Store {
         ensures row { (which : WhichLog) (c : Coordinator Definition) (v : ℕ → PartView) → IsStore reading (D.view disks.old) self.old which c v
             → IfOk result (λ row. row ≡ next_row table range.now (option_copied after.entry) (found_of c v).kept.tables) }
         ensures stands { (which : WhichLog) (c : Coordinator Definition) (v : ℕ → PartView) → IsStore reading (D.view disks.old) self.old which c v
-            → UnlessDown (store_err result) (IsStore reading (D.view disks.new) self.new which c v) }
+            → UnlessDown (result_err result) (IsStore reading (D.view disks.new) self.new which c v) }
         ensures stay { rows_of_store self.new ≡ rows_of_store self.old }
-        ensures kept { KeepsAll (D.view disks.old) (D.view disks.new) (store_err result) }
-        ensures cause { HasCause (D.view disks.old) (D.view disks.new) (store_err result) }
-        ensures answers { OnlyFails (store_err result) }
+        ensures kept { KeepsAll (D.view disks.old) (D.view disks.new) (result_err result) }
+        ensures cause { HasCause (D.view disks.old) (D.view disks.new) (result_err result) }
+        ensures answers { OnlyFails (result_err result) }
     {
         let row = next_of_all(disks, &mut self.parts, table, range, after)?;
         Ok(row)
@@ -133,11 +133,11 @@ impl Store {
         ensures row { (which : WhichLog) (c : Coordinator Definition) (v : ℕ → PartView) → IsStore reading (D.view disks.old) self.old which c v
             → IfOk result (λ row. row ≡ next_row table range.now (option_copied after.entry) (found_of c v).kept.tables) }
         ensures stands { (which : WhichLog) (c : Coordinator Definition) (v : ℕ → PartView) → IsStore reading (D.view disks.old) self.old which c v
-            → UnlessDown (store_err result) (IsStore reading (D.view disks.new) self.new which c v) }
+            → UnlessDown (result_err result) (IsStore reading (D.view disks.new) self.new which c v) }
         ensures stay { rows_of_store self.new ≡ rows_of_store self.old }
-        ensures kept { KeepsAll (D.view disks.old) (D.view disks.new) (store_err result) }
-        ensures cause { HasCause (D.view disks.old) (D.view disks.new) (store_err result) }
-        ensures answers { OnlyFails (store_err result) }
+        ensures kept { KeepsAll (D.view disks.old) (D.view disks.new) (result_err result) }
+        ensures cause { HasCause (D.view disks.old) (D.view disks.new) (result_err result) }
+        ensures answers { OnlyFails (result_err result) }
     {
         if is_over(range, after) {
             return Ok(None);

@@ -2,16 +2,17 @@
 
 ghost use Rattle.salt_bytes.specs.Coordinator.{Boots, Defines, spell_entry};
 ghost use Rattle.salt_bytes.specs.Generations.{WhichLog};
-ghost use Rattle.salt_commit.specs.Errors.{store_err};
 ghost use Rattle.salt_commit.specs.Stores.{IsStore, MayDefine, StandForEither, StandsOnDevices, StandsToDefine, coordinator_device, coordinator_gate, last_boot, last_decision, next_text, reading, rows_of_store};
 ghost use Rattle.salt_decisions.specs.Decisions.{next_definition};
 ghost use Rattle.salt_disk.specs.Disks.{FullExactly, HasCause, IsUnchanged, KeepsOthers};
+ghost use Rattle.salt_disk.specs.declared.disks.DiskErr.TheVariants.{Full};
 ghost use Rattle.salt_model.specs.Kept.{Definition};
 ghost use Rattle.salt_place.specs.Placement.{GivesPlaceOf, TakesEachKey};
 ghost use Rattle.salt_stands.specs.Commits.{found_of};
 ghost use Rattle.salt_stands.specs.Coordinator.{Coordinator};
 ghost use Rattle.salt_stands.specs.Pieces.{PartView, with_boot, with_definition};
 ghost use Rattle.std.specs.Prelude.{Err, IfOk, IsTrue, OnOk, length, ℕ, ◌+◌, ◌-◌, ◌<◌, ◌^◌, ◌≡◌};
+ghost use Rattle.std.specs.Result.{result_err};
 
 use crate::error::StoreErr;
 use salt_decisions::Decisions;
@@ -59,10 +60,10 @@ impl Store {
             → StandForEither reading (D.view disks.new) (found_of c v) (found_of (with_boot c) v) }
 
         ensures stay { rows_of_store self.new ≡ rows_of_store self.old }
-        ensures others { KeepsOthers (coordinator_device self.old) (D.view disks.old) (D.view disks.new) (store_err result) }
-        ensures cause { HasCause (D.view disks.old) (D.view disks.new) (store_err result) }
-        ensures full { FullExactly (coordinator_device self.old) ((D.view disks.old).limit (coordinator_device self.old)) (coordinator_gate self.old + 10 + length (spell_entry (Boots (last_boot self.old + 1)))) (store_err result) }
-        ensures untouched { (n : ℕ) → result ≡ Err (StoreErr.Full n) → IsUnchanged (D.view disks.old) (D.view disks.new) (coordinator_device self.old) }
+        ensures others { KeepsOthers (coordinator_device self.old) (D.view disks.old) (D.view disks.new) (result_err result) }
+        ensures cause { HasCause (D.view disks.old) (D.view disks.new) (result_err result) }
+        ensures full { FullExactly (coordinator_device self.old) ((D.view disks.old).limit (coordinator_device self.old)) (coordinator_gate self.old + 10 + length (spell_entry (Boots (last_boot self.old + 1)))) (result_err result) }
+        ensures untouched { (n : ℕ) → result ≡ Err (Full n) → IsUnchanged (D.view disks.old) (D.view disks.new) (coordinator_device self.old) }
     {
         let boot = self.decisions.boot(self.alloc, disks)?;
         Ok(boot)
@@ -89,10 +90,10 @@ impl Store {
             → StandForEither reading (D.view disks.new) (found_of c v) (found_of (with_definition c (next_text c text.now) def) v) }
 
         ensures stay { rows_of_store self.new ≡ rows_of_store self.old }
-        ensures others { KeepsOthers (coordinator_device self.old) (D.view disks.old) (D.view disks.new) (store_err result) }
-        ensures cause { HasCause (D.view disks.old) (D.view disks.new) (store_err result) }
-        ensures full { FullExactly (coordinator_device self.old) ((D.view disks.old).limit (coordinator_device self.old)) (coordinator_gate self.old + 10 + length (spell_entry (Defines (next_definition self.old.decisions text.now)))) (store_err result) }
-        ensures untouched { (n : ℕ) → result ≡ Err (StoreErr.Full n) → IsUnchanged (D.view disks.old) (D.view disks.new) (coordinator_device self.old) }
+        ensures others { KeepsOthers (coordinator_device self.old) (D.view disks.old) (D.view disks.new) (result_err result) }
+        ensures cause { HasCause (D.view disks.old) (D.view disks.new) (result_err result) }
+        ensures full { FullExactly (coordinator_device self.old) ((D.view disks.old).limit (coordinator_device self.old)) (coordinator_gate self.old + 10 + length (spell_entry (Defines (next_definition self.old.decisions text.now)))) (result_err result) }
+        ensures untouched { (n : ℕ) → result ≡ Err (Full n) → IsUnchanged (D.view disks.old) (D.view disks.new) (coordinator_device self.old) }
     {
         what_fits_still_fits();
         let number = self.decisions.define(self.alloc, disks, text)?;

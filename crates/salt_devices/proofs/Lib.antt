@@ -1,4 +1,3 @@
-mod Halts
 pub mod Stores
 mod Kept
 mod Limits

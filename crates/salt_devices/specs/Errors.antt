@@ -1,18 +1,9 @@
--- The answers of a store, as those of a storage.
-use Rattle.salt_commit.specs.declared.error.StoreErr.TheVariants as store
-use Rattle.salt_commit.specs.declared.error.StoreErr.{StoreErr}
+-- The answers of an opening of a store, as those of a storage's.
 use Rattle.salt_decisions.specs.declared.error.OpenErr.TheVariants as opening
 use Rattle.salt_decisions.specs.declared.error.OpenErr as decisions
 use Rattle.salt_storage.specs.declared.halt.Halt.TheVariants.{DeviceFull, DiskFault, Memory, Stopped}
-use Rattle.salt_storage.specs.declared.halt.Halt.{Halt}
 use Rattle.salt_storage.specs.declared.open.OpenErr.TheVariants.{Halted, NotSalt, NumbersSpent, OtherShape}
 use Rattle.salt_storage.specs.declared.open.OpenErr.{OpenErr}
-
-abbrev pub halt_of : StoreErr → Halt
-halt_of store.Failed = DiskFault
-halt_of store.Stopped = Stopped
-halt_of (store.Full dev) = DeviceFull dev
-halt_of store.Memory = Memory
 
 abbrev pub open_err_of : decisions.OpenErr → OpenErr
 open_err_of (opening.NotSalt dev) = NotSalt dev

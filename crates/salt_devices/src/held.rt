@@ -2,7 +2,6 @@
 
 ghost use Rattle.salt_bytes.specs.declared.moves.Move.{Move};
 ghost use Rattle.law_definitions.specs.Texts.{definition_in};
-ghost use Rattle.salt_devices.specs.Errors.{halt_of};
 ghost use Rattle.salt_devices.specs.Filling.{FillsIn};
 ghost use Rattle.salt_commit.specs.Stores.{rows_of_store};
 ghost use Rattle.salt_devices.specs.Holding.{IsHeld, IsNewTo};
@@ -28,7 +27,7 @@ use crate::told::{told_keys, told_move};
 use law_types::typed_changes_are_sound;
 use salt_bytes::{Move, moves_are_read};
 use salt_codec::spelled_move;
-use salt_commit::{Store, StoreErr};
+use salt_commit::Store;
 use salt_decisions::FORMAT;
 use salt_disk::Disks;
 use salt_eval::Tables;
@@ -38,18 +37,6 @@ use salt_schema::Schema;
 use salt_storage::Halt;
 use salt_values::{Changes, Id, Key};
 use std::alloc::Global;
-
-/// Why a call on a store was broken off.
-fn halt_of(e: StoreErr) -> Halt
-    ensures { result ≡ halt_of e }
-{
-    match e {
-        StoreErr::Failed => Halt::DiskFault,
-        StoreErr::Stopped => Halt::Stopped,
-        StoreErr::Full(dev) => Halt::DeviceFull(dev),
-        StoreErr::Memory => Halt::Memory,
-    }
-}
 
 /// The rows of a reach, each of which meets its table. Nothing is written.
 pub fn load_rows<D: Disks, F: Fn(PlaceKind, &Key, u32) -> u32>(
@@ -71,10 +58,8 @@ pub fn load_rows<D: Disks, F: Fn(PlaceKind, &Key, u32) -> u32>(
     ensures kept { KeepsAll (D.view disks.old) (D.view disks.new) (disk_err result) }
     ensures cause { HasCause (D.view disks.old) (D.view disks.new) (disk_err result) }
 {
-    match store.load(disks, place, schema, reach) {
-        Ok(rows) => Ok(rows),
-        Err(e) => Err(halt_of(e)),
-    }
+    let rows = store.load(disks, place, schema, reach)?;
+    Ok(rows)
 }
 
 /// Begins the next boot, and gives its number.
@@ -89,10 +74,8 @@ pub fn begin_boot<D: Disks>(store: &mut Store, disks: &mut D) -> Result<u64, Hal
     ensures within { (shape : Shape) (k : Kept) → IsHeld (D.view disks.old) shape store.old k → StaysWithin shape shape (D.view disks.old) (D.view disks.new) }
     ensures cause { HasCause (D.view disks.old) (D.view disks.new) (disk_err result) }
 {
-    match store.boot(disks) {
-        Ok(boot) => Ok(boot),
-        Err(e) => Err(halt_of(e)),
-    }
+    let boot = store.boot(disks)?;
+    Ok(boot)
 }
 
 /// Decides a definition by its canonical text, and gives its number. Where no number is left, want of memory is answered.
@@ -119,10 +102,8 @@ pub fn decide_definition<D: Disks, F: Fn(PlaceKind, &Key, u32) -> u32>(
     if store.decisions() == u64::MAX {
         return Err(Halt::Memory);
     }
-    match store.define(disks, place, text) {
-        Ok(number) => Ok(number),
-        Err(e) => Err(halt_of(e)),
-    }
+    let number = store.define(disks, place, text)?;
+    Ok(number)
 }
 
 /// Decides a unit with its changes and its program's move, and gives its number. Where no number is left, want of memory is
@@ -159,8 +140,6 @@ pub fn decide_unit<D: Disks, F: Fn(PlaceKind, &Key, u32) -> u32>(
     told_move(made);
     told_keys(changes.as_slice());
     let spelled = spelled_move(alloc, FORMAT, made)?;
-    match store.commit(disks, place, unit, changes, &spelled) {
-        Ok(number) => Ok(number),
-        Err(e) => Err(halt_of(e)),
-    }
+    let number = store.commit(disks, place, unit, changes, &spelled)?;
+    Ok(number)
 }

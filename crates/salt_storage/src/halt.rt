@@ -1,8 +1,10 @@
 //! Why a line or an opening is broken off.
 
 ghost use Rattle.std.specs.Prelude.{◌≡◌};
+ghost use Rattle.salt_storage.specs.Answers.{disk_err_of};
 ghost use Rattle.salt_storage.specs.declared.halt.Halt.TheVariants.{Memory};
 
+use salt_disk::DiskErr;
 use std::alloc::AllocError;
 use thiserror::Error;
 
@@ -24,5 +26,18 @@ impl From<AllocError> for Halt {
 
     fn from(_: AllocError) -> Self {
         Halt::Memory
+    }
+}
+
+impl From<DiskErr> for Halt {
+    ghost from_gives = { λ e halt. disk_err_of halt ≡ e };
+
+    fn from(e: DiskErr) -> Self {
+        match e {
+            DiskErr::Stopped => Halt::Stopped,
+            DiskErr::Failed => Halt::DiskFault,
+            DiskErr::Full(dev) => Halt::DeviceFull(dev),
+            DiskErr::Memory => Halt::Memory,
+        }
     }
 }

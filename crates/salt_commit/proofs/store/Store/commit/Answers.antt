@@ -1,4 +1,4 @@
-use Rattle.salt_commit.proofs.Committed.{answer_is, committed, decision_untouched, full_back, between, decided_image, few_shares, mask_within, may_apply_all, may_begin, share_each, still_stand, undecided_image, unnamed, wider_apply, wider_decision, wider_shares}
+use Rattle.salt_commit.proofs.Committed.{answer_is, committed, decision_untouched, between, decided_image, few_shares, mask_within, may_apply_all, may_begin, share_each, still_stand, undecided_image, unnamed, wider_apply, wider_decision, wider_shares}
 use Rattle.salt_commit.proofs.Pageless.{past_decisions, unwritten_unnamed}
 use Rattle.salt_commit.proofs.Standing.{unchanged_images}
 use Rattle.salt_commit.proofs.Undecided.{IsInHand}
@@ -14,11 +14,9 @@ use Rattle.salt_values.specs.declared.id.Id.{Id}
 use Rattle.salt_commit.specs.declared.store.Store.{Store}
 use Rattle.salt_decisions.specs.Decisions as decisions
 use Rattle.salt_decisions.specs.Decisions.{IsBeforeOrWith, IsDecisions, decided}
-use Rattle.salt_commit.specs.Errors.{store_err_of}
-use Rattle.salt_commit.specs.declared.error.StoreErr.TheVariants as StoreErr
 use Rattle.salt_disk.proofs.CallAfterCall.{cause_on}
 use Rattle.salt_disk.specs.Disks.{EachImage, FullExactly, OnlyFails}
-use Rattle.salt_disk.specs.declared.disks.DiskErr.TheVariants.{Full}
+use Rattle.salt_disk.specs.declared.disks.DiskErr.TheVariants.{Full, Memory}
 use Rattle.salt_codec.specs.Entries.{IsTold}
 use Rattle.salt_stands.specs.Commits.{found_after, found_of}
 use Rattle.salt_stands.specs.Coordinator.{device_of}
@@ -282,15 +280,15 @@ returns-clause-pages g c which co v m conts is may told image left p dev low nam
 pub returns-in_err-prepare_all-clause-untouched : goal.returns-in_err-prepare_all-clause-untouched
 returns-in_err-prepare_all-clause-untouched g c n res =
     let p = err_from_is_err_and c.from_residual-in_err-prepare_all.result c.from_residual-in_err-prepare_all.ensures.1 in
-    let same : p.0 ≡ StoreErr.Full n = cc (p.1, res) in
-    c.in_err-prepare_all.ensures.untouched n (ap Err (full_back c.in_err-prepare_all.field-0.0 n (sym p.2 ∙ same)))
+    let same : p.0 ≡ Full n = cc (p.1, res) in
+    c.in_err-prepare_all.ensures.untouched n (ap Err (sym p.2 ∙ same))
 
 pub returns-in_err-number-clause-untouched : goal.returns-in_err-number-clause-untouched
 returns-in_err-number-clause-untouched g c n res =
     let p = err_from_is_err_and c.from_residual-in_err-number.result c.from_residual-in_err-number.ensures.1 in
     let s = c.requires.stands in
-    let same : p.0 ≡ StoreErr.Full n = cc (p.1, res) in
-    let full : c.in_err-number.field-0.0 ≡ Full n = full_back c.in_err-number.field-0.0 n (sym p.2 ∙ same) in
+    let same : p.0 ≡ Full n = cc (p.1, res) in
+    let full : c.in_err-number.field-0.0 ≡ Full n = sym p.2 ∙ same in
     let x = c.args.self.now.decisions in
     let dev = decisions.device_in x in
     let end = decisions.gate_in x + 10 + length (spell_entry (Decides (decisions.next_decision x c.args.unit c.mask_of-mask.result c.args.mv.now))) in
@@ -301,8 +299,8 @@ returns-in_err-number-clause-untouched g c n res =
 pub returns-in_err-apply_all-clause-untouched : goal.returns-in_err-apply_all-clause-untouched
 returns-in_err-apply_all-clause-untouched g c n res =
     let p = err_from_is_err_and c.from_residual-in_err-apply_all.result c.from_residual-in_err-apply_all.ensures.1 in
-    let same : p.0 ≡ StoreErr.Full n = cc (p.1, res) in
-    let full : c.in_err-apply_all.field-0.0 ≡ Full n = full_back c.in_err-apply_all.field-0.0 n (sym p.2 ∙ same) in
+    let same : p.0 ≡ Full n = cc (p.1, res) in
+    let full : c.in_err-apply_all.field-0.0 ≡ Full n = sym p.2 ∙ same in
     absurd (subst (λ e. OnlyFails (Some e)) full c.in_err-apply_all.ensures.answers)
 
 pub returns-in_err-prepare_all-clause-stay : goal.returns-in_err-prepare_all-clause-stay
@@ -315,7 +313,7 @@ pub returns-in_err-apply_all-clause-stay : goal.returns-in_err-apply_all-clause-
 returns-in_err-apply_all-clause-stay g c e is not =
     let p = err_from_is_err_and c.from_residual-in_err-apply_all.result c.from_residual-in_err-apply_all.ensures.1 in
     let lacks = c.in_err-apply_all.ensures.lacks c.in_err-apply_all.field-0.0 refl in
-    let memory : p.0 ≡ StoreErr.Memory = p.2 ∙ ap store_err_of lacks in
+    let memory : p.0 ≡ Memory = p.2 ∙ lacks in
     absurd (not (cc (is, p.1, memory)))
 
 pub returns-in_err-prepare_all-clause-cause : goal.returns-in_err-prepare_all-clause-cause

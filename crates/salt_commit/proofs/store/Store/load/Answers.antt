@@ -4,7 +4,6 @@ use Rattle.salt_commit.proofs.Sound.{next_meets}
 use Rattle.salt_commit.proofs.store.Store.load.Goals as goal
 use Rattle.salt_eval.specs.Views.{next_row}
 use Rattle.salt_gatelog.proofs.Entries.{not_told}
-use Rattle.salt_commit.specs.Errors.{disk_err_of}
 use Rattle.salt_disk.proofs.CallAfterCall.{cause_memory, cause_on}
 use Rattle.std.proofs.Common.{None, Some, ap, refl, sym, ◌∙◌}
 use Rattle.std.proofs.lemmas.Result.{err_from_is_err_and}
@@ -97,7 +96,7 @@ returns-in_err-row-clause-cause g c =
     let l = g.D.Disks.view c.loop-after.disks in
     let b = g.D.Disks.view c.next_in.new.disks in
     let p = err_from_is_err_and c.from_residual.result c.from_residual.ensures.1 in
-    rw (p.1, p.2) (cause_on d0 l b (Some (disk_err_of c.in_err-row.field-0.0)) c.loop-after.invariant.cause c.in_err-row.ensures.cause)
+    rw (p.1, p.2) (cause_on d0 l b (Some c.in_err-row.field-0.0) c.loop-after.invariant.cause c.in_err-row.ensures.cause)
 
 pub returns-in_err-judge-clause-cause : goal.returns-in_err-judge-clause-cause
 returns-in_err-judge-clause-cause g c =
