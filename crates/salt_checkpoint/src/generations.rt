@@ -4,6 +4,7 @@ ghost use Rattle.salt_checkpoint.specs.Checkpoints.{FullAt, IsNext, IsReady, Sta
 ghost use Rattle.salt_checkpoint.specs.Sides.{AreInPlace, all_written};
 ghost use Rattle.salt_bytes.specs.Generations.{WhichLog};
 ghost use Rattle.salt_disk.specs.Disks.{HasCause, IsSettled, KeepsBut};
+ghost use Rattle.salt_gatelog.specs.Log as gates;
 ghost use Rattle.salt_gatelog.specs.Log.{IsLog};
 ghost use Rattle.salt_model.specs.Kept.{Definition};
 ghost use Rattle.salt_stands.specs.Commits.{parts_of, with_view};
@@ -53,7 +54,7 @@ pub fn checkpoint<D: Disks>(
         → IsNext r c part (v part) ((D.view disks.old).bytes (pages_device part)) writes.now header.now format sides rows
         → IsReady r (D.view disks.new) which c (with_view part (checkpointed (v part) (next_part_header (v part) format sides) rows) v)) }
     ensures log { IfOk result (λ log. IsLog (D.view disks.new) log (header.now ∷ [])) }
-    ensures device { IfOk result (λ log. log.dev ≡ other) }
+    ensures device { IfOk result (λ log. gates.device_of log ≡ other) }
     ensures bytes { OnOk result (IsTrue (D.view disks.old).told → (D.view disks.new).bytes (pages_device part) ≡ all_written writes.now ((D.view disks.old).bytes (pages_device part))) }
     ensures stable { OnOk result (IsSettled (D.view disks.new) (pages_device part)) }
     ensures others { KeepsBut (λ dev. (dev ≡ pages_device part) ⊎ (dev ≡ other)) (D.view disks.old) (D.view disks.new) (result_err result) }

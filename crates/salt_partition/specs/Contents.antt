@@ -6,6 +6,7 @@ use Rattle.salt_bytes.specs.Spellable.{Every}
 use Rattle.salt_disk.specs.Disks.{View}
 use Rattle.salt_codec.specs.Entries.{header_of, prepared_of}
 use Rattle.salt_codec.specs.declared.prepared.PreparedUnit.{PreparedUnit}
+use Rattle.salt_gatelog.specs.Log as gates
 use Rattle.salt_gatelog.specs.Log.{IsLog}
 use Rattle.salt_gatelog.specs.declared.log.GateLog.{GateLog}
 use Rattle.salt_partition.specs.declared.contents.LogContent.TheVariants as found
@@ -42,7 +43,7 @@ content_seen found.Outside = Outside
 -- a log that was read is that of the device, and has these entries; the rows of its units have their keys
 abbrev pub KeepsEntries : View → (dev : ℕ) → List (List ℕ) → LogContent → Type 0
 KeepsEntries d dev entries found.Blank = ⊤
-KeepsEntries d dev entries (found.Read r) = IsLog d r.log entries × (r.log.dev ≡ dev) × Every AreKeyed (units_of r.units.items)
+KeepsEntries d dev entries (found.Read r) = IsLog d r.log entries × (gates.device_of r.log ≡ dev) × Every AreKeyed (units_of r.units.items)
 KeepsEntries d dev entries found.Outside = ⊤
 
 -- what was found on a device that has these entries, of which there is one
@@ -54,7 +55,7 @@ pub record HasContent (d : View) (part dev : ℕ) (entries : List (List ℕ)) (c
 pub record IsKept (d : View) (part dev : ℕ) (r : ReadLog) : Type 0 where
   pub entries : List (List ℕ)
   pub is_log : IsLog d r.log entries
-  pub device : r.log.dev ≡ dev
+  pub device : gates.device_of r.log ≡ dev
   pub some : 0 < length entries
   pub keyed : Every AreKeyed (units_of r.units.items)
   pub reads : IsTrue d.told → partition_in part entries ≡ Some (log_of r)

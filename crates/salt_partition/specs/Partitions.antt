@@ -7,6 +7,7 @@ use Rattle.salt_bytes.specs.Spellable.{Every}
 use Rattle.salt_disk.specs.Disks.{IsSettled, View}
 use Rattle.salt_codec.specs.Entries.{IsPut, prepared_of}
 use Rattle.salt_codec.specs.declared.prepared.PreparedUnit.{PreparedUnit}
+use Rattle.salt_gatelog.specs.Log as gates
 use Rattle.salt_gatelog.specs.Log.{IsLog}
 use Rattle.salt_model.specs.Tables.{Entry}
 use Rattle.salt_values.specs.Id.{has_id}
@@ -23,11 +24,11 @@ use Rattle.std.specs.Prelude.{Bool, IsTrue, List, Option, Some, [], false, lengt
 
 -- the device of the log that counts
 abbrev pub log_device : Partition → ℕ
-log_device x = x.log.dev
+log_device x = gates.device_of x.log
 
 -- where its closed gate stands
 abbrev pub log_gate : Partition → ℕ
-log_gate x = x.log.end
+log_gate x = gates.gate_of x.log
 
 -- whether NULL is spelled in it
 abbrev pub spells_nulls : Partition → Bool
@@ -39,7 +40,7 @@ rows_in x = x.rows.entries
 
 -- how many entries it has behind its header
 abbrev pub unit_count : Partition → ℕ
-unit_count x = x.log.count - 1
+unit_count x = gates.count_of x.log - 1
 
 -- What holds where the disks tell their bytes: the log that counts and its pair say what the view has.
 pub record IsTold (d : View) (p : ℕ) (v : PartView) (entries : List (List ℕ)) : Type 0 where
