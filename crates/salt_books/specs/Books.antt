@@ -4,10 +4,11 @@ use Rattle.salt_ast.specs.declared.trees.Statement.{Statement}
 use Rattle.salt_ast.specs.declared.trees.TableDef.{TableDef}
 use Rattle.salt_books.specs.declared.books.Books.{Books}
 use Rattle.salt_books.specs.declared.held.Held.{Held}
+use Rattle.salt_books.specs.declared.known.Known.{Known}
 use Rattle.law_states.specs.OpenUnits.{OpenUnit, UnitState, belongs_to_program, belongs_to_session, unit_named}
 use Rattle.law_states.specs.Overlays.{edits_of}
 use Rattle.law_states.specs.Steps.{doing_one, outcome_under}
-use Rattle.salt_books.specs.Known.{IsKnown}
+use Rattle.salt_books.specs.Known.{IsKnown, boot_known, conts_known, decisions_known, programs_known, tables_known}
 use Rattle.salt_books.specs.Moves.{IsAtPart}
 use Rattle.salt_model.specs.Kept.{Kept}
 use Rattle.salt_model.specs.Tables.{Tables, is_within, row_at}
@@ -31,26 +32,32 @@ seen h = record {
   changes = edits_of h.open.changes.items;
 }
 
--- WHAT THEY SHOW: the tables and programs that are known, where programs go on, the last boot and the last decision; the open units,
--- and the programs to which `go all` has still to turn
+-- WHAT THEY SHOW: what is known, of it the tables and programs, where programs go on, the last boot and the last decision; the open units, how
+-- many have begun, and the programs to which `go all` has still to turn
+
+abbrev pub known_in : Books → Known
+known_in x = x.known
 
 abbrev pub tables_in : Books → List TableDef
-tables_in x = x.known.schema
+tables_in x = tables_known (known_in x)
 
 abbrev pub programs_in : Books → List ProgramDef
-programs_in x = x.known.catalogue
+programs_in x = programs_known (known_in x)
 
 abbrev pub conts_in : Books → List Cont
-conts_in x = x.known.conts
+conts_in x = conts_known (known_in x)
 
 abbrev pub boot_in : Books → ℕ
-boot_in x = x.known.boot
+boot_in x = boot_known (known_in x)
 
 abbrev pub decisions_in : Books → ℕ
-decisions_in x = x.known.decisions
+decisions_in x = decisions_known (known_in x)
 
 abbrev pub units_in : Books → List OpenUnit
 units_in x = map seen x.units.items
+
+abbrev pub begun_in : Books → ℕ
+begun_in x = x.unit_count
 
 abbrev pub turns_in : Books → List Id
 turns_in x = x.to_go.items
@@ -76,9 +83,9 @@ AreLoaded (Some r) rows es = (q : Place) → row_at q rows ≡ (if is_within r q
 
 -- the books have the state's units and numbers, and know what it keeps but for the rows of tables; they see no phase and no line
 pub record AreBooks (x : Books) (s : UnitState) : Type 0 where
-  pub known : IsKnown x.known s.kept
+  pub known : IsKnown (known_in x) s.kept
   pub units : units_in x ≡ s.units
-  pub unit_count : x.unit_count ≡ s.unit_count
+  pub unit_count : begun_in x ≡ s.unit_count
   pub base_count : x.base_count ≡ s.base_count
   pub to_go : turns_in x ≡ s.to_go
   pub early : x.early ≡ s.early

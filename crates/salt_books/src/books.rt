@@ -1,6 +1,6 @@
 //! The books, and how units begin and wait.
 
-ghost use Rattle.salt_books.specs.Books.{AreBooks, HaveUnit, seen};
+ghost use Rattle.salt_books.specs.Books.{AreBooks, HaveUnit, begun_in, known_in, seen};
 ghost use Rattle.law_states.specs.OpenUnits.{UnitState, names_in};
 ghost use Rattle.law_states.specs.Rising.{Rising};
 ghost use Rattle.law_states.specs.Steps.{units_after};
@@ -96,8 +96,8 @@ impl Books {
 
     /// What is known of the database, and how many units have begun in this boot.
     pub fn into_parts(self) -> (Known, u64)
-        ensures known { result.0 ≡ self.known }
-        ensures begun { result.1 ≡ self.unit_count }
+        ensures known { result.0 ≡ known_in self }
+        ensures begun { result.1 ≡ begun_in self }
     {
         let Books {
             alloc: _alloc,

@@ -1,6 +1,6 @@
 //! How units do statements and end.
 
-ghost use Rattle.salt_books.specs.Books.{AreBooks, AreLoaded, HaveUnit, IsUnitAtPart, seen};
+ghost use Rattle.salt_books.specs.Books.{AreBooks, AreLoaded, HaveUnit, IsUnitAtPart, seen, tables_in};
 ghost use Rattle.salt_books.specs.Ends.{IsUndecided};
 ghost use Rattle.salt_eval.specs.Scans.{IsKeyed};
 ghost use Rattle.salt_eval.specs.Views.{tables_of};
@@ -38,7 +38,7 @@ impl Books {
         statement: &Boxed<Statement>,
     ) -> Result<Answer, AllocError>
         requires there { HaveUnit self.old unit }
-        requires leaves_keys { leaves_keys self.old.known.schema statement.now ≡ true }
+        requires leaves_keys { leaves_keys (tables_in self.old) statement.now ≡ true }
         requires keyed { IsKeyed (tables_of rows.now.entries) }
         ensures answer { IfOk result (λ answer. (s : UnitState) (o : OpenUnit) → AreBooks self.old s → Rising (names_in s.units)
             → unit_named unit s.units ≡ Some o → AreLoaded (reach (schema_of s.kept) o.vars statement.now) (tables_of rows.now.entries) s.kept.tables

@@ -61,7 +61,7 @@ impl Drop for Known {
 pub type Defined = (u64, Bytes);
 
 impl Known {
-    ghost use Rattle.salt_books.specs.Known.{AllLeadOn, IsKnown};
+    ghost use Rattle.salt_books.specs.Known.{AllLeadOn, IsKnown, boot_known, conts_known, decisions_known, programs_known, tables_known};
     ghost use Rattle.salt_books.specs.Moves.{CanMove, IsAtPart, MovesTo};
 
     /// What a storage was found to hold.
@@ -90,10 +90,10 @@ impl Known {
 
     /// The tables and the programs defined, the boot, and the number of the last decision.
     pub fn into_parts(self) -> (Schema, Catalogue, u64, u64)
-        ensures schema { result.0 ≡ self.schema }
-        ensures catalogue { result.1 ≡ self.catalogue }
-        ensures boot { result.2 ≡ self.boot }
-        ensures decisions { result.3 ≡ self.decisions }
+        ensures schema { result.0 ≡ tables_known self }
+        ensures catalogue { result.1 ≡ programs_known self }
+        ensures boot { result.2 ≡ boot_known self }
+        ensures decisions { result.3 ≡ decisions_known self }
     {
         let Known {
             alloc: _alloc,
@@ -109,28 +109,28 @@ impl Known {
 
     /// The tables defined.
     pub fn schema(&self) -> &Schema
-        ensures { result.now ≡ self.now.schema }
+        ensures { result.now ≡ tables_known self.now }
     {
         &self.schema
     }
 
     /// The programs defined.
     pub fn catalogue(&self) -> &Catalogue
-        ensures { result.now ≡ self.now.catalogue }
+        ensures { result.now ≡ programs_known self.now }
     {
         &self.catalogue
     }
 
     /// The number of the boot.
     pub fn boot(&self) -> u64
-        ensures { result ≡ self.now.boot }
+        ensures { result ≡ boot_known self.now }
     {
         self.boot
     }
 
     /// The number of the last decision, 0 before the first.
     pub fn decisions(&self) -> u64
-        ensures { result ≡ self.now.decisions }
+        ensures { result ≡ decisions_known self.now }
     {
         self.decisions
     }
@@ -158,7 +158,7 @@ impl Known {
 
     /// Where the programs go on that are accepted and not finished, in the order in which they were accepted.
     pub fn conts(&self) -> &[Cont]
-        ensures { result.now ≡ self.now.conts }
+        ensures { result.now ≡ conts_known self.now }
     {
         self.conts.as_slice()
     }
@@ -232,7 +232,7 @@ impl Known {
 
     /// The move that a unit of this kind will make as it commits with these variables, by the next decision.
     pub fn move_of_commit(&self, kind: &UnitKind, vars: &Vars) -> Result<Move, AllocError>
-        requires { AllLeadOn self.now.catalogue }
+        requires { AllLeadOn (programs_known self.now) }
         ensures { IfOk result (λ made. (k : Kept) → IsKnown self.now k → IsAtPart k kind.now → CanMove k kind.now
             → MovesTo made k (conts_committed k (k.decisions + 1) kind.now vars.now)) }
     {
@@ -250,7 +250,7 @@ impl Known {
 
     /// The move that a unit of this kind will make as it fails, where its program goes on behind the failure.
     pub fn move_of_branch(&self, kind: &UnitKind) -> Result<Move, AllocError>
-        requires { AllLeadOn self.now.catalogue }
+        requires { AllLeadOn (programs_known self.now) }
         ensures { IfOk result (λ made. (k : Kept) → IsKnown self.now k → IsAtPart k kind.now → CanMove k kind.now
             → MovesTo made k (conts_branched k kind.now)) }
     {
@@ -265,7 +265,7 @@ impl Known {
 
     /// A decided unit has made this move. The number of the decision.
     pub fn commit(&mut self, made: Move) -> Result<u64, AllocError>
-        ensures number { IfOk result (λ number. number ≡ self.old.decisions + 1) }
+        ensures number { IfOk result (λ number. number ≡ decisions_known self.old + 1) }
         ensures kept { OnOk result ((k : Kept) (conts : List Cont) → IsKnown self.old k → MovesTo made k conts
             → (es : Tables) → IsKnown self.new (record k { decisions = k.decisions + 1; tables = es; conts = conts })) }
     {
@@ -280,8 +280,8 @@ impl Known {
 
     /// Defines a table that is not refused.
     pub fn define_table(&mut self, def: &TableDef) -> Result<Defined, AllocError>
-        requires { table_refusal self.old.schema def.now ≡ None }
-        ensures told { IfOk result (λ defined. (defined.0 ≡ self.old.decisions + 1) × (defined.1 ≡ table_text def.now)) }
+        requires { table_refusal (tables_known self.old) def.now ≡ None }
+        ensures told { IfOk result (λ defined. (defined.0 ≡ decisions_known self.old + 1) × (defined.1 ≡ table_text def.now)) }
         ensures kept { OnOk result ((k : Kept) → IsKnown self.old k → IsKnown self.new (record k {
           decisions = k.decisions + 1;
           definitions = k.definitions ++ OfTable def.now ∷ [];
@@ -302,8 +302,8 @@ impl Known {
     /// Defines a program that is not refused.
     pub fn define_program(&mut self, def: &ProgramDef) -> Result<Defined, AllocError>
         requires parts { length (parts_in def.now.body) < 2 ^ 32 }
-        requires allowed { program_refusal self.old.schema self.old.catalogue def.now ≡ None }
-        ensures told { IfOk result (λ defined. (defined.0 ≡ self.old.decisions + 1) × (defined.1 ≡ program_text def.now)) }
+        requires allowed { program_refusal (tables_known self.old) (programs_known self.old) def.now ≡ None }
+        ensures told { IfOk result (λ defined. (defined.0 ≡ decisions_known self.old + 1) × (defined.1 ≡ program_text def.now)) }
         ensures kept { OnOk result ((k : Kept) → IsKnown self.old k → IsKnown self.new (record k {
           decisions = k.decisions + 1;
           definitions = k.definitions ++ OfProgram def.now ∷ [];

@@ -3,7 +3,7 @@
 ghost use Rattle.salt_ast.specs.ProgramTexts.{program_text};
 ghost use Rattle.salt_ast.specs.Texts.{table_text};
 ghost use Rattle.salt_ast.specs.declared.lines.Line.TheVariants.{Program, Table};
-ghost use Rattle.salt_books.specs.Books.{AreBooks, seen};
+ghost use Rattle.salt_books.specs.Books.{AreBooks, programs_in, seen, tables_in};
 ghost use Rattle.law_states.specs.OpenUnits.{UnitState, can_go_in, is_not_waiting, next_to_go_in, next_turn_in, turn_owed_in};
 ghost use Rattle.law_states.specs.Steps.{to_go_by, units_after, units_asked, units_turned};
 ghost use Rattle.law_states.specs.Told.{next_decision};
@@ -184,7 +184,7 @@ impl Books {
 
     /// Defines a table that is not refused, by the line that is its tree. The number of the decision and the canonical text.
     pub fn define_table(&mut self, def: &TableDef) -> Result<Defined, AllocError>
-        requires { table_refusal self.old.known.schema def.now ≡ None }
+        requires { table_refusal (tables_in self.old) def.now ≡ None }
         ensures told { IfOk result (λ defined. (s : UnitState) → AreBooks self.old s
             → (defined.0 ≡ next_decision s) × (defined.1 ≡ table_text def.now)) }
         ensures state { OnOk result ((s : UnitState) → AreBooks self.old s → s.line ≡ Table def.now
@@ -197,7 +197,7 @@ impl Books {
     /// Defines a program that is not refused, by the line that is its tree. The number of the decision and the canonical text.
     pub fn define_program(&mut self, def: &ProgramDef) -> Result<Defined, AllocError>
         requires parts { length (parts_in def.now.body) < 2 ^ 32 }
-        requires allowed { program_refusal self.old.known.schema self.old.known.catalogue def.now ≡ None }
+        requires allowed { program_refusal (tables_in self.old) (programs_in self.old) def.now ≡ None }
         ensures told { IfOk result (λ defined. (s : UnitState) → AreBooks self.old s
             → (defined.0 ≡ next_decision s) × (defined.1 ≡ program_text def.now)) }
         ensures state { OnOk result ((s : UnitState) → AreBooks self.old s → s.line ≡ Program def.now
