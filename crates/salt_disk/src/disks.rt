@@ -6,17 +6,22 @@ ghost use Rattle.salt_disk.specs.Disks.{HasCause, FullExactly, NeverFull, OnlyFa
 ghost use Rattle.salt_disk.specs.declared.disks.DiskErr.TheVariants.{Full, Memory, Stopped};
 
 use std::alloc::{AllocError, AllocFailed};
+use thiserror::Error;
 
 /// Why a device call has not done what it was asked to.
-#[derive(Clone, Copy, Debug, PartialEq, Eq)]
+#[derive(Clone, Copy, Debug, PartialEq, Eq, Error)]
 pub enum DiskErr {
     /// The disks have failed. Until a restart nothing is known of a device but its images.
+    #[error("the disks failed")]
     Failed,
     /// A stop that was armed came, and nothing is pending.
+    #[error("the disks stopped")]
     Stopped,
     /// The write would pass the limit of the device of this number, and has changed nothing.
+    #[error("device {0} is full")]
     Full(u32),
     /// No memory was left, and nothing has changed.
+    #[error("no memory is left")]
     Memory,
 }
 
