@@ -11,6 +11,7 @@ pub mod Made
 pub mod Meant
 pub mod Moving
 pub mod Named
+pub mod Numbering
 pub mod OneHeld
 pub mod Phases
 pub mod Replaced

@@ -3,6 +3,7 @@
 ghost use Rattle.salt_ast.specs.ProgramTexts.{program_text};
 ghost use Rattle.salt_ast.specs.Texts.{table_text};
 ghost use Rattle.salt_model.specs.Kept.{Kept, OfProgram, OfTable, block_of_kind, cont_of, conts_branched, conts_committed, kept_program, programs_of, schema_of, vars_of_kind};
+ghost use Rattle.salt_model.specs.Locks.{base_tables};
 ghost use Rattle.salt_model.specs.Refusals.{is_base_program};
 ghost use Rattle.salt_model.specs.Tables.{Tables};
 ghost use Rattle.salt_values.specs.Id.{in_order};
@@ -19,6 +20,7 @@ use crate::blocks::{block_of_call, block_of_part, is_base_program};
 use crate::conts::{cont_among, make_move};
 use crate::ids::bases_in_order;
 use crate::moves::{move_of_branch, move_of_commit};
+use crate::tables::base_tables;
 use crate::texts::{program_text, table_text};
 use salt_ast::{ProgramDef, Statement, TableDef};
 use salt_cont::Move;
@@ -168,6 +170,13 @@ impl Known {
         ensures { IfOk result (λ ids. (k : Kept) → IsKnown self.now k → ids.items ≡ in_order (map (λ (c : Cont). c.base) k.conts)) }
     {
         bases_in_order(self.alloc, self.conts.as_slice())
+    }
+
+    /// The numbers of the base tables, rising.
+    pub fn base_tables(&self) -> Result<Vec<u16>, AllocError>
+        ensures { IfOk result (λ numbers. (k : Kept) → IsKnown self.now k → numbers.items ≡ base_tables k) }
+    {
+        base_tables(self.alloc, &self.schema, &self.catalogue)
     }
 
     fn vars_of_call(&self, program: &Name, args: &Row) -> Result<Vars, AllocError>

@@ -18,6 +18,7 @@ mod laws;
 mod looks;
 mod moves;
 mod openings;
+mod tables;
 mod texts;
 mod turns;
 

@@ -19,7 +19,7 @@ pub use error::StatementErr;
 pub use laws::statements_see_their_reach;
 pub use map_view::{MapView, Tables};
 pub use meets::meets_table;
-pub use reaches::reach;
+pub use reaches::{reach, table_in};
 pub use scan::key_of;
 pub use statements::execute;
 pub use view::{RowView, ViewErr};
