@@ -1,12 +1,16 @@
 //! The scheduler: units, locks and programs together.
 
 ghost use Rattle.salt_books.specs.Books.{AreBooks};
+ghost use Rattle.salt_books.specs.Called.{name_told};
+ghost use Rattle.salt_conflicts.specs.Watched.{IsWatch};
+ghost use Rattle.law_states.specs.Members.{In};
 ghost use Rattle.law_states.specs.Nexts.{next_turn_of};
 ghost use Rattle.law_states.specs.OpenUnits.{UnitState};
 ghost use Rattle.law_states.specs.States.{State, asked_of, turned_to};
 ghost use Rattle.law_states.specs.Watches.{empty_watch};
 ghost use Rattle.salt_model.specs.Kept.{schema_of};
 ghost use Rattle.salt_model.specs.Trace.{Tree};
+ghost use Rattle.salt_values.specs.declared.id.Id.{Id};
 ghost use Rattle.std.specs.Prelude.{OnOk, Some, [], ◌≡◌};
 
 use crate::follow::Follow;
@@ -54,6 +58,22 @@ impl Scheduler {
             books,
             watch: Watching::new(alloc, Vec::new(alloc)),
             called: CalledNames::new(alloc),
+            follow: Follow::Nothing,
+            calm: true,
+        }
+    }
+
+    /// A scheduler behind an early opening, over these books, which have no unit: this is watched, in which no unit waits, and by these
+    /// names the programs were called that are watched.
+    pub fn resumed(alloc: Global, books: Books, watch: Watching, called: CalledNames) -> Scheduler
+        ensures { (s : State) → AreBooks books s.units → s.units.units ≡ [] → IsTurning s.units → IsWatch watch s.watch → s.watch.waits ≡ []
+            → ((b : Id) → In b s.watch.programs → name_told called b ≡ Some (s.names b)) → StandsForState result s }
+    {
+        Scheduler {
+            alloc,
+            books,
+            watch,
+            called,
             follow: Follow::Nothing,
             calm: true,
         }
