@@ -62,6 +62,9 @@ begun_in x = x.unit_count
 abbrev pub turns_in : Books → List Id
 turns_in x = x.to_go.items
 
+abbrev pub owes_turn : Books → Bool
+owes_turn x = x.owes
+
 -- WHAT THEY STAND FOR
 
 -- whether a unit that is held is a session's, and a program's

@@ -83,7 +83,7 @@ impl<S: Storage + Drop> Stepping for Database<S> {
 
     ghost waiting = { λ x. by_half (λ o. []) engine_waits [] x };
 
-    ghost turns = { λ x. by_half (λ o. []) engine_turns [] x };
+    ghost turns = { λ x. by_half (λ o. 0) engine_turns 0 x };
 
     ghost serves = { IsServed };
 

@@ -11,7 +11,7 @@ ghost use Rattle.salt_storage.specs.Answers.{disk_err};
 ghost use Rattle.salt_storage.specs.Staying.{StaysWithin};
 ghost use Rattle.law_types.specs.Played.{HasKey};
 ghost use Rattle.salt_place.specs.Placement.{GivesPlaceOf, TakesEachKey};
-ghost use Rattle.std.specs.Prelude.{IfErr, None, OnOk, Some, [], ◌++◌, ◌∷◌, ◌≡◌};
+ghost use Rattle.std.specs.Prelude.{IfErr, None, OnOk, Some, [], ◌++◌, ◌∷◌, ◌≡◌, ◌≤◌};
 
 use crate::engine::Stepping;
 use salt_ast::Line;
@@ -37,7 +37,7 @@ fn settle<E: Stepping, D: Disks, F: Fn(PlaceKind, &Key, u32) -> u32>(
         Advances (E.sees (D.view disks.new)) line.now p story.old engine.new None story.new) }
     ensures err { IfErr result (λ halt. (p : Point) → IsSoundPoint p → IsAt (E.sees (D.view disks.old)) line.now engine.old first p →
         StopsWithin (E.lies (D.view disks.new) engine.new 0) (E.left (D.view disks.new) engine.new None 0) (E.fills (D.view disks.new) engine.new) (E.flight engine.new) halt p story.old story.new) }
-    ensures turns { OnOk result (E.turns engine.new ≡ E.turns engine.old) }
+    ensures turns { OnOk result (E.turns engine.new ≤ E.turns engine.old) }
     ensures refused { (refusal : Refusal) → first ≡ Some (Refused refusal) → disks.new ≡ disks.old }
     ensures within { StaysWithin (E.asked engine.old) (E.asked engine.new) (D.view disks.old) (D.view disks.new) }
     ensures counts { CountsMore (D.view disks.old) (D.view disks.new) (disk_err result) first story.old story.new }

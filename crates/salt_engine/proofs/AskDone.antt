@@ -3,32 +3,31 @@ use Rattle.salt_ast.specs.declared.lines.Line.TheVariants.{Crash}
 use Rattle.salt_ast.specs.declared.lines.Line.{Line}
 use Rattle.salt_engine.proofs.Halting.{halts}
 use Rattle.salt_engine.proofs.LineGoes.{asked-moves, asked-played, asked-serves, asked_to, turned-moves, turned-played, turned-serves, turned_at}
-use Rattle.salt_engine.proofs.Stages.{goes-now, serves-now}
+use Rattle.salt_engine.proofs.Stages.{turns-here, turns-now}
 use Rattle.salt_engine.specs.Flights.{flight_of}
 use Rattle.salt_engine.specs.Performing.{BreaksOff, IsServed, IsToAskIn, Performs, TurnsIn}
-use Rattle.salt_engine.specs.Standing.{LeavesOnDevices, CanReopenAt, AgreesWithState, StandsAtEventIn, goes_in, serving_books}
+use Rattle.salt_engine.specs.Standing.{LeavesOnDevices, CanReopenAt, AgreesWithState, StandsAtEventIn, serving_books, turns_by, turns_in}
 use Rattle.salt_engine.specs.declared.flights.InFlight.{InFlight}
 use Rattle.salt_engine.specs.declared.stage.Stage.TheVariants as at
 use Rattle.salt_engine.specs.declared.stage.Stage.{Stage}
 use Rattle.salt_books.specs.Sound.{IsSoundState}
-use Rattle.law_states.proofs.PointsGoOn.{turn-kept}
 use Rattle.law_states.specs.Members.{In}
 use Rattle.law_states.specs.Nexts.{asked_next, next_turn_of, turned_next}
+use Rattle.law_states.specs.OpenUnits.{UnitState, can_go_in, next_to_go_in, next_turn_in, turn_owed_in}
 use Rattle.law_states.specs.Points.{Ask, IsIdle, Moves, Point, Turn}
 use Rattle.law_states.specs.Readings.{WatchReading}
 use Rattle.law_states.specs.States.{State, asked_of, turned_to}
+use Rattle.law_states.specs.Steps.{units_turned}
 use Rattle.law_story.proofs.Ids.{is_same_id-refl}
-use Rattle.law_story.proofs.LateOpenings.{as-ever}
 use Rattle.law_story.proofs.NextFits.{find-in}
 use Rattle.salt_model.specs.Kept.{Kept}
 use Rattle.salt_model.specs.Phases.{Serving}
 use Rattle.salt_model.specs.Trace.{Asked, Tree, line_asked}
-use Rattle.salt_model.specs.Turns.{can_go, ids_after, is_statement_line, still_to_go}
+use Rattle.salt_model.specs.Turns.{ids_after, is_statement_line}
 use Rattle.salt_model.specs.declared.events.Event.{Event}
 use Rattle.salt_scheduler.proofs.Counting.{programs-apart}
 use Rattle.salt_scheduler.specs.declared.scheduler.Scheduler.{Scheduler}
 use Rattle.law_decisions.specs.Spelled.{IsSpelledLine}
-use Rattle.salt_driver.proofs.Advancing.{sound-moved}
 use Rattle.salt_driver.specs.Opening.{HasPlainStart}
 use Rattle.salt_driver.specs.Standing.{HaltsAt, IsAt, IsSoundPoint}
 use Rattle.salt_storage.specs.Storing.{IsSoundKept}
@@ -38,9 +37,10 @@ use Rattle.law_types.specs.Played.{HasKey}
 use Rattle.salt_values.specs.Id.{is_same_id}
 use Rattle.salt_values.specs.declared.id.Id.{Id}
 use Rattle.salt_conflicts.proofs.Readable.{readable}
-use Rattle.std.proofs.Common.{arith, inl, inr, subst, sym, ◌∙◌}
+use Rattle.std.proofs.Common.{ap, arith, inl, inr, subst, sym, ◌∙◌}
 use Rattle.std.specs.List.{find}
-use Rattle.std.specs.Prelude.{Bool, Err, IfOk, IsSome, List, None, Ok, OnOk, Option, Result, Some, [], cond, false, length, refl, true, ℕ, ⊤, ◌<◌, ◌∷◌, ◌≡◌}
+use Rattle.std.specs.Option.{option_or}
+use Rattle.std.specs.Prelude.{Bool, Err, IfOk, IsSome, List, None, Ok, OnOk, Option, Result, Some, [], cond, false, if◌then◌else◌, is_some, length, refl, true, ℕ, ⊤, ◌&&◌, ◌<◌, ◌∷◌, ◌≡◌, ◌≤◌}
 
 pub sound-here : (p : Point) → IsSoundPoint p → IsSoundState p.state
 sound-here p sound = record { trace = sound.trace; keeps = sound.keeps.state; sound = sound.sound }
@@ -136,7 +136,7 @@ turned-sees holds is_new old now was single stage in_flight meant given b s h ca
   flies = h.flies;
 }
 
--- the programs to which it has still to turn are fewer
+-- a turn leaves fewer to come: one of `go all` is behind it, or the one that was owed
 
 shorter : (b : Id) (bs : List Id) → In b bs → length (ids_after b bs) < length bs
 shorter b [] i = absurd i
@@ -147,23 +147,36 @@ shorter b (c ∷ bs) i = by (is_same_id b c) refl i (λ j. shorter b bs j)
     by false e (inl q) more = let t : true ≡ false = sym (subst (λ x. is_same_id b x ≡ true) (sym q) (is_same_id-refl b)) ∙ e in cc
     by false e (inr j) more = let h = more j in omega arith
 
--- where openings are not early, each turn is one of `go all`
-turn-goes : (b : Id) (p : Point) → IsSoundPoint p → HasPlainStart p.state → next_turn_of p.state ≡ Some b → In b p.state.units.to_go
-turn-goes b p sound plain turn =
-    let trace = sound.trace in
-    let keeps = sound.keeps.state in
-    let late = as-ever trace sound.sound.played (keeps.units.early ∙ plain.early) in
-    let goes : find (can_go trace) (still_to_go trace) ≡ Some b = sym late.turn ∙ turn-kept p.state trace keeps ∙ turn in
-    subst (In b) keeps.units.to_go (find-in (can_go trace) b (still_to_go trace) goes).0
+no-longer : (b : Id) (bs : List Id) → length (ids_after b bs) ≤ length bs
+no-longer b [] = omega arith
+no-longer b (c ∷ bs) = by (is_same_id b c) (no-longer b bs)
+  where
+    by : (t : Bool) → length (ids_after b bs) ≤ length bs → length (cond t bs (ids_after b bs)) ≤ length (c ∷ bs)
+    by true h = omega arith
+    by false h = omega arith
 
-pub turned-fewer : (holds now : Kept → Type 0) (is_new new_now : Id → Type 0) (stage later : Stage Scheduler) (b : Id) (given : Option Event) (p : Point) (sound : IsSoundPoint p)
-    (serves : p.state.units.phase ≡ Serving) (none : p.next ≡ None) (turn : next_turn_of p.state ≡ Some b) (r : WatchReading p.state.watch) → HasPlainStart p.state →
-    StandsAtEventIn holds is_new stage None p.state → StandsAtEventIn now new_now later given (turned_to b p.state) → given ≡ turned_next p.state r b → length (goes_in later) < length (goes_in stage)
-turned-fewer holds now is_new new_now stage later b given p sound serves none turn r plain seen sees told =
-    let q = turned_at b p sound serves none turn r in
-    let moved : IsSoundPoint q = sound-moved (Turn b) p q tt sound (turned-moves b p sound serves none turn r) in
-    let there = serves-now now new_now later given (turned_to b p.state) sees in
-    let after : goes_in later ≡ (turned_to b p.state).units.to_go = goes-now now new_now later given (turned_to b p.state) sees there in
-    let before : goes_in stage ≡ p.state.units.to_go = goes-now holds is_new stage None p.state seen (serves-now holds is_new stage None p.state seen) in
-    subst (λ (us : List Id). length us < length (goes_in stage)) (sym after)
-    (subst (λ (us : List Id). length (turned_to b p.state).units.to_go < length us) (sym before) (shorter b p.state.units.to_go (turn-goes b p sound plain turn)))
+pub turns-fall : (s : UnitState) (b : Id) → next_turn_in s ≡ Some b → turns_by (units_turned b s).to_go (units_turned b s).owes < turns_by s.to_go s.owes
+turns-fall s b turn = by (next_to_go_in s) refl turn
+  where
+    goes : (owes : Bool) → length (ids_after b s.to_go) < length s.to_go → turns_by (ids_after b s.to_go) (owes && true) < turns_by s.to_go owes
+    goes true less = omega arith
+    goes false less = omega arith
+
+    owed : (owes : Bool) → (if owes then find (can_go_in s) s.named else None) ≡ Some b → turns_by (ids_after b s.to_go) (owes && false) < turns_by s.to_go owes
+    owed true h = let less = no-longer b s.to_go in omega arith
+    owed false h = cc
+
+    by : (o : Option Id) → next_to_go_in s ≡ o → option_or o (turn_owed_in s) ≡ Some b → turns_by (ids_after b s.to_go) (s.owes && is_some o) < turns_by s.to_go s.owes
+    by (Some c) is h =
+        let same : c ≡ b = cc in
+        let found : find (can_go_in s) s.to_go ≡ Some b = is ∙ ap (λ (d : Id). Some d) same in
+        goes s.owes (shorter b s.to_go (find-in (can_go_in s) b s.to_go found).0)
+    by None is h = owed s.owes h
+
+pub turned-fewer : (holds now : Kept → Type 0) (is_new new_now : Id → Type 0) (stage later : Stage Scheduler) (b : Id) (given : Option Event) (s : State) → next_turn_of s ≡ Some b →
+    StandsAtEventIn holds is_new stage None s → StandsAtEventIn now new_now later given (turned_to b s) → turns_in later < turns_in stage
+turned-fewer holds now is_new new_now stage later b given s turn seen sees =
+    let before = turns-here holds is_new stage s seen in
+    let after = turns-now now new_now later given (turned_to b s) sees in
+    let less = turns-fall s.units b turn in
+    omega arith

@@ -6,10 +6,10 @@ use Rattle.salt_engine.proofs.Going.{flight-decides}
 use Rattle.salt_engine.proofs.Halting.{halts, memory-as}
 use Rattle.salt_engine.proofs.InStage.{broken-out, followed}
 use Rattle.salt_engine.proofs.ServingGoes.{goes, meant, moves, plain, point, read, serves, serves-on}
-use Rattle.salt_engine.proofs.Stages.{goes-now, left-at, serves-now}
+use Rattle.salt_engine.proofs.Stages.{left-at, serves-now, turns-done, turns-now}
 use Rattle.salt_engine.specs.Flights.{IsInFlight, flight_of}
 use Rattle.salt_engine.specs.Performing.{BreaksOff, GoesOnServingIn, Performs, broken_by}
-use Rattle.salt_engine.specs.Standing.{IsGoingStage, LeavesOnDevices, CanReopenAt, AgreesWithState, StandsAtEventIn, follow_in, goes_in, waits_in, serving_books}
+use Rattle.salt_engine.specs.Standing.{IsGoingStage, LeavesOnDevices, CanReopenAt, AgreesWithState, StandsAtEventIn, follow_in, serving_books, turns_in, waits_in}
 use Rattle.salt_engine.specs.Stored.{Stored, kept_behind}
 use Rattle.salt_engine.specs.declared.flights.InFlight.{InFlight}
 use Rattle.salt_engine.specs.declared.stage.Stage.TheVariants as at
@@ -31,7 +31,6 @@ use Rattle.salt_scheduler.specs.Standing.{HasDoneEvent, behind_in}
 use Rattle.salt_scheduler.specs.declared.scheduler.Scheduler.{Scheduler}
 use Rattle.salt_driver.proofs.Advancing.{sound-moved}
 use Rattle.salt_driver.proofs.PlainStarts.{plain-after}
-use Rattle.salt_driver.proofs.RefusedAlone.{to-go-stays}
 use Rattle.salt_driver.proofs.Refusing.{refused-rests}
 use Rattle.salt_driver.specs.Opening.{HasPlainStart}
 use Rattle.salt_driver.specs.Standing.{BreaksAt, IsAt, IsSoundPoint, left_to_come}
@@ -40,8 +39,8 @@ use Rattle.salt_storage.specs.Writing.{ToWrite}
 use Rattle.salt_storage.specs.declared.halt.Halt.TheVariants.{Memory}
 use Rattle.salt_storage.specs.declared.halt.Halt.{Halt}
 use Rattle.salt_values.specs.declared.id.Id.{Id}
-use Rattle.std.proofs.Common.{ap, inl, inr, subst, sym, ◌∙◌}
-use Rattle.std.specs.Prelude.{Bool, IsSome, List, None, Option, Some, [], refl, ℕ, ⊤, ◌++◌, ◌<◌, ◌∷◌, ◌≡◌}
+use Rattle.std.proofs.Common.{ap, arith, inl, inr, subst, sym, ◌∙◌}
+use Rattle.std.specs.Prelude.{Bool, IsSome, List, None, Option, Some, [], refl, ℕ, ⊤, ◌++◌, ◌<◌, ◌∷◌, ◌≡◌, ◌≤◌}
 
 -- while it serves it has not fallen
 pub never-fallen : (p : Point) → p.state.units.phase ≡ Serving → p.state.units.phase ≡ Fallen → ⊥
@@ -127,7 +126,7 @@ module _ (line : Line) (x : Scheduler) (e : Event) (p : Point) (sound : IsSoundP
         memory,
       )
 
-  -- less is still to come, and it has still to turn to as many programs
+  -- less is still to come, and no more turns
 
   now-sound : IsSoundPoint now
   now-sound = sound-moved (Say e) p now tt sound (moves line x e p sound t d comes phase served)
@@ -148,12 +147,12 @@ module _ (line : Line) (x : Scheduler) (e : Event) (p : Point) (sound : IsSoundP
       (subst (λ (o : Option Event). to_come (waiters t) o < to_come (waiters p.state) (Some e)) (sym m.0.next ∙ sym told)
       (to-come-falls e p.state t m.0.read p.flight m.1 (serves line x e p sound t d comes phase served).phase d.after)))
 
-  pub said-turns : (holds later : Kept → Type 0) (is_new new_later : Id → Type 0) (old stage : Stage Scheduler) (given : Option Event) → StandsAtEventIn holds is_new old (Some e) p.state →
-      StandsAtEventIn later new_later stage given t → given ≡ wanted → goes_in stage ≡ goes_in old
-  said-turns holds later is_new new_later old stage given seen sees told =
-      goes-now later new_later stage given t sees (stage-now later new_later stage given sees)
-      ∙ ap (λ (s : UnitState). s.to_go) d.after.units ∙ to-go-stays e p.state.units (plain line x e p sound t d comes phase served)
-      ∙ sym (goes-now holds is_new old (Some e) p.state seen (serves-now holds is_new old (Some e) p.state seen))
+  pub said-turns : (later : Kept → Type 0) (new_later : Id → Type 0) (old stage : Stage Scheduler) (given : Option Event) → old ≡ at.Going x →
+      StandsAtEventIn later new_later stage given t → turns_in stage ≤ turns_in old
+  said-turns later new_later old stage given there sees =
+      let before = turns-done old x e p.state t there d in
+      let after = turns-now later new_later stage given t sees in
+      omega arith
 
   -- behind a refusal nothing comes
   pub said-rests : (r : Refusal) → e ≡ Refused r → wanted ≡ None

@@ -1,13 +1,15 @@
 -- At which stage an engine is, by the phase of the state that it sees; and what it has at hand there.
 use Rattle.salt_engine.proofs.Going.{says-keeps}
-use Rattle.salt_engine.proofs.Waiting.{goes-behind, left-now}
-use Rattle.salt_engine.specs.Standing.{IsGoingStage, StandsAtEventIn, goes_in, waits_in}
+use Rattle.salt_engine.proofs.Waiting.{left-now, no-more-turns, turns-of}
+use Rattle.salt_engine.specs.Standing.{IsGoingStage, StandsAtEventIn, turns_by, turns_in, waits_in}
 use Rattle.salt_engine.specs.Stored.{Stored}
 use Rattle.salt_engine.specs.declared.stage.Stage.TheVariants as at
 use Rattle.salt_engine.specs.declared.stage.Stage.{Stage}
+use Rattle.law_states.specs.OpenUnits.{UnitState}
 use Rattle.law_states.specs.Points.{Point}
 use Rattle.law_states.specs.Settling.{to_come, waiters}
 use Rattle.law_states.specs.States.{State}
+use Rattle.law_states.specs.Steps.{units_after}
 use Rattle.salt_model.specs.Kept.{Kept}
 use Rattle.salt_model.specs.declared.events.Event.{Event}
 use Rattle.salt_scheduler.proofs.Following.{not-of-run}
@@ -15,8 +17,8 @@ use Rattle.salt_scheduler.specs.Standing.{HasDoneEvent}
 use Rattle.salt_scheduler.specs.declared.scheduler.Scheduler.{Scheduler}
 use Rattle.salt_driver.specs.Standing.{IsSoundPoint, left_to_come}
 use Rattle.salt_values.specs.declared.id.Id.{Id}
-use Rattle.std.proofs.Common.{subst}
-use Rattle.std.specs.Prelude.{None, Option, Some, refl, ◌≡◌}
+use Rattle.std.proofs.Common.{ap, arith, subst, ◌∙◌}
+use Rattle.std.specs.Prelude.{None, Option, Some, refl, ◌≡◌, ◌≤◌}
 
 pub serves-now : (holds : Kept → Type 0) (is_new : Id → Type 0) (stage : Stage Scheduler) (given : Option Event) (s : State) → StandsAtEventIn holds is_new stage given s → IsGoingStage stage
 serves-now holds is_new (at.Going x) given s h = tt
@@ -34,17 +36,30 @@ pub seen-at : (holds : Kept → Type 0) (is_new : Id → Type 0) (stage now : St
     StandsAtEventIn holds is_new now given s
 seen-at holds is_new stage now given s same h = subst (λ (q : Stage Scheduler). StandsAtEventIn holds is_new q given s) same h
 
--- what is still to come, and where `go all` has still to turn
+-- how many turns may still come, between events and with one at hand; and what is still to come
 
-goes-seen : (holds : Kept → Type 0) (is_new : Id → Type 0) (x : Scheduler) (given : Option Event) (s : State) → StandsAtEventIn holds is_new (at.Going x) given s → x.books.to_go.items ≡ s.units.to_go
-goes-seen holds is_new x None s h = h.0.books.to_go
-goes-seen holds is_new x (Some e) s h = goes-behind x e s h.0 h.1
+pub turns-here : (holds : Kept → Type 0) (is_new : Id → Type 0) (stage : Stage Scheduler) (s : State) → StandsAtEventIn holds is_new stage None s →
+    turns_in stage ≡ turns_by s.units.to_go s.units.owes
+turns-here holds is_new (at.Going x) s h = turns-of x.books s.units h.0.books
+turns-here holds is_new (at.Down books) s h = absurd h
+turns-here holds is_new at.Lost s h = absurd h
 
-pub goes-now : (holds : Kept → Type 0) (is_new : Id → Type 0) (stage : Stage Scheduler) (given : Option Event) (s : State) → StandsAtEventIn holds is_new stage given s → IsGoingStage stage →
-    goes_in stage ≡ s.units.to_go
-goes-now holds is_new (at.Going x) given s h serves = goes-seen holds is_new x given s h
-goes-now holds is_new (at.Down books) given s h serves = absurd serves
-goes-now holds is_new at.Lost given s h serves = absurd serves
+-- the event at hand is done already
+pub turns-done : (stage : Stage Scheduler) (x : Scheduler) (e : Event) (s t : State) → stage ≡ at.Going x → HasDoneEvent x e s t → turns_in stage ≡ turns_by t.units.to_go t.units.owes
+turns-done stage x e s t there d = ap turns_in there ∙ turns-of x.books t.units d.behind.books
+
+pub turns-now : (holds : Kept → Type 0) (is_new : Id → Type 0) (stage : Stage Scheduler) (given : Option Event) (s : State) → StandsAtEventIn holds is_new stage given s →
+    turns_in stage ≤ turns_by s.units.to_go s.units.owes
+turns-now holds is_new (at.Going x) None s h = let same = turns-of x.books s.units h.0.books in omega arith
+turns-now holds is_new (at.Going x) (Some e) s h =
+    let t = h.0 in
+    let d = h.1 in
+    let same = turns-of x.books t.units d.behind.books in
+    let there : turns_by t.units.to_go t.units.owes ≡ turns_by (units_after e s.units).to_go (units_after e s.units).owes = ap (λ (u : UnitState). turns_by u.to_go u.owes) d.after.units in
+    let less = no-more-turns e s.units (not-of-run e d.served) in
+    omega arith
+turns-now holds is_new (at.Down books) given s h = absurd h
+turns-now holds is_new at.Lost given s h = absurd h
 
 left-seen : (holds : Kept → Type 0) (is_new : Id → Type 0) (x : Scheduler) (given : Option Event) (p : Point) → IsSoundPoint p → p.next ≡ given → StandsAtEventIn holds is_new (at.Going x) given p.state →
     left_to_come (waits_in (at.Going x)) given ≡ to_come (waiters p.state) given

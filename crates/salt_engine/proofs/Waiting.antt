@@ -1,32 +1,56 @@
--- The units that wait, and the programs to which `go all` has still to turn, are those of the engine's point.
-use Rattle.salt_engine.specs.Standing.{waits_in}
+-- The units that wait are those of the engine's point, and no event of a run brings a turn behind its line.
+use Rattle.salt_books.specs.Books.{AreBooks}
+use Rattle.salt_books.specs.declared.books.Books.{Books}
+use Rattle.salt_engine.specs.Standing.{turns_by, waits_in}
 use Rattle.salt_engine.specs.declared.stage.Stage.TheVariants.{Going}
 use Rattle.law_states.specs.KeptWaits.{Asker, asker}
+use Rattle.law_states.specs.Laws.{is_of_run}
 use Rattle.law_states.specs.OpenUnits.{UnitState}
 use Rattle.law_states.specs.Settling.{stage, to_come, waiters, waiters_after}
 use Rattle.law_states.specs.States.{Keeps, State}
+use Rattle.law_states.specs.Steps.{units_after}
 use Rattle.law_states.specs.Watches.{Watch}
 use Rattle.salt_model.specs.Trace.{Trace, ◌says◌}
 use Rattle.salt_model.specs.Units.{wait_list}
-use Rattle.salt_model.specs.declared.events.Event.TheVariants.{Did, Ended, Waits}
+use Rattle.salt_model.specs.declared.events.Event.TheVariants.{Began, Defined, Did, Down, Early, Ended, Opened, Ready, Refused, Waits}
 use Rattle.salt_model.specs.declared.events.Event.{Event}
-use Rattle.salt_scheduler.proofs.Following.{not-of-run}
-use Rattle.salt_scheduler.specs.Standing.{HasDoneEvent, StandsBehindEvent, watched_by}
+use Rattle.salt_scheduler.specs.Standing.{StandsBehindEvent, watched_by}
 use Rattle.salt_scheduler.specs.declared.follow.Follow.TheVariants.{Release}
 use Rattle.salt_scheduler.specs.declared.follow.Follow.{Follow}
 use Rattle.salt_scheduler.specs.declared.scheduler.Scheduler.{Scheduler}
-use Rattle.salt_driver.proofs.RefusedAlone.{to-go-stays}
 use Rattle.salt_driver.specs.Standing.{left_to_come}
 use Rattle.salt_values.specs.declared.id.Id.{Id}
 use Rattle.salt_conflicts.specs.Waiters.{waiter_of}
 use Rattle.salt_conflicts.specs.declared.waiters.Waiter.{Waiter}
 use Rattle.salt_conflicts.specs.declared.watching.Watching.{Watching}
-use Rattle.std.proofs.Common.{ap, sym, ◌∙◌}
-use Rattle.std.specs.Prelude.{List, Some, [], length, map, refl, ◌*◌, ◌+◌, ◌∷◌, ◌≡◌}
+use Rattle.std.proofs.Common.{ap, arith, sym, ◌∙◌}
+use Rattle.std.specs.Prelude.{Bool, List, Some, [], false, length, map, refl, true, ◌*◌, ◌+◌, ◌∷◌, ◌≡◌, ◌≤◌}
 
--- behind the event at hand it goes where it went before
-pub goes-behind : (x : Scheduler) (e : Event) (s t : State) → HasDoneEvent x e s t → x.books.to_go.items ≡ s.units.to_go
-goes-behind x e s t d = d.behind.books.to_go ∙ ap (λ (u : UnitState). u.to_go) d.after.units ∙ to-go-stays e s.units (not-of-run e d.served)
+-- an event of a run brings no turn behind the line: `go all` has still to turn to the same programs, and what is owed stays, or is no more
+
+less-owed : (bases : List Id) (owes : Bool) → turns_by bases false ≤ turns_by bases owes
+less-owed bases false = omega arith
+less-owed bases true = omega arith
+
+same-turns : (bases : List Id) (owes : Bool) → turns_by bases owes ≤ turns_by bases owes
+same-turns bases owes = omega arith
+
+pub no-more-turns : (e : Event) (s : UnitState) → is_of_run e ≡ false → turns_by (units_after e s).to_go (units_after e s).owes ≤ turns_by s.to_go s.owes
+no-more-turns (Down why) s h = cc
+no-more-turns (Opened boot n) s h = cc
+no-more-turns (Refused r) s h = less-owed s.to_go s.owes
+no-more-turns (Began u kind) s h = same-turns s.to_go s.owes
+no-more-turns (Did u st answer) s h = same-turns s.to_go s.owes
+no-more-turns (Waits u owners) s h = same-turns s.to_go s.owes
+no-more-turns (Ended u end) s h = same-turns s.to_go s.owes
+no-more-turns (Defined n text) s h = same-turns s.to_go s.owes
+no-more-turns Ready s h = same-turns s.to_go s.owes
+no-more-turns (Early bs) s h = same-turns s.to_go s.owes
+no-more-turns e s h = same-turns s.to_go s.owes
+
+-- by the books
+pub turns-of : (x : Books) (s : UnitState) → AreBooks x s → turns_by x.to_go.items x.owes ≡ turns_by s.to_go s.owes
+turns-of x s h = λ i. turns_by (h.to_go i) (h.owes i)
 
 -- THE WAITING UNITS of a trace
 

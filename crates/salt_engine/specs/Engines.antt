@@ -1,6 +1,6 @@
 -- What an engine stands for, over storages.
 use Rattle.salt_books.specs.declared.books.Books.{Books}
-use Rattle.salt_engine.specs.Standing.{AgreesWithState, CanReopenAt, LeavesOnDevices, ServesFrom, StandsAtEventIn, goes_in, serving_books, waits_in}
+use Rattle.salt_engine.specs.Standing.{AgreesWithState, CanReopenAt, LeavesOnDevices, ServesFrom, StandsAtEventIn, serving_books, turns_in, waits_in}
 use Rattle.salt_engine.specs.Stored.{IsAlone}
 use Rattle.salt_engine.specs.declared.engine.Engine.{Engine}
 use Rattle.salt_engine.specs.declared.flights.InFlight.{InFlight}
@@ -12,8 +12,7 @@ use Rattle.salt_storage.specs.declared.found.Numbers.{Numbers}
 use Rattle.salt_values.specs.declared.id.Id.{Id}
 use Rattle.std.specs.Prelude.{Bool, IsSome, List, None, Option, ℕ}
 
--- WHAT IT HAS: a storage, its books unless memory ran out, the decision in flight; units that wait, and programs to which `go all` has
--- still to turn
+-- WHAT IT HAS: a storage, its books unless memory ran out, the decision in flight; units that wait, and how many turns may still come
 
 abbrev pub engine_storage : {S : Type 0} → Engine S → S
 engine_storage e = e.storage
@@ -27,8 +26,8 @@ engine_flight e = e.in_flight
 abbrev pub engine_waits : {S : Type 0} → Engine S → List Id
 engine_waits e = waits_in e.stage
 
-abbrev pub engine_turns : {S : Type 0} → Engine S → List Id
-engine_turns e = goes_in e.stage
+abbrev pub engine_turns : {S : Type 0} → Engine S → ℕ
+engine_turns e = turns_in e.stage
 
 -- WHAT IT STANDS FOR: a state in which lines are served, as it is made; a state, with the event at hand; broken off, a point
 

@@ -26,7 +26,7 @@ use Rattle.salt_driver.specs.Opening.{HasPlainStart}
 use Rattle.salt_storage.specs.Storing.{IsSoundKept}
 use Rattle.salt_storage.specs.declared.found.Numbers.{Numbers}
 use Rattle.salt_values.specs.declared.id.Id.{Id}
-use Rattle.std.specs.Prelude.{Bool, IsSome, List, None, Option, Some, [], false, ℕ, ⊤, ◌≡◌, ◌⊎◌}
+use Rattle.std.specs.Prelude.{Bool, IsSome, List, None, Option, Some, [], false, if◌then◌else◌, length, ℕ, ⊤, ◌+◌, ◌≡◌, ◌⊎◌}
 
 -- THE STAGES. With the event at hand, which the half in memory has done, it stands for the state before that.
 
@@ -129,11 +129,15 @@ abbrev pub follow_in : Stage Scheduler → Follow
 follow_in (Going x) = scheduling.follow_of x
 follow_in stage = Nothing
 
--- the waiting units, and the programs to which `go all` has still to turn
+-- the waiting units
 abbrev pub waits_in : Stage Scheduler → List Id
 waits_in (Going x) = scheduling.waiting_of x
 waits_in stage = []
 
-abbrev pub goes_in : Stage Scheduler → List Id
-goes_in (Going x) = scheduling.turns_of x
-goes_in stage = []
+-- how many turns may still come behind the line: those of `go all`, and the one that is owed
+abbrev pub turns_by : List Id → Bool → ℕ
+turns_by bases owes = length bases + (if owes then 1 else 0)
+
+abbrev pub turns_in : Stage Scheduler → ℕ
+turns_in (Going x) = turns_by (scheduling.turns_of x) (scheduling.owes_in x)
+turns_in stage = 0

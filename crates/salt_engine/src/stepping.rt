@@ -2,7 +2,7 @@
 
 ghost use Rattle.salt_engine.specs.Flights.{flight_of};
 ghost use Rattle.salt_engine.specs.Performing.{IsServed};
-ghost use Rattle.salt_engine.specs.Standing.{goes_in, waits_in};
+ghost use Rattle.salt_engine.specs.Standing.{turns_in, waits_in};
 ghost use Rattle.salt_model.specs.Trace.{Start, Trace, Tree};
 ghost use Rattle.salt_model.specs.declared.events.Event.TheVariants.{Refused};
 ghost use Rattle.salt_model.specs.declared.events.Refusal.{Refusal};
@@ -44,7 +44,7 @@ impl<S: Storage + Drop> Stepping for Engine<S> {
 
     ghost waiting = { λ e. waits_in e.stage };
 
-    ghost turns = { λ e. goes_in e.stage };
+    ghost turns = { λ e. turns_in e.stage };
 
     ghost serves = { IsServed };
 

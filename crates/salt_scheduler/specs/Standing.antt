@@ -1,7 +1,7 @@
 -- What a scheduler stands for: a state; and with an event at hand, which it has done, the state before that.
 use Rattle.salt_ast.specs.declared.lines.Line.TheVariants.{GoAll}
 use Rattle.salt_ast.specs.declared.lines.Line.{Line}
-use Rattle.salt_books.specs.Books.{AreBooks, turns_in}
+use Rattle.salt_books.specs.Books.{AreBooks, owes_turn, turns_in}
 use Rattle.salt_books.specs.Called.{name_told}
 use Rattle.salt_books.specs.Coming.{CanCome, event_meant}
 use Rattle.law_states.specs.Circles.{NoneOnCircle}
@@ -29,7 +29,7 @@ use Rattle.salt_values.specs.declared.id.Id.{Id}
 use Rattle.salt_conflicts.specs.Watched.{IsFinishing, IsWatch, waiters_of}
 use Rattle.salt_conflicts.specs.declared.watching.Watching.{Watching}
 use Rattle.std.specs.Option.{option_or}
-use Rattle.std.specs.Prelude.{IsTrue, List, None, Option, Some, [], map, true, ◌++◌, ◌∷◌, ◌≡◌, ◌⊎◌}
+use Rattle.std.specs.Prelude.{Bool, IsTrue, List, None, Option, Some, [], map, true, ◌++◌, ◌∷◌, ◌≡◌, ◌⊎◌}
 
 -- WHAT IT HAS: the books, and what follows the event at hand; units that wait, and programs to which `go all` has still to turn
 
@@ -44,6 +44,9 @@ waiting_of x = map (λ w. w.unit) (waiters_of x.watch)
 
 abbrev pub turns_of : Scheduler → List Id
 turns_of x = turns_in (books_of x)
+
+abbrev pub owes_in : Scheduler → Bool
+owes_in x = owes_turn (books_of x)
 
 -- WHAT IT STANDS FOR
 

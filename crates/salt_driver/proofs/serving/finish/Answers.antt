@@ -5,8 +5,8 @@ use Rattle.salt_driver.proofs.Counted.{count-all, count-join, count-short, count
 use Rattle.salt_driver.proofs.RefusedAlone.{turned-to-none}
 use Rattle.salt_driver.proofs.serving.finish.Goals as goal
 use Rattle.salt_storage.proofs.Staying.{stays-behind}
-use Rattle.std.proofs.Common.{ap, subst, sym, ◌∙◌}
-use Rattle.std.specs.Prelude.{None, length, ◌<◌}
+use Rattle.std.proofs.Common.{arith, sym, ◌∙◌}
+use Rattle.std.specs.Prelude.{None}
 
 pub settle-requires-clause-stands : goal.settle-requires-clause-stands
 settle-requires-clause-stands g c = c.requires.stands
@@ -34,7 +34,7 @@ settle-requires-in-Some-clause-stands g c =
 
 pub loop-base-smaller : goal.loop-base-smaller
 loop-base-smaller g c =
-    subst (λ n. n < length (g.E.Stepping.turns c.loop-base.engine)) (sym (ap length c.in_ok-settle-2.ensures.turns)) c.in_ok-next.ensures.fewer
+    let behind = c.in_ok-settle-2.ensures.turns in let fewer = c.in_ok-next.ensures.fewer in omega arith
 
 pub loop-base-preserved : goal.loop-base-preserved
 loop-base-preserved g c =

@@ -5,7 +5,7 @@ use Rattle.salt_driver.specs.Standing.{Advances, IsAt, IsSoundPoint}
 use Rattle.salt_storage.specs.Staying.{StaysWithin}
 use Rattle.salt_model.specs.declared.events.Event.TheVariants.{Refused}
 use Rattle.salt_model.specs.declared.events.Refusal.{Refusal}
-use Rattle.std.specs.Prelude.{None, Some, [], length, ◌≡◌}
+use Rattle.std.specs.Prelude.{None, Some, [], ◌≡◌}
 
 abbrev pub invariant-loop-base : goal.invariant-loop-base
 invariant-loop-base g l =
@@ -17,4 +17,4 @@ invariant-loop-base g l =
     l.fn.first ≡ Some (Refused r) → l.disks ≡ l.fn.disks)
 
 abbrev pub decreases-loop-base : goal.decreases-loop-base
-decreases-loop-base g l = length (g.E.Stepping.turns l.engine)
+decreases-loop-base g l = g.E.Stepping.turns l.engine

@@ -9,14 +9,14 @@ use Rattle.salt_driver.specs.Counting.{CountsSoFar}
 use Rattle.salt_driver.specs.Standing.{Advances, IsAt, left_to_come}
 use Rattle.salt_model.specs.declared.events.Event.{Event}
 use Rattle.salt_storage.proofs.Staying.{stays-behind, stays-same}
-use Rattle.std.proofs.Common.{inl, inr, subst, sym, ◌∙◌}
+use Rattle.std.proofs.Common.{arith, inl, inr, subst, sym, ◌∙◌}
 use Rattle.std.specs.Prelude.{Some, refl, ◌<◌}
 
 pub loop-next-init : goal.loop-next-init
 loop-next-init g c = (
   λ p sound at. advance-none (g.E.Stepping.sees (g.D.Disks.view c.args.disks.now)) c.args.line.now p c.args.story.now c.args.engine.now c.args.first at,
   count-none (g.D.Disks.view c.args.disks.now) c.args.first c.args.story.now,
-  refl,
+  omega arith,
   stays-same (g.E.Stepping.asked c.args.engine.now) (g.D.Disks.view c.args.disks.now),
   λ r is. (inl refl, refl),
 )
@@ -51,7 +51,7 @@ loop-next-preserved g c =
       count-on (view c.args.disks.now) (view c.loop-next.disks) (view c.say.new.disks) c.args.first c.args.story.now c.loop-next.story c.say.new.story c.in-Some.event c.in_ok-next.next
           (subst (λ o. CountsSoFar (view c.args.disks.now) (view c.loop-next.disks) c.args.first c.args.story.now c.loop-next.story o) c.in-Some.is known.1)
           c.in_ok-next.ensures.counts moved.1.1 c.in_ok-next.ensures.tells,
-      c.in_ok-next.ensures.turns ∙ known.2,
+      (let now = c.in_ok-next.ensures.turns in let was = known.2 in omega arith),
       stays-behind known.3 c.in_ok-next.ensures.within,
       λ r is.
           let still = known.4 r is in

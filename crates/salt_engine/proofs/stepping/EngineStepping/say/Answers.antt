@@ -67,7 +67,7 @@ returns-in-Ok-go_on_in_line-clause-turns g c =
     let x = i.scheduler in
     let t = i.behind in
     let d = said-performs line x e p sound t i.done at.comes at.serves at.line _ _ _ _ _ _ i.there (c.in-Ok-go_on_in_line.ensures.comes t (read line x e p sound t i.done at.comes at.serves at.line) (said-goes line x e p sound t i.done at.comes at.serves at.line _ _ _ i.there i.stored)) in
-    said-turns line x e p sound t i.done at.comes at.serves at.line _ _ _ _ _ _ c.in-Ok-go_on_in_line.next at.state.seen d.sees d.told
+    said-turns line x e p sound t i.done at.comes at.serves at.line _ _ _ _ c.in-Ok-go_on_in_line.next i.there d.sees
 
 pub returns-in-Ok-go_on_in_line-clause-counts : goal.returns-in-Ok-go_on_in_line-clause-counts
 returns-in-Ok-go_on_in_line-clause-counts g c = counts-cause _ _ _ _ c.in-Ok-go_on_in_line.ensures.unarmed c.in-Ok-go_on_in_line.ensures.cause

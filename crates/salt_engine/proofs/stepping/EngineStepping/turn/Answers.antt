@@ -37,7 +37,7 @@ returns-in-Ok-clause-fewer g c =
     let turn = c.requires.stands.3 in
     let r = reads-here p sound in
     let d = c.in-Ok.ensures.comes p.state r (to-turn _ _ c.args.self.now.stage c.args.line.now c.args.base p sound at.serves at.line at.comes turn at.state.seen) in
-    turned-fewer _ _ _ _ _ _ c.args.base c.in-Ok.next p sound at.serves at.comes turn r at.state.plain at.state.seen d.sees d.told
+    turned-fewer _ _ _ _ _ _ c.args.base c.in-Ok.next p.state turn at.state.seen d.sees
 
 pub returns-in-Ok-clause-counts : goal.returns-in-Ok-clause-counts
 returns-in-Ok-clause-counts g c = counts-cause _ _ _ _ c.in-Ok.ensures.unarmed c.in-Ok.ensures.cause
