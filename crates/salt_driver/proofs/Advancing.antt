@@ -6,7 +6,8 @@ use Rattle.law_states.specs.Laws.{is_of_run}
 use Rattle.law_states.specs.Nexts.{next_turn_of}
 use Rattle.law_states.specs.Points.{Ask, TraceStep, Moves, Point, Runs, Say, Turn, told_by, trace_on}
 use Rattle.law_states.specs.States.{State}
-use Rattle.salt_model.specs.Trace.{Asked, Start, Trace, lines_of, start_of, ◌asks◌, ◌says◌, ◌turns◌}
+use Rattle.law_story.specs.ContNames.{AreNamed}
+use Rattle.salt_model.specs.Trace.{Asked, Start, Trace, from, lines_of, start_of, ◌asks◌, ◌says◌, ◌turns◌}
 use Rattle.salt_model.specs.Words.{Every}
 use Rattle.salt_model.specs.declared.events.Event.{Event}
 use Rattle.salt_model.specs.declared.events.Flight.{Flight}
@@ -52,6 +53,9 @@ lines-on (Say e ∷ ms) trace h = lines-on ms (trace says e) h.1
 typed-on : (ms : List TraceStep) (trace : Trace) → IsTyped (start_of trace).kept → IsTyped (start_of (trace_on trace ms)).kept
 typed-on ms trace h = subst (λ (s : Start). IsTyped s.kept) (sym (start-on ms trace)) h
 
+named-on : (ms : List TraceStep) (trace : Trace) → AreNamed (from (start_of trace)) → AreNamed (from (start_of (trace_on trace ms)))
+named-on ms trace h = subst (λ (s : Start). AreNamed (from s)) (sym (start-on ms trace)) h
+
 -- the point that moves lead to is sound
 pub sound-on : (ms : List TraceStep) (p q : Point) → IsSoundPoint p → Every IsInside ms → Runs p ms q → IsSoundPoint q
 sound-on ms p q s inside r =
@@ -61,6 +65,7 @@ sound-on ms p q s inside r =
       keeps = k.0;
       sound = k.1;
       typed = typed-on ms s.trace s.typed;
+      named = named-on ms s.trace s.named;
       keyed = subst (Every HasKey) (sym (lines-on ms s.trace inside)) s.keyed;
     }
 
@@ -80,6 +85,7 @@ sound-asked asked p q key s n =
       keeps = k.0;
       sound = k.1;
       typed = s.typed;
+      named = s.named;
       keyed = every-last asked (lines_of s.trace) s.keyed key;
     }
 

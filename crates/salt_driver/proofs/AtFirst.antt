@@ -14,6 +14,7 @@ use Rattle.salt_model.specs.declared.events.Why.TheVariants.{Stopped}
 use Rattle.law_openings.proofs.Leaving.{leaves}
 use Rattle.law_openings.proofs.Opening.{falls-again, start-point}
 use Rattle.salt_driver.proofs.Falling.{fallen_point}
+use Rattle.salt_driver.proofs.StartNames.{start-names}
 use Rattle.salt_driver.specs.Opening.{FailsToFind, FindsFirst, IsOpenedFirst, IsUnfound, IsUnopened, fallen_often, plain_start, starting}
 use Rattle.salt_driver.specs.Serving.{IsDown}
 use Rattle.salt_stands.specs.Stands.{are_spent}
@@ -93,7 +94,13 @@ down-at-first k can_stop lies flies story u sound opens none =
       record {
         tells = record { begins = often-begins start times; told = u.1 start; played = x.2.played };
         fallen = often-down start times;
-        fits = record { well = sound.well; typed = sound.typed; keyed = subst (Every HasKey) (sym (often-asked start times)) tt; unspent = often-unspent start times };
+        fits = record {
+          well = sound.well;
+          typed = sound.typed;
+          named = start-names start sound.rise;
+          keyed = subst (Every HasKey) (sym (often-asked start times)) tt;
+          unspent = often-unspent start times;
+        };
         point = x.0;
         keeps = x.1;
         room = 0;

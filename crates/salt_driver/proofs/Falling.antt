@@ -62,7 +62,7 @@ pub down-behind : (why : Why) (lies : ℕ → Point → Type 0) (flies : Option 
 down-behind why lies flies start told now trace q room begins tells fits k grows boots again known = record {
   tells = record { begins = begins; told = ap (λ es. es ++ Down why ∷ []) tells ∙ sym grows; played = k.1.played };
   fallen = refl;
-  fits = record { well = fits.well; typed = fits.typed; keyed = fits.keyed; unspent = (fits.unspent, tt) };
+  fits = record { well = fits.well; typed = fits.typed; named = fits.named; keyed = fits.keyed; unspent = (fits.unspent, tt) };
   point = q;
   keeps = k.0;
   room = room;

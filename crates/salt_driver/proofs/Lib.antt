@@ -1,4 +1,5 @@
 pub mod Advancing
+pub mod StartNames
 pub mod Segments
 pub mod Counted
 pub mod Openings

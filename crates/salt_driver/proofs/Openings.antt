@@ -13,7 +13,8 @@ use Rattle.salt_model.specs.Kept.{Kept}
 use Rattle.salt_model.specs.Next.{flight}
 use Rattle.salt_model.specs.Phases.{Fallen, Opening, Phase, downs, has_opened}
 use Rattle.salt_model.specs.Stops.{MayOpen}
-use Rattle.salt_model.specs.Trace.{Start, Trace, story_of, ◌says◌}
+use Rattle.law_story.specs.ContNames.{AreNamed}
+use Rattle.salt_model.specs.Trace.{Start, Trace, from, story_of, ◌says◌}
 use Rattle.salt_model.specs.Words.{Every}
 use Rattle.salt_model.specs.declared.events.Event.TheVariants.{Down, Early, Opened, Ready}
 use Rattle.salt_model.specs.declared.events.Event.{Event}
@@ -81,6 +82,7 @@ opened-sound lies flies start story trace d h =
       keeps = k.0;
       sound = k.1;
       typed = subst (λ (x : Start). IsTyped x.kept) (sym d.tells.begins) d.fits.typed;
+      named = subst (λ (x : Start). AreNamed (from x)) (sym d.tells.begins) d.fits.named;
       keyed = d.fits.keyed;
     }
 
@@ -125,6 +127,7 @@ module _ (lies : ℕ → Point → Type 0) (flies : Option Flight) (start : Star
   behind-fits h ms q runs inside = record {
     well = d.fits.well;
     typed = d.fits.typed;
+    named = d.fits.named;
     keyed = subst (Every HasKey) (sym (lines-on ms (trace says Opened h.boot h.number) inside)) d.fits.keyed;
     unspent = unspent-on ms h.point q (trace says Opened h.boot h.number) runs (d.fits.unspent, h.unspent);
   }

@@ -8,7 +8,8 @@ use Rattle.salt_model.specs.Everywhere.{Each}
 use Rattle.salt_model.specs.Kept.{WellKept}
 use Rattle.salt_model.specs.Phases.{Serving, phase}
 use Rattle.salt_model.specs.Played.{IsPlayed}
-use Rattle.salt_model.specs.Trace.{Asked, Start, Trace, lines_of, start_of, story_before, ◌asks◌, ◌says◌, ◌turns◌}
+use Rattle.law_story.specs.ContNames.{AreNamed}
+use Rattle.salt_model.specs.Trace.{Asked, Start, Trace, from, lines_of, start_of, story_before, ◌asks◌, ◌says◌, ◌turns◌}
 use Rattle.salt_model.specs.Words.{Every}
 use Rattle.salt_model.specs.declared.events.Event.{Event}
 use Rattle.salt_model.specs.declared.events.Event.TheVariants.{Down, Early, Opened, Ready}
@@ -58,6 +59,7 @@ sound-at start trace p begins played f k = record {
   keeps = k;
   sound = sound-of start trace begins played f;
   typed = subst (λ (x : Start). IsTyped x.kept) (sym begins) f.typed;
+  named = subst (λ (x : Start). AreNamed (from x)) (sym begins) f.named;
   keyed = f.keyed;
 }
 
@@ -78,6 +80,7 @@ fits-on : (start : Start) (trace : Trace) (asked : Asked) (ms : List TraceStep) 
 fits-on start trace asked ms p q runs inside key f = record {
   well = f.well;
   typed = f.typed;
+  named = f.named;
   keyed = subst (Every HasKey) (sym (lines-on ms (trace asks asked) inside)) (every-last asked (lines_of trace) f.keyed key);
   unspent = unspent-on ms p q (trace asks asked) runs f.unspent;
 }

@@ -1,13 +1,14 @@
 -- An engine and its story are those of a played trace, which goes on with each line by a whole segment, or breaks off.
 use Rattle.law_states.specs.Points.{KeepsPoint, Point}
 use Rattle.law_states.specs.States.{State}
+use Rattle.law_story.specs.ContNames.{AreNamed}
 use Rattle.salt_model.specs.Ends.{flight_told}
 use Rattle.salt_model.specs.Everywhere.{Each}
 use Rattle.salt_model.specs.Kept.{WellKept}
 use Rattle.salt_model.specs.Phases.{Fallen, Serving, downs, has_opened, phase}
 use Rattle.salt_model.specs.Played.{Tells}
 use Rattle.salt_model.specs.Segments.{IsComplete}
-use Rattle.salt_model.specs.Trace.{Asked, Start, Trace, lines_of, story_before}
+use Rattle.salt_model.specs.Trace.{Asked, Start, Trace, from, lines_of, story_before}
 use Rattle.salt_model.specs.Words.{Every}
 use Rattle.salt_model.specs.declared.events.Event.{Event}
 use Rattle.salt_model.specs.declared.events.Flight.{Flight}
@@ -20,11 +21,12 @@ use Rattle.law_types.specs.Played.{HasKey}
 use Rattle.law_types.specs.Typed.{IsTyped}
 use Rattle.std.specs.Prelude.{List, Option, [], if◌then◌else◌, ℕ, ◌+◌, ◌++◌, ◌∷◌, ◌≡◌, ◌≤◌, ◌⊎◌}
 
--- a start that may be kept and fits its definitions, and lines whose tables have keys: so the laws hold of what is played of them; and no
--- opening goes on from spent numbers
+-- a start that may be kept, fits its definitions and names what it continues, and lines whose tables have keys: so the laws hold of what
+-- is played of them; and no opening goes on from spent numbers
 pub record IsFitting (start : Start) (trace : Trace) : Type 0 where
   pub well : WellKept start.kept
   pub typed : IsTyped start.kept
+  pub named : AreNamed (from start)
   pub keyed : Every HasKey (lines_of trace)
   pub unspent : Each OpensUnspent trace
 

@@ -5,9 +5,10 @@ use Rattle.law_states.specs.Points.{Ask, IsIdle, KeepsPoint, TraceStep, Moves, P
 use Rattle.law_states.specs.Settling.{stage}
 use Rattle.law_states.specs.States.{State}
 use Rattle.law_states.specs.Told.{at_devices_in}
+use Rattle.law_story.specs.ContNames.{AreNamed}
 use Rattle.salt_model.specs.Ends.{flight_told}
 use Rattle.salt_model.specs.Phases.{Opening, Serving}
-use Rattle.salt_model.specs.Trace.{Trace, lines_of, start_of}
+use Rattle.salt_model.specs.Trace.{Trace, from, lines_of, start_of}
 use Rattle.salt_model.specs.Words.{Every}
 use Rattle.salt_model.specs.declared.events.Event.{Event}
 use Rattle.salt_model.specs.declared.events.Flight.{Flight}
@@ -20,13 +21,14 @@ use Rattle.law_types.specs.Typed.{IsTyped}
 use Rattle.salt_values.specs.declared.id.Id.{Id}
 use Rattle.std.specs.Prelude.{List, None, Option, Some, [], length, true, ℕ, ⊤, ◌*◌, ◌++◌, ◌+◌, ◌∷◌, ◌≡◌, ◌⊎◌}
 
--- It is the point of a trace that is played, from a start that fits its definitions and over lines whose tables have keys, so all
--- that laws give of such traces holds of it.
+-- It is the point of a trace that is played, from a start that fits its definitions and names what it continues, and over lines whose
+-- tables have keys, so all that laws give of such traces holds of it.
 pub record IsSoundPoint (p : Point) : Type 0 where
   pub trace : Trace
   pub keeps : KeepsPoint p trace
   pub sound : IsSound trace
   pub typed : IsTyped (start_of trace).kept
+  pub named : AreNamed (from (start_of trace))
   pub keyed : Every HasKey (lines_of trace)
 
 -- it serves this line, and what comes next of it is at hand
