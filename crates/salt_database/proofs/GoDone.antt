@@ -1,22 +1,29 @@
 -- An opening goes on, or is done and lines are served: what was performed is a move of the engine's point, or it broke off there.
+use Rattle.salt_books.specs.Books.{AreBooks}
+use Rattle.salt_books.specs.declared.books.Books.{Books}
+use Rattle.law_states.specs.Watches.{empty_watch}
 use Rattle.salt_database.proofs.OpeningGoes.{leaves-less, meant, moves, point, stands}
-use Rattle.salt_database.proofs.ReadyDone.{ready-after, ready-bases, ready-books, ready-conts, ready-moves, ready-named, ready-owes, ready-point, ready-state, ready-turns, ready-units}
+use Rattle.salt_database.proofs.EarlyDone.{ends-early}
+use Rattle.salt_database.proofs.Ends.{EndsAt}
+use Rattle.salt_database.proofs.ReadyDone.{ends-ready}
+use Rattle.salt_database.specs.Halves.{IsOnward}
 use Rattle.salt_database.specs.Performing.{MayStep}
-use Rattle.salt_database.specs.Standing.{OpensIn, ends_opening, left_in, opening_books}
+use Rattle.salt_database.specs.Standing.{OpensIn, ServesBehind, ends_opening, left_in, opening_books}
+use Rattle.salt_database.specs.declared.onward.Onward.TheVariants.{Served}
+use Rattle.salt_database.specs.declared.opening.Opening as closed
 use Rattle.salt_engine.proofs.Broken.{noted}
 use Rattle.salt_engine.proofs.Flying.{flight-next, kept-decided, none-flies}
-use Rattle.salt_engine.proofs.Going.{flight-decides, onwards-line, reads}
+use Rattle.salt_engine.proofs.Going.{flight-decides, line-stays, onwards-line}
 use Rattle.salt_engine.proofs.Halting.{halts, memory-at}
 use Rattle.salt_engine.specs.Flights.{IsInFlight, flight_of}
 use Rattle.salt_engine.specs.Performing.{BreaksOff}
-use Rattle.salt_engine.specs.Standing.{LeavesOnDevices, CanReopenAt, AgreesWithState}
+use Rattle.salt_engine.specs.Standing.{LeavesOnDevices, CanReopenAt}
 use Rattle.salt_engine.specs.Stored.{Stored, kept_behind}
 use Rattle.salt_engine.specs.declared.flights.InFlight.{InFlight}
 use Rattle.salt_engine.specs.declared.stage.Stage.{Stage}
 use Rattle.salt_engine.specs.declared.stage.Stage.TheVariants as at
 use Rattle.law_states.specs.OpenUnits.{UnitState}
 use Rattle.law_states.specs.Points.{Moves, Point, Say}
-use Rattle.law_states.specs.Readings.{WatchReading}
 use Rattle.law_states.specs.States.{State}
 use Rattle.salt_model.specs.Kept.{Kept}
 use Rattle.salt_model.specs.Next.{decision_in}
@@ -24,13 +31,14 @@ use Rattle.salt_model.specs.Phases.{Fallen, Opening}
 use Rattle.salt_model.specs.Turns.{is_statement_line}
 use Rattle.salt_model.specs.declared.events.Event.{Event}
 use Rattle.salt_model.specs.declared.events.Event.TheVariants.{Early, Ready}
-use Rattle.law_openings.proofs.Opening.{ready-idle}
 use Rattle.salt_drain.specs.Recovering.{HasDoneEvent}
 use Rattle.salt_drain.specs.declared.recovery.Recovery.{Recovery}
-use Rattle.salt_driver.proofs.PlainStarts.{never-early, plain-after}
+use Rattle.salt_driver.proofs.PlainStarts.{plain-after}
 use Rattle.salt_driver.specs.Draining.{MayTick}
 use Rattle.salt_driver.specs.Opening.{HasPlainStart}
 use Rattle.salt_driver.specs.Standing.{BreaksAt, IsOpenedOn, IsSoundPoint}
+use Rattle.salt_scheduler.specs.Standing.{IsTurning, StandsForState}
+use Rattle.salt_scheduler.specs.declared.scheduler.Scheduler.{Scheduler}
 use Rattle.salt_storage.specs.Storing.{IsSoundKept}
 use Rattle.salt_storage.specs.Writing.{ToWrite}
 use Rattle.salt_storage.specs.declared.found.Numbers.{Numbers}
@@ -99,67 +107,47 @@ module _ (x : Recovery) (e : Event) (p : Point) (sound : IsSoundPoint p) (t : St
 
 -- IT IS DONE
 
-module _ (x : Recovery) (p : Point) (sound : IsSoundPoint p) (t : State) (d : HasDoneEvent x Ready p.state t) (comes : p.next ≡ Some Ready) (opening : p.state.units.phase ≡ Opening) where
-  abbrev pub there : State
-  there = ready-state x p sound t d comes opening
+-- behind a Ready
+pub serves-late : (e : Event) (x : Books) (y : Scheduler) → ends_opening e ≡ true → ((bs : List Id) → e ≡ Early bs → ⊥) →
+    ((s : State) → AreBooks x s.units → s.units.units ≡ [] → s.watch ≡ empty_watch 0 → IsTurning s.units → StandsForState y s) → ServesBehind e x (λ s. StandsForState y s)
+serves-late Ready x y ends late new = λ s o. new s o.books o.units o.watch (inl o.to_go)
+serves-late (Early bs) x y ends late new = absurd (late bs refl)
+serves-late e x y ends late new = cc
 
-  read-there : WatchReading there.watch
-  read-there = reads p sound Ready there refl comes (ready-after x p sound t d comes opening)
+pub ended : (x : Recovery) (e : Event) (p : Point) (sound : IsSoundPoint p) (t : State) → HasDoneEvent x e p.state t → p.next ≡ Some e → p.state.units.phase ≡ Opening →
+    (goes : State → Type 0) → ends_opening e ≡ true → ServesBehind e x.books goes → EndsAt e p t goes
+ended x Ready p sound t d comes opening goes ends serves = ends-ready x p sound t d comes opening goes serves
+ended x (Early bs) p sound t d comes opening goes ends serves = ends-early x bs p sound t d comes opening goes serves
+ended x e p sound t d comes opening goes ends serves = cc
 
-  pub ready-idles : {E : Type 0} (sees : E → Option Event → State → Type 0) (f : E) → sees f None there → (q : Point) × Moves (Say Ready) p q × IsOpenedOn sees f None q
-  ready-idles sees f state =
-      let m = ready-moves x p sound t d comes opening read-there in
-      (ready-point x p sound t d comes opening, m, record { state = state; idle = ready-idle p (ready-point x p sound t d comes opening) sound.trace sound.keeps sound.sound m.0 })
-
-  pub ready-sees : (holds : Kept → Type 0) (is_new : Id → Type 0) (old stoppable was single : Bool) (stage : Stage Recovery) (in_flight : Option InFlight) → stage ≡ at.Going x →
-      Stored holds is_new t.units → p.state.can_stop ≡ old → HasPlainStart p.state → stoppable ≡ old → was ≡ is_statement_line p.state.units.line → single ≡ was → in_flight ≡ None →
-      AgreesWithState (OpensIn holds is_new stage) stoppable single in_flight None there
-  ready-sees holds is_new old stoppable was single stage in_flight at stored can began same line kept none = record {
-    seen = subst (λ (s : Stage Recovery). OpensIn holds is_new s None there) (sym at) (
+pub ended-at : {S : Type 0} (holds : S → Kept → Type 0) (is_new : S → Id → Type 0) (o : closed.Opening S) (y : Scheduler) (e : Event) (p : Point) (t : State) (old stoppable was : Bool) →
+    EndsAt e p t (λ s. StandsForState y s) → Stored (holds o.storage) (is_new o.storage) t.units → p.state.can_stop ≡ old → HasPlainStart p.state → stoppable ≡ old →
+    was ≡ is_statement_line p.state.units.line → o.single ≡ was → o.in_flight ≡ None → (q : Point) × Moves (Say e) p q × IsOnward holds is_new stoppable o (Served y) q
+ended-at holds is_new o y e p t old stoppable was h stored can began same line kept none =
+    let after = h.moves.0.after in (
+      h.point,
+      h.moves,
       record {
-        books = ready-books x p sound t d comes opening;
-        units = ready-units x p sound t d comes opening;
-        bases = ready-bases x p sound t d comes opening;
-        conts = ready-conts x p sound t d comes opening;
-        to_go = ready-turns x p sound t d comes opening;
-        early = (plain-after Ready p.state there (ready-after x p sound t d comes opening) began).early;
-        named = ready-named x p sound t d comes opening began;
-        owes = ready-owes x p sound t d comes opening;
-        watch = refl;
+        state = record {
+          seen = (h.serves, subst (λ (u : UnitState). Stored (holds o.storage) (is_new o.storage) u) (sym h.units) stored);
+          can_stop = after.can_stop ∙ can ∙ sym same;
+          plain = plain-after e p.state h.point.state after began;
+          line = kept ∙ line ∙ ap is_statement_line (sym (ap (λ (u : UnitState). u.line) after.units ∙ line-stays e p.state.units h.moves.1));
+          flies = none-flies o.in_flight None h.point.state.units none refl;
+        };
+        idle = h.idle;
       },
-      stored,
-    );
-    can_stop = d.after.can_stop ∙ can ∙ sym same;
-    plain = plain-after Ready p.state there (ready-after x p sound t d comes opening) began;
-    line = kept ∙ line ∙ ap is_statement_line (sym (onwards-line p sound Ready there refl comes (ready-after x p sound t d comes opening)));
-    flies = none-flies in_flight None there.units none refl;
-  }
-
--- BY WHAT is at hand
-
--- no opening is early, so it ends by its Ready
-pub ends-ready : (e : Event) (p : Point) → IsSoundPoint p → HasPlainStart p.state → p.next ≡ Some e → ends_opening e ≡ true → e ≡ Ready
-ends-ready Ready p sound began comes h = refl
-ends-ready (Early bs) p sound began comes h = absurd (never-early p bs sound began comes)
-ends-ready e p sound began comes h = cc
-
-pub done-ready : (x : Recovery) (e : Event) (s t : State) → e ≡ Ready → HasDoneEvent x e s t → HasDoneEvent x Ready s t
-done-ready x e s t is d = subst (λ (k : Event). HasDoneEvent x k s t) is d
-
-pub comes-ready : (p : Point) (e : Event) → e ≡ Ready → p.next ≡ Some e → p.next ≡ Some Ready
-comes-ready p e is comes = comes ∙ ap (λ (k : Event). Some k) is
-
-pub says-ready : {E : Type 0} (sees : E → Option Event → State → Type 0) (f : E) (e : Event) (p : Point) → e ≡ Ready →
-    (q : Point) × Moves (Say Ready) p q × IsOpenedOn sees f None q → (q : Point) × Moves (Say e) p q × IsOpenedOn sees f None q
-says-ready sees f e p is h = subst (λ (k : Event). (q : Point) × Moves (Say k) p q × IsOpenedOn sees f None q) (sym is) h
+    )
 
 -- what is left of the opening is less
 
-pub ready-less : (old stage : Stage Recovery) (x y : Recovery) (e : Event) → old ≡ at.Going x → e ≡ Ready → stage ≡ at.Going y → left_in stage None < left_in old (Some e)
-ready-less old stage x y e there is serves =
-    subst (λ n. n < left_in old (Some e)) (sym (ap (λ (s : Stage Recovery). left_in s None) serves))
-    (subst (λ (s : Stage Recovery). 0 < left_in s (Some e)) (sym there)
-    (subst (λ (k : Event). 0 < left_in (at.Going x) (Some k)) (sym is) (omega arith)))
+pub end-less : (old : Stage Recovery) (x : Recovery) (e : Event) → old ≡ at.Going x → ends_opening e ≡ true → 0 < left_in old (Some e)
+end-less old x e there ends = subst (λ (s : Stage Recovery). 0 < left_in s (Some e)) (sym there) (by e ends)
+  where
+    by : (e : Event) → ends_opening e ≡ true → 0 < left_in (at.Going x) (Some e)
+    by Ready h = omega arith
+    by (Early bs) h = omega arith
+    by e h = cc
 
 pub opening-less : (holds : Kept → Type 0) (is_new : Id → Type 0) (old stage : Stage Recovery) (x : Recovery) (e given : Event) (p : Point) (sound : IsSoundPoint p) (t : State)
     (d : HasDoneEvent x e p.state t) (comes : p.next ≡ Some e) (going : ends_opening e ≡ false) → old ≡ at.Going x → OpensIn holds is_new stage (Some given) t →

@@ -2,7 +2,6 @@
 use Rattle.salt_ast.specs.declared.lines.Line.{Line}
 use Rattle.salt_books.specs.declared.books.Books.{Books}
 use Rattle.salt_database.specs.Halves.{IsBehind, IsLeftBy, by_half, database_lies, database_sees, opening_lies, opening_sees}
-use Rattle.salt_database.specs.Standing.{AreOpened, OpensIn}
 use Rattle.salt_database.specs.declared.database.Database.{Database}
 use Rattle.salt_database.specs.declared.database.Database.TheVariants.{Closed, Moving, Open}
 use Rattle.salt_database.specs.declared.opening.Opening.{Opening}
@@ -10,8 +9,7 @@ use Rattle.salt_disk.specs.Disks.{View}
 use Rattle.salt_engine.proofs.Flying.{none-flies}
 use Rattle.salt_engine.specs.Engines.{engine_lies, engine_sees}
 use Rattle.salt_engine.specs.Flights.{IsInFlight}
-use Rattle.salt_engine.specs.Standing.{KnowsUnits, LeavesOnDevices, StandsAtEventIn, ServesFrom}
-use Rattle.salt_engine.specs.Stored.{Stored}
+use Rattle.salt_engine.specs.Standing.{AgreesWithState, KnowsUnits, LeavesOnDevices, ServesFrom, StandsAtEventIn}
 use Rattle.salt_engine.specs.declared.engine.Engine.{Engine}
 use Rattle.salt_engine.specs.declared.flights.InFlight.{InFlight}
 use Rattle.salt_engine.specs.declared.stage.Stage.{Stage}
@@ -20,7 +18,7 @@ use Rattle.law_states.specs.Points.{Point}
 use Rattle.law_states.specs.States.{State}
 use Rattle.salt_model.specs.Kept.{Kept}
 use Rattle.salt_model.specs.declared.events.Event.{Event}
-use Rattle.salt_drain.specs.declared.recovery.Recovery.{Recovery}
+use Rattle.salt_scheduler.specs.Standing.{StandsForState}
 use Rattle.salt_scheduler.specs.declared.scheduler.Scheduler.{Scheduler}
 use Rattle.salt_driver.specs.Opening.{OpensAt}
 use Rattle.salt_driver.specs.Standing.{IsAt, IsIdleAt, IsOpeningAt}
@@ -67,27 +65,17 @@ module _ {S : Type 0} (holds : S → Kept → Type 0) (is_new : S → Id → Typ
 
   -- IT IS OPENED: an engine is made of its opening.
 
-  opened-going : (holds : Kept → Type 0) (is_new : Id → Type 0) (stage : Stage Recovery) (s : State) → OpensIn holds is_new stage None s →
-      (x : Recovery) × (stage ≡ at.Going x) × AreOpened x.books s × Stored holds is_new s.units
-  opened-going holds is_new (at.Going x) s h = (x, refl, h.0, h.1)
-  opened-going holds is_new (at.Down books) s h = absurd h
-  opened-going holds is_new at.Lost s h = absurd h
-
-  pub is-opened : (o : Opening S) (s : State) → of_opening o None s → (x : Recovery) × (s : State) × (o.stage ≡ at.Going x) × AreOpened x.books s
-  is-opened o s h = let g = opened-going (holds o.storage) (is_new o.storage) o.stage s h.0.seen in (g.0, s, g.1, g.2)
-
-  pub engine-sees : (o : Opening S) (e : Engine S) (s : State) → e.storage ≡ o.storage → ((x : Recovery) (s : State) → o.stage ≡ at.Going x → AreOpened x.books s → ServesFrom e.stage s) →
-      e.single ≡ o.single → e.in_flight ≡ None → of_opening o None s → of_engine e None s
-  engine-sees o e s stored serves single none h =
-      let g = opened-going (holds o.storage) (is_new o.storage) o.stage s h.0.seen in
-      let f = serves g.0 s g.1 g.2 in
+  pub engine-sees : (o : Opening S) (x : Scheduler) (e : Engine S) (s : State) → e.storage ≡ o.storage → ((s : State) → StandsForState x s → ServesFrom e.stage s) → e.single ≡ o.single →
+      e.in_flight ≡ None → AgreesWithState (StandsAtEventIn (holds o.storage) (is_new o.storage) (at.Going x)) stoppable o.single o.in_flight None s → of_engine e None s
+  engine-sees o x e s stored serves single none h =
+      let f = serves s h.seen.0 in
       record {
         seen =
             subst (λ (t : S). StandsAtEventIn (holds t) (is_new t) e.stage None s) (sym stored)
-            (subst (λ (k : Stage Scheduler). StandsAtEventIn (holds o.storage) (is_new o.storage) k None s) (sym f.1) (f.2, g.3));
-        can_stop = h.0.can_stop;
-        plain = h.0.plain;
-        line = single ∙ h.0.line;
+            (subst (λ (k : Stage Scheduler). StandsAtEventIn (holds o.storage) (is_new o.storage) k None s) (sym f.1) (f.2, h.seen.1));
+        can_stop = h.can_stop;
+        plain = h.plain;
+        line = single ∙ h.line;
         flies = none-flies e.in_flight None s.units none refl;
       }
 

@@ -1,5 +1,7 @@
 pub mod Booting
 pub mod Draining
+pub mod EarlyDone
+pub mod Ends
 pub mod FallDone
 pub mod Falling
 pub mod FindDone
@@ -9,7 +11,6 @@ pub mod GoDone
 pub mod Halved
 pub mod Leftover
 pub mod Lying
-pub mod Making
 pub mod OpenDone
 pub mod Opened
 pub mod OpenedOn

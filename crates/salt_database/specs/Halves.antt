@@ -2,12 +2,16 @@
 use Rattle.salt_database.specs.Standing.{OpensIn, opening_books}
 use Rattle.salt_database.specs.declared.database.Database.{Database}
 use Rattle.salt_database.specs.declared.database.Database.TheVariants.{Closed, Moving, Open}
+use Rattle.salt_database.specs.declared.onward.Onward.TheVariants.{Next, Served}
+use Rattle.salt_database.specs.declared.onward.Onward.{Onward}
 use Rattle.salt_database.specs.declared.opening.Opening.{Opening}
+use Rattle.salt_driver.specs.Standing.{IsIdleAt, IsOpeningAt}
 use Rattle.salt_engine.specs.Engines.{engine_books, engine_flight, engine_left, engine_lies, engine_sees, engine_storage}
 use Rattle.salt_engine.specs.Flights.{flight_of}
-use Rattle.salt_engine.specs.Standing.{AgreesWithState, CanReopenAt, LeavesOnDevices}
+use Rattle.salt_engine.specs.Standing.{AgreesWithState, CanReopenAt, LeavesOnDevices, StandsAtEventIn}
 use Rattle.salt_engine.specs.Stored.{IsAlone}
 use Rattle.salt_engine.specs.declared.engine.Engine.{Engine}
+use Rattle.salt_engine.specs.declared.stage.Stage.TheVariants.{Going}
 use Rattle.law_states.specs.Points.{Point}
 use Rattle.law_states.specs.States.{State}
 use Rattle.salt_model.specs.Kept.{Kept}
@@ -29,6 +33,17 @@ opening_lies holds leaves stoppable o room p = CanReopenAt (holds o.storage) (le
 
 abbrev pub opening_left : {S : Type 0} → (holds : S → Kept → Type 0) (leaves : S → Kept → Kept → Type 0) (rests : S → Kept → Type 0) → Opening S → Option Numbers → ℕ → Point → Type 0
 opening_left holds leaves rests o numbers room p = LeavesOnDevices (holds o.storage) (leaves o.storage) (IsSome o.in_flight) o.found room p × IsAlone (rests o.storage) numbers room p
+
+-- what comes next behind an event of it, if it goes on
+abbrev pub next_of : Onward → Option Event
+next_of (Next e) = Some e
+next_of (Served x) = None
+
+-- with what it gives behind an event it stands at this point: it goes on, or lines are served by a half in memory
+abbrev pub IsOnward : {S : Type 0} → (holds : S → Kept → Type 0) (is_new : S → Id → Type 0) → Bool → Opening S → Onward → Point → Type 0
+IsOnward holds is_new stoppable o (Next e) p = IsOpeningAt (λ x next s. opening_sees holds is_new stoppable x next s) o (Some e) p
+IsOnward holds is_new stoppable o (Served x) p =
+    IsIdleAt (λ y next s. AgreesWithState (StandsAtEventIn (holds y.storage) (is_new y.storage) (Going x)) stoppable y.single y.in_flight next s) o p
 
 -- A DATABASE is closed, and opened by an opening, or open, and served by an engine.
 

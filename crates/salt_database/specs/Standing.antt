@@ -1,6 +1,7 @@
 -- What an opening stands for: a state, over a storage that holds what that keeps; and what it finds to be opened.
 use Rattle.salt_books.specs.Books.{AreBooks, boot_in, conts_in, programs_in, units_in}
 use Rattle.salt_books.specs.declared.books.Books.{Books}
+use Rattle.salt_engine.specs.Resuming.{GoesOnBehindEarly}
 use Rattle.salt_engine.specs.Standing.{books_in}
 use Rattle.salt_engine.specs.Stored.{Stored}
 use Rattle.salt_engine.specs.declared.stage.Stage.{Stage}
@@ -20,22 +21,20 @@ use Rattle.salt_values.specs.declared.id.Id.{Id}
 use Rattle.std.specs.List.{filter}
 use Rattle.std.specs.Prelude.{Bool, None, Option, Some, [], false, length, true, ℕ, ⊤, ◌*◌, ◌+◌, ◌-◌, ◌≡◌}
 
--- the books of an opening that is done: behind its Ready nothing is open and nothing is watched, no accepted program is unfinished, and no
--- program is named
+-- the books of an opening that is done: behind its Ready nothing is open, `go all` has nothing left to turn to, and nothing is watched
 pub record AreOpened (x : Books) (s : State) : Type 0 where
   pub books : AreBooks x s.units
   pub units : s.units.units ≡ []
-  pub bases : s.units.base_count ≡ 0
-  pub conts : s.units.kept.conts ≡ []
   pub to_go : s.units.to_go ≡ []
-  pub early : s.units.early ≡ false
-  pub named : s.units.named ≡ []
-  pub owes : s.units.owes ≡ false
   pub watch : s.watch ≡ empty_watch 0
 
--- of a recovery, an opening goes on, or is done
+-- this is so of the state that the end of an opening makes, over these books
+abbrev pub ServesBehind : Event → Books → (State → Type 0) → Type 0
+ServesBehind (Early bs) books goes = GoesOnBehindEarly books goes
+ServesBehind e books goes = (s : State) → AreOpened books s → goes s
+
+-- of a recovery, an opening goes on
 abbrev pub OpensIn : (holds : Kept → Type 0) (is_new : Id → Type 0) → Stage Recovery → Option Event → State → Type 0
-OpensIn holds is_new (Going x) None s = AreOpened (recovering.books_of x) s × Stored holds is_new s.units
 OpensIn holds is_new (Going x) (Some e) s = (t : State) × recovering.HasDoneEvent x e s t × Stored holds is_new t.units × (s.units.phase ≡ phases.Opening)
 OpensIn holds is_new stage next s = ⊥
 

@@ -5,6 +5,7 @@ ghost use Rattle.salt_engine.specs.Performing.{IsServed};
 ghost use Rattle.salt_engine.specs.Engines.{engine_storage, engine_turns, engine_waits};
 ghost use Rattle.std.specs.Prelude.{[], ⊤, ◌≡◌};
 
+use crate::onward::Onward;
 use crate::opening::Opening;
 use salt_ast::Line;
 use salt_disk::Disks;
@@ -190,11 +191,11 @@ impl<S: Storage + Drop> Openable for Database<S> {
     ) -> Result<Option<Event>, Halt> {
         let mut opening = mem::replace(self, Database::Moving).closed();
         match opening.go_on(disks, place, event, story, steps) {
-            Ok(None) => {
-                *self = Database::Open(opening.into_engine());
+            Ok(Onward::Served(scheduler)) => {
+                *self = Database::Open(opening.into_engine(scheduler));
                 Ok(None)
             }
-            Ok(Some(next)) => {
+            Ok(Onward::Next(next)) => {
                 *self = Database::Closed(opening);
                 Ok(Some(next))
             }

@@ -1,13 +1,11 @@
 //! An opening: what stands over a storage before an engine is made over it.
 
 ghost use Rattle.salt_database.specs.Finding.{IsNew};
-ghost use Rattle.salt_database.specs.Standing.{AreOpened, IsFoundStage, opening_books};
-ghost use Rattle.salt_drain.specs.Recovering.{books_of};
+ghost use Rattle.salt_database.specs.Standing.{IsFoundStage, opening_books};
 ghost use Rattle.salt_engine.specs.Engines.{EngineServes, engine_books, engine_flight, engine_storage};
-ghost use Rattle.salt_engine.specs.declared.stage.Stage.TheVariants.{Going};
 ghost use Rattle.law_states.specs.States.{State};
 ghost use Rattle.salt_model.specs.Kept.{Kept};
-ghost use Rattle.salt_drain.specs.declared.recovery.Recovery.{Recovery};
+ghost use Rattle.salt_scheduler.specs.Standing.{StandsForState};
 ghost use Rattle.salt_stands.specs.Stands.{are_spent};
 ghost use Rattle.salt_storage.specs.Storing.{IsFound, IsSoundKept};
 ghost use Rattle.std.specs.Prelude.{None, false, ◌≡◌};
@@ -15,12 +13,13 @@ ghost use Rattle.std.specs.Prelude.{None, false, ◌≡◌};
 use salt_books::{Books, Known};
 use salt_drain::Recovery;
 use salt_engine::{Engine, GivenUp, InFlight, Stage};
+use salt_scheduler::Scheduler;
 use salt_schema::Schema;
 use salt_storage::{Found, Numbers};
 use std::alloc::Global;
 
 /// An opening over a storage: at first over what was found there, and behind each fall over what an engine has left. It begins a
-/// boot, and goes on with what programs have left; behind its Ready an engine is made of it.
+/// boot, and goes on with what programs have left; behind its Ready or its Early an engine is made of it.
 #[derive(Drop)]
 pub struct Opening<S> {
     pub(crate) alloc: Global,
@@ -99,26 +98,19 @@ impl<S: Drop> Opening<S> {
         }
     }
 
-    /// An engine over what an opening has left that is done.
-    pub fn into_engine(self) -> Engine<S>
-        requires { (x : Recovery) × (s : State) × (self.stage ≡ Going x) × AreOpened (books_of x) s }
+    /// An engine over what an opening has left that is done, by the half in memory that it has given.
+    pub fn into_engine(self, scheduler: Scheduler) -> Engine<S>
         ensures storage { engine_storage result ≡ self.storage }
-        ensures serves { (x : Recovery) (s : State) → self.stage ≡ Going x → AreOpened (books_of x) s → EngineServes result s }
+        ensures serves { (s : State) → StandsForState scheduler s → EngineServes result s }
         ensures single { result.single ≡ self.single }
         ensures none { engine_flight result ≡ None }
     {
         let Opening {
             alloc,
             storage,
-            stage,
             single,
             ..
         } = self;
-        let (known, begun) = stage.going().into_books().into_parts();
-        let (schema, catalogue, boot, decisions) = known.into_parts();
-        let kept = Numbers { boot, decisions };
-        let mut engine = Engine::new(alloc, storage, &kept, schema, catalogue, boot, begun);
-        engine.single = single;
-        engine
+        Engine::over(alloc, storage, scheduler, single)
     }
 }

@@ -2,7 +2,7 @@
 
 ghost use Rattle.salt_books.specs.Books.{tables_in};
 ghost use Rattle.salt_books.specs.declared.books.Books.{Books};
-ghost use Rattle.salt_database.specs.Standing.{CanFind, IsFoundStage, ends_opening, left_in, opening_books};
+ghost use Rattle.salt_database.specs.Standing.{CanFind, IsFoundStage, ServesBehind, ends_opening, left_in, opening_books};
 ghost use Rattle.salt_engine.specs.Flights.{flight_of};
 ghost use Rattle.salt_engine.specs.Standing.{IsGoingStage, KnowUnits, KnowsUnits};
 ghost use Rattle.law_states.specs.OpenUnits.{UnitState};
@@ -15,7 +15,8 @@ ghost use Rattle.law_openings.specs.Draining.{statements_at};
 ghost use Rattle.salt_driver.specs.Counting.{CountsStops, armed_at, stops_armed};
 ghost use Rattle.salt_driver.specs.Draining.{MayTick};
 ghost use Rattle.salt_driver.specs.Opening.{IsFallenFrom, MayFailAt, OpensAt};
-ghost use Rattle.salt_driver.specs.Standing.{BreaksAt, IsOpenedOn, IsOpeningAt, IsSoundPoint};
+ghost use Rattle.salt_driver.specs.Standing.{BreaksAt, IsOpeningAt, IsSoundPoint};
+ghost use Rattle.salt_scheduler.specs.Standing.{StandsForState};
 ghost use Rattle.salt_storage.specs.Answers.{disk_err, numbers_told, open_disk_err};
 ghost use Rattle.salt_storage.specs.Staying.{StaysWithin};
 ghost use Rattle.salt_storage.specs.Writing.{OfBoot};
@@ -24,16 +25,19 @@ ghost use Rattle.salt_storage.specs.declared.open.OpenErr.{OpenErr};
 ghost use Rattle.salt_place.specs.Placement.{GivesPlaceOf, TakesEachKey};
 ghost use Rattle.std.specs.Prelude.{Err, IfErr, IfOk, None, OnErr, OnOk, Some, ℕ, [], ◌++◌, ◌+◌, ◌<◌, ◌∷◌, ◌≡◌};
 
+use crate::onward::Onward;
 use crate::opening::Opening;
 use salt_books::Books;
 use salt_disk::Disks;
 use salt_drain::Recovery;
-use salt_engine::{Stage, flight_of};
+use salt_engine::{Stage, flight_of, resume};
 use salt_model::{Event, Flight, Story};
 use salt_place::{PlaceKind, Placement};
+use salt_scheduler::Scheduler;
 use salt_schema::Schema;
 use salt_storage::{Halt, OpenErr, Storage};
 use salt_values::{Key, Steps};
+use std::alloc::{AllocError, Global};
 use std::mem;
 use std::sync::ledger::Ledger;
 
@@ -46,6 +50,34 @@ fn ends_opening(event: &Event) -> bool
         Event::Early(_bases) => true,
         _ => false,
     }
+}
+
+/// What serves lines behind the end of an opening: behind a Ready nothing is watched, behind an Early the programs that it names.
+fn served_behind(alloc: Global, books: Books, end: &Event) -> Result<Scheduler, AllocError>
+    requires { ends_opening end.now ≡ true }
+    ensures { IfOk result (λ scheduler. ServesBehind end.now books (λ s. StandsForState scheduler s)) }
+{
+    match end {
+        Event::Early(_bases) => resume(alloc, books),
+        _ => Ok(Scheduler::new(alloc, books)),
+    }
+}
+
+/// An opening ends: its last event is told, and what serves lines behind it is given. Want of memory leaves the story as it was.
+fn end(
+    alloc: Global,
+    books: Books,
+    event: Event,
+    story: &mut Story,
+) -> Result<Scheduler, AllocError>
+    requires { ends_opening event ≡ true }
+    ensures serves { IfOk result (λ scheduler. ServesBehind event books (λ s. StandsForState scheduler s)) }
+    ensures tells { OnOk result (story.new ≡ story.old ++ event ∷ []) }
+    ensures untold { OnErr result (story.new ≡ story.old) }
+{
+    let scheduler = served_behind(alloc, books, &event)?;
+    story.push(event)?;
+    Ok(scheduler)
 }
 
 /// The books of a run that has fallen.
@@ -70,7 +102,7 @@ fn fallen(stage: Stage<Recovery>) -> Stage<Recovery>
 }
 
 impl<S: Storage + Drop> Opening<S> {
-    ghost use Rattle.salt_database.specs.Halves.{opening_left, opening_lies, opening_sees};
+    ghost use Rattle.salt_database.specs.Halves.{IsOnward, next_of, opening_left, opening_lies, opening_sees};
 
     /// Finds behind a fall what its devices stand for. What is found already is not looked for again.
     pub(crate) fn find<D: Disks, F: Fn(PlaceKind, &Key, u32) -> u32>(
@@ -132,8 +164,8 @@ impl<S: Storage + Drop> Opening<S> {
         }
     }
 
-    /// Tells what comes next in an opening, and gives what comes after it, none behind its end: a step where that is a statement, which
-    /// is done then. An error leaves the story as it was, or with this event.
+    /// Tells what comes next in an opening, and gives what comes after it: a step where that is a statement, which is done then; and behind
+    /// its end what serves lines. An error leaves the story as it was, or with this event.
     pub(crate) fn go_on<D: Disks, F: Fn(PlaceKind, &Key, u32) -> u32, L: Ledger>(
         &mut self,
         disks: &mut D,
@@ -141,33 +173,33 @@ impl<S: Storage + Drop> Opening<S> {
         event: Event,
         story: &mut Story,
         steps: &mut Steps<L>,
-    ) -> Result<Option<Event>, Halt>
+    ) -> Result<Onward, Halt>
         requires callable { TakesEachKey (F.pre place.now.place) }
         requires answers { GivesPlaceOf (F.post place.now.place) }
         requires stands { (p : Point) × IsSoundPoint p × IsOpeningAt (opening_sees (S.holds (D.view disks.old)) (S.is_new (D.view disks.old)) (D.view disks.old).can_stop) self.old (Some event) p }
-        ensures moves { IfOk result (λ next. (p : Point) → IsSoundPoint p → IsOpeningAt (opening_sees (S.holds (D.view disks.old)) (S.is_new (D.view disks.old)) (D.view disks.old).can_stop) self.old (Some event) p →
-            (q : Point) × Moves (Say event) p q × IsOpenedOn (opening_sees (S.holds (D.view disks.new)) (S.is_new (D.view disks.new)) (D.view disks.new).can_stop) self.new next q) }
+        ensures moves { IfOk result (λ onward. (p : Point) → IsSoundPoint p → IsOpeningAt (opening_sees (S.holds (D.view disks.old)) (S.is_new (D.view disks.old)) (D.view disks.old).can_stop) self.old (Some event) p →
+            (q : Point) × Moves (Say event) p q × IsOnward (S.holds (D.view disks.new)) (S.is_new (D.view disks.new)) (D.view disks.new).can_stop self.new onward q) }
         ensures tells { OnOk result (story.new ≡ story.old ++ event ∷ []) }
         ensures halts { IfErr result (λ halt. (p : Point) → IsSoundPoint p → IsOpeningAt (opening_sees (S.holds (D.view disks.old)) (S.is_new (D.view disks.old)) (D.view disks.old).can_stop) self.old (Some event) p →
             BreaksAt (opening_lies (S.holds (D.view disks.new)) (S.leaves (D.view disks.new)) (D.view disks.new).can_stop self.new 0) (opening_left (S.holds (D.view disks.new)) (S.leaves (D.view disks.new)) (S.rests (D.view disks.new)) self.new None 0) (S.fills (D.view disks.new) self.new.storage) (flight_of self.new.in_flight) halt p event story.old story.new) }
-        ensures ticks { IfOk result (λ next. steps.new ≡ steps.old + statements_at next) }
+        ensures ticks { IfOk result (λ onward. steps.new ≡ steps.old + statements_at (next_of onward)) }
         ensures short { OnErr result ((p : Point) → IsSoundPoint p → IsOpeningAt (opening_sees (S.holds (D.view disks.old)) (S.is_new (D.view disks.old)) (D.view disks.old).can_stop) self.old (Some event) p →
             MayTick p event story.old story.new steps.old steps.new) }
-        ensures less { IfOk result (λ next. left_in self.new.stage next < left_in self.old.stage (Some event)) }
+        ensures less { IfOk result (λ onward. left_in self.new.stage (next_of onward) < left_in self.old.stage (Some event)) }
         ensures within { StaysWithin (S.asked self.old.storage) (S.asked self.new.storage) (D.view disks.old) (D.view disks.new) }
-        ensures unarmed { IfOk result (λ next. armed_at next ≡ []) }
+        ensures unarmed { IfOk result (λ onward. armed_at (next_of onward) ≡ []) }
         ensures counts { CountsStops (D.view disks.old) (D.view disks.new) (disk_err result) [] 0 }
     {
         self.storage.stands(disks);
         let recovery = mem::replace(&mut self.stage, Stage::Lost).going();
-        let ends = ends_opening(&event);
-        story.push(event)?;
-        self.in_flight = None;
-        if ends {
-            self.stage = Stage::Going(recovery);
-            Ok(None)
+        if ends_opening(&event) {
+            let scheduler = end(self.alloc, recovery.into_books(), event, story)?;
+            self.in_flight = None;
+            Ok(Onward::Served(scheduler))
         } else {
-            Ok(Some(self.go_on_in_opening(disks, place, recovery, steps)?))
+            story.push(event)?;
+            self.in_flight = None;
+            Ok(Onward::Next(self.go_on_in_opening(disks, place, recovery, steps)?))
         }
     }
 

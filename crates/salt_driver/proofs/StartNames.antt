@@ -9,9 +9,9 @@ use Rattle.salt_stands.specs.OpenConts.{do_rise, is_later_than, is_not_of}
 use Rattle.salt_values.specs.Id.{is_same_id}
 use Rattle.salt_values.specs.declared.cont.Cont.{Cont}
 use Rattle.salt_values.specs.declared.id.Id.{Id}
-use Rattle.std.proofs.Common.{◌∙◌}
+use Rattle.std.proofs.Common.{ap, ◌∙◌}
 use Rattle.std.specs.List.{list_all}
-use Rattle.std.specs.Prelude.{Bool, List, None, Some, [], false, nat_lt, not, refl, true, ℕ, ◌∷◌, ◌≡◌}
+use Rattle.std.specs.Prelude.{Bool, List, None, Option, Some, [], false, nat_lt, not, refl, true, ℕ, ◌∷◌, ◌≡◌}
 
 abbrev name_in : Id → List Cont → List ℕ
 name_in b cs = elim (cont_in b cs) [ None ↦ [] | Some c ↦ c.program ]
@@ -21,8 +21,12 @@ not-true true h = cc
 not-true false h = refl
 
 -- one of another program is not looked at
+
+looks-on : (c d : Cont) (cs : List Cont) → is_later_than c d ≡ true → cont_in d.base (c ∷ cs) ≡ cont_in d.base cs
+looks-on c d cs later = rw (is_same_id-sym d.base c.base ∙ not-true (is_same_id c.base d.base) (right (nat_lt c.accepted d.accepted) (is_not_of c.base d) later)) refl
+
 passed : (c d : Cont) (cs : List Cont) → is_later_than c d ≡ true → name_in d.base (c ∷ cs) ≡ name_in d.base cs
-passed c d cs later = rw (is_same_id-sym d.base c.base ∙ not-true (is_same_id c.base d.base) (right (nat_lt c.accepted d.accepted) (is_not_of c.base d) later)) refl
+passed c d cs later = ap (λ (o : Option Cont). elim o [ None ↦ [] | Some e ↦ e.program ]) (looks-on c d cs later)
 
 all-passed : (c : Cont) (ds cs : List Cont) → list_all (is_later_than c) ds ≡ true → Every (λ (d : Cont). name_in d.base cs ≡ d.program) ds →
     Every (λ (d : Cont). name_in d.base (c ∷ cs) ≡ d.program) ds
@@ -32,8 +36,11 @@ all-passed c (d ∷ ds) cs later named = (
   all-passed c ds cs (right (is_later_than c d) (list_all (is_later_than c) ds) later) named.1,
 )
 
+looks-first : (c : Cont) (cs : List Cont) → cont_in c.base (c ∷ cs) ≡ Some c
+looks-first c cs = rw (is_same_id-refl c.base) refl
+
 first-found : (c : Cont) (cs : List Cont) → name_in c.base (c ∷ cs) ≡ c.program
-first-found c cs = rw (is_same_id-refl c.base) refl
+first-found c cs = ap (λ (o : Option Cont). elim o [ None ↦ [] | Some e ↦ e.program ]) (looks-first c cs)
 
 names-own : (cs : List Cont) → do_rise cs ≡ true → Every (λ (c : Cont). name_in c.base cs ≡ c.program) cs
 names-own [] rise = tt

@@ -5,3 +5,4 @@ pub mod Standing
 pub mod Performing
 pub mod Giving
 pub mod Engines
+pub mod Resuming

@@ -3,11 +3,14 @@
 ghost use Rattle.salt_books.specs.Books.{tables_in};
 ghost use Rattle.salt_books.specs.declared.books.Books.{Books};
 ghost use Rattle.salt_engine.specs.Flights.{flight_of};
+ghost use Rattle.salt_engine.specs.Resuming.{GoesOnBehindEarly};
 ghost use Rattle.salt_engine.specs.Standing.{IsReadyOver, ServesFrom, serving_books};
+ghost use Rattle.salt_engine.specs.declared.stage.Stage.TheVariants.{Going};
 ghost use Rattle.law_states.specs.States.{State};
-ghost use Rattle.std.specs.Prelude.{None, Some, ◌≡◌};
+ghost use Rattle.std.specs.Prelude.{IfOk, None, Some, ◌≡◌};
 
 use crate::flights::{InFlight, flight_of};
+use crate::resuming::resume;
 use crate::stage::Stage;
 use salt_books::{Books, Known};
 use salt_model::Flight;
@@ -16,10 +19,10 @@ use salt_scheduler::Scheduler;
 use salt_schema::Schema;
 use salt_storage::Numbers;
 use sqlite_items::Items;
-use std::alloc::Global;
+use std::alloc::{AllocError, Global};
 
 /// An engine over a storage, that serves lines: a half of it chooses in memory what comes next, and what is decided or read is asked
-/// of the storage. It is made behind an opening, in which the programs that were accepted have been finished. After a halt it is
+/// of the storage. It is made behind an opening, in which the programs that were accepted have been finished, or named. After a halt it is
 /// given up for an opening, with the books that stayed; after want of memory it does no more.
 #[derive(Drop)]
 pub struct Engine<S> {
@@ -67,11 +70,32 @@ impl<S: Drop> Engine<S> {
         let conts = Items::new(alloc);
         let known = Known::new(alloc, schema, catalogue, conts, boot, kept.decisions);
         let scheduler = Scheduler::new(alloc, Books::new(alloc, known, begun, false));
+        Engine::over(alloc, store, scheduler, false)
+    }
+
+    /// An engine over a storage behind the Early of an opening, over the books of that opening. For want of memory the storage is gone too.
+    pub fn resume(alloc: Global, store: S, books: Books) -> Result<Engine<S>, AllocError>
+        ensures store { IfOk result (λ engine. engine.storage ≡ store) }
+        ensures serves { IfOk result (λ engine. GoesOnBehindEarly books (λ s. ServesFrom engine.stage s)) }
+        ensures none { IfOk result (λ engine. engine.in_flight ≡ None) }
+    {
+        let scheduler = resume(alloc, books)?;
+        Ok(Engine::over(alloc, store, scheduler, false))
+    }
+
+    /// An engine over a storage, by a half in memory that stands between two lines; `single` tells whether the last line that was asked is
+    /// one statement.
+    pub fn over(alloc: Global, storage: S, scheduler: Scheduler, single: bool) -> Engine<S>
+        ensures storage { result.storage ≡ storage }
+        ensures stage { result.stage ≡ Going scheduler }
+        ensures single { result.single ≡ single }
+        ensures none { result.in_flight ≡ None }
+    {
         Engine {
             alloc,
-            storage: store,
+            storage,
             stage: Stage::Going(scheduler),
-            single: false,
+            single,
             in_flight: None,
             no_tables: Schema::new(alloc),
         }

@@ -1,11 +1,9 @@
-use Rattle.salt_database.proofs.Halved.{at-closed, closed-at, engine-sees, half-within, is-opened}
+use Rattle.salt_database.proofs.Halved.{at-closed, closed-at, engine-sees, half-within}
 use Rattle.salt_database.proofs.database.DatabaseOpenable.go_on.Goals as goal
-use Rattle.salt_database.specs.Halves.{opening_sees}
-use Rattle.salt_model.specs.declared.events.Event.{Event}
-use Rattle.salt_driver.specs.Standing.{IsOpenedOn}
+use Rattle.salt_database.specs.Halves.{IsOnward}
+use Rattle.salt_database.specs.declared.onward.Onward.{Onward}
 use Rattle.salt_storage.specs.Staying.{StaysWithin}
 use Rattle.std.proofs.Common.{subst, sym, ◌∙◌}
-use Rattle.std.specs.Prelude.{Option}
 
 pub go_on-requires-clause-stands : goal.go_on-requires-clause-stands
 go_on-requires-clause-stands g c =
@@ -13,41 +11,30 @@ go_on-requires-clause-stands g c =
     let is = sym c.replace.ensures.value ∙ c.closed-opening.ensures in
     (s.0, s.1, closed-at _ _ _ c.args.self.now c.closed-opening.result c.args.event s.0 is s.2)
 
-pub into_engine-requires : goal.into_engine-requires
-into_engine-requires g c =
-    let now = g.D.Disks.view c.go_on.new.disks in
-    let s = c.requires.stands in
-    let is = sym c.replace.ensures.value ∙ c.closed-opening.ensures in
-    let m = c.in-Ok-None.ensures.moves s.0 s.1 (closed-at _ _ _ c.args.self.now c.closed-opening.result c.args.event s.0 is s.2) in
-    let sees = opening_sees (g.S.Storage.holds now) (g.S.Storage.is_new now) now.can_stop in
-    let idle = subst (λ (next : Option Event). IsOpenedOn sees c.go_on.new.self next m.0) c.in-Ok-None.field-0-is m.2 in
-    is-opened (g.S.Storage.holds now) (g.S.Storage.is_new now) now.can_stop c.go_on.new.self m.0.state idle.state
-
-pub returns-in-Ok-None-clause-moves : goal.returns-in-Ok-None-clause-moves
-returns-in-Ok-None-clause-moves g c = λ p sound at.
+pub returns-in-Ok-Served-clause-moves : goal.returns-in-Ok-Served-clause-moves
+returns-in-Ok-Served-clause-moves g c = λ p sound at.
     let now = g.D.Disks.view c.go_on.new.disks in
     let is = sym c.replace.ensures.value ∙ c.closed-opening.ensures in
-    let m = c.in-Ok-None.ensures.moves p sound (closed-at _ _ _ c.args.self.now c.closed-opening.result c.args.event p is at) in
-    let sees = opening_sees (g.S.Storage.holds now) (g.S.Storage.is_new now) now.can_stop in
-    let idle = subst (λ (next : Option Event). IsOpenedOn sees c.go_on.new.self next m.0) c.in-Ok-None.field-0-is m.2 in
+    let m = c.in-Ok-Served.ensures.moves p sound (closed-at _ _ _ c.args.self.now c.closed-opening.result c.args.event p is at) in
+    let goes = subst (λ (onward : Onward). IsOnward (g.S.Storage.holds now) (g.S.Storage.is_new now) now.can_stop c.go_on.new.self onward m.0) c.in-Ok-Served.field-0-is m.2 in
     let e = c.into_engine.ensures in (
       m.0,
       m.1,
       record {
         state =
-            engine-sees (g.S.Storage.holds now) (g.S.Storage.is_new now) now.can_stop c.go_on.new.self c.into_engine.result m.0.state e.storage e.serves e.single e.none idle.state;
-        idle = idle.idle;
+            engine-sees (g.S.Storage.holds now) (g.S.Storage.is_new now) now.can_stop c.go_on.new.self c.in-Ok-Served.scheduler c.into_engine.result m.0.state e.storage e.serves e.single e.none
+            goes.state;
+        idle = goes.idle;
       },
     )
 
-pub returns-in-Ok-Some-clause-moves : goal.returns-in-Ok-Some-clause-moves
-returns-in-Ok-Some-clause-moves g c = λ p sound at.
+pub returns-in-Ok-Next-clause-moves : goal.returns-in-Ok-Next-clause-moves
+returns-in-Ok-Next-clause-moves g c = λ p sound at.
     let now = g.D.Disks.view c.go_on.new.disks in
     let is = sym c.replace.ensures.value ∙ c.closed-opening.ensures in
-    let m = c.in-Ok-Some.ensures.moves p sound (closed-at _ _ _ c.args.self.now c.closed-opening.result c.args.event p is at) in
-    let sees = opening_sees (g.S.Storage.holds now) (g.S.Storage.is_new now) now.can_stop in
-    let goes = subst (λ (next : Option Event). IsOpenedOn sees c.go_on.new.self next m.0) c.in-Ok-Some.field-0-is m.2 in
-    (m.0, m.1, at-closed (g.S.Storage.holds now) (g.S.Storage.is_new now) now.can_stop c.go_on.new.self c.in-Ok-Some.next m.0 goes)
+    let m = c.in-Ok-Next.ensures.moves p sound (closed-at _ _ _ c.args.self.now c.closed-opening.result c.args.event p is at) in
+    let goes = subst (λ (onward : Onward). IsOnward (g.S.Storage.holds now) (g.S.Storage.is_new now) now.can_stop c.go_on.new.self onward m.0) c.in-Ok-Next.field-0-is m.2 in
+    (m.0, m.1, at-closed (g.S.Storage.holds now) (g.S.Storage.is_new now) now.can_stop c.go_on.new.self c.in-Ok-Next.next m.0 goes)
 
 pub returns-in-Err-clause-halts : goal.returns-in-Err-clause-halts
 returns-in-Err-clause-halts g c = λ p sound at.
@@ -60,13 +47,13 @@ go_on-requires-clause-callable g c = c.requires.callable
 pub go_on-requires-clause-answers : goal.go_on-requires-clause-answers
 go_on-requires-clause-answers g c = c.requires.answers
 
-pub returns-in-Ok-None-clause-within : goal.returns-in-Ok-None-clause-within
-returns-in-Ok-None-clause-within g c =
+pub returns-in-Ok-Served-clause-within : goal.returns-in-Ok-Served-clause-within
+returns-in-Ok-Served-clause-within g c =
     half-within _ _ _ c.args.self.now _ _ _ _ (sym c.replace.ensures.value ∙ c.closed-opening.ensures)
     (subst (λ (st : g.row.S.Denot). StaysWithin (g.S.Storage.asked c.closed-opening.result.storage) (g.S.Storage.asked st) (g.D.Disks.view c.args.disks.now) (g.D.Disks.view c.go_on.new.disks)) (sym c.into_engine.ensures.storage) c.go_on.ensures.within)
 
-pub returns-in-Ok-Some-clause-within : goal.returns-in-Ok-Some-clause-within
-returns-in-Ok-Some-clause-within g c = half-within _ _ _ c.args.self.now _ _ _ _ (sym c.replace.ensures.value ∙ c.closed-opening.ensures) c.go_on.ensures.within
+pub returns-in-Ok-Next-clause-within : goal.returns-in-Ok-Next-clause-within
+returns-in-Ok-Next-clause-within g c = half-within _ _ _ c.args.self.now _ _ _ _ (sym c.replace.ensures.value ∙ c.closed-opening.ensures) c.go_on.ensures.within
 
 pub returns-in-Err-clause-within : goal.returns-in-Err-clause-within
 returns-in-Err-clause-within g c = half-within _ _ _ c.args.self.now _ _ _ _ (sym c.replace.ensures.value ∙ c.closed-opening.ensures) c.go_on.ensures.within

@@ -1,14 +1,19 @@
-use Rattle.salt_database.proofs.GoDone.{comes-ready, done-ready, ends-ready, opening-less, opens-halts, opens-short, opens-there, ready-idles, ready-less, ready-sees, says-ready, untold-lost}
+use Rattle.salt_books.specs.declared.books.Books.{Books}
+use Rattle.salt_database.proofs.GoDone.{end-less, ended, ended-at, opening-less, opens-halts, opens-short, opens-there, untold-lost}
 use Rattle.salt_database.proofs.OpeningGoes.{goes-on, opened-on}
 use Rattle.salt_database.proofs.Stages.{opened-at, opens-now}
 use Rattle.salt_database.proofs.opening.Opening.go_on.Goals as goal
 use Rattle.salt_engine.proofs.Counted.{cause-lost, same-cause}
 use Rattle.salt_engine.proofs.LineAsked.{counts-same}
+use Rattle.salt_database.specs.Standing.{ServesBehind, left_in}
+use Rattle.salt_drain.specs.declared.recovery.Recovery.{Recovery}
 use Rattle.salt_engine.specs.Standing.{IsGoingStage}
+use Rattle.salt_engine.specs.declared.stage.Stage.{Stage}
 use Rattle.salt_driver.proofs.Counted.{counts-cause}
 use Rattle.std.proofs.Common.{ap, inl, refl, subst, sym, ◌∙◌}
 use Rattle.std.proofs.lemmas.Result.{err_from_is_err_and}
-use Rattle.std.specs.Prelude.{Some, []}
+use Rattle.salt_scheduler.specs.Standing.{StandsForState}
+use Rattle.std.specs.Prelude.{None, Some, [], ◌<◌}
 
 pub going-recovery-requires : goal.going-recovery-requires
 going-recovery-requires g c =
@@ -24,37 +29,59 @@ go_on_in_opening-requires-clause-stands g c =
     let p = c.requires.stands.0 in
     let at = c.requires.stands.2 in
     let there = sym c.replace.ensures.value ∙ c.going-recovery.ensures in
-    let going = sym c.ends_opening-ends.ensures ∙ c.if-ends.false in
+    let going = sym c.ends_opening.ensures ∙ c.if-ends_opening.false in
     let h = opened-at _ _ _ _ _ p.state there at.state.0.seen in
     (h.0, goes-on c.going-recovery.result c.args.event p c.requires.stands.1 h.0 h.1 at.comes going _ _ h.2)
 
-pub returns-then-ends-clause-moves : goal.returns-then-ends-clause-moves
-returns-then-ends-clause-moves g c = λ p sound at.
+pub end-requires : goal.end-requires
+end-requires g c = sym c.ends_opening.ensures ∙ c.if-ends_opening.true
+
+pub returns-in_ok-scheduler-clause-moves : goal.returns-in_ok-scheduler-clause-moves
+returns-in_ok-scheduler-clause-moves g c = λ p sound at.
     let there = sym c.replace.ensures.value ∙ c.going-recovery.ensures in
     let x = c.going-recovery.result in
+    let y = c.in_ok-scheduler.scheduler in
     let e = c.args.event in
-    let is = ends-ready e p sound at.state.0.plain at.comes (sym c.ends_opening-ends.ensures ∙ c.if-ends.true) in
+    let now = g.D.Disks.view c.args.disks.now in
+    let ends = sym c.ends_opening.ensures ∙ c.if-ends_opening.true in
     let h = opened-at _ _ _ _ _ p.state there at.state.0.seen in
-    let d = done-ready x e p.state h.0 is h.1 in
-    let comes = comes-ready p e is at.comes in
-    says-ready _ _ e p is (ready-idles x p sound h.0 d comes at.opening _ _
-    (ready-sees x p sound h.0 d comes at.opening _ _ _ _ _ _ _ _ refl h.2 at.state.0.can_stop at.state.0.plain refl at.state.0.line refl refl, at.state.1))
+    let serves = subst (λ (books : Books). ServesBehind e books (λ s. StandsForState y s)) c.into_books.ensures c.in_ok-scheduler.ensures.serves in
+    ended-at (g.S.Storage.holds now) (g.S.Storage.is_new now) _ y e p h.0 _ _ _ (ended x e p sound h.0 h.1 at.comes at.opening _ ends serves) h.2 at.state.0.can_stop at.state.0.plain refl
+    at.state.0.line refl refl
 
-pub returns-then-ends-clause-less : goal.returns-then-ends-clause-less
-returns-then-ends-clause-less g c =
-    let at = c.requires.stands.2 in
-    ready-less _ _ c.going-recovery.result c.going-recovery.result c.args.event (sym c.replace.ensures.value ∙ c.going-recovery.ensures)
-    (ends-ready c.args.event c.requires.stands.0 c.requires.stands.1 at.state.0.plain at.comes (sym c.ends_opening-ends.ensures ∙ c.if-ends.true)) refl
+pub returns-in_ok-scheduler-clause-less : goal.returns-in_ok-scheduler-clause-less
+returns-in_ok-scheduler-clause-less g c =
+    subst (λ (s : Stage Recovery). left_in s None < left_in c.args.self.now.stage (Some c.args.event)) (sym c.replace.ensures.after)
+    (end-less c.args.self.now.stage c.going-recovery.result c.args.event (sym c.replace.ensures.value ∙ c.going-recovery.ensures) (sym c.ends_opening.ensures ∙ c.if-ends_opening.true))
 
-pub returns-then-ends-clause-counts : goal.returns-then-ends-clause-counts
-returns-then-ends-clause-counts g c = counts-same _ [] refl
+pub returns-in_ok-scheduler-clause-counts : goal.returns-in_ok-scheduler-clause-counts
+returns-in_ok-scheduler-clause-counts g c = counts-same _ [] refl
+
+pub returns-in_err-scheduler-clause-halts : goal.returns-in_err-scheduler-clause-halts
+returns-in_err-scheduler-clause-halts g c =
+    let q = err_from_is_err_and c.from_residual.result c.from_residual.ensures.1 in
+    rw (q.1, q.2) (λ p sound at.
+    let there = sym c.replace.ensures.value ∙ c.going-recovery.ensures in
+    let h = opened-at _ _ _ _ _ p.state there at.state.0.seen in
+    untold-lost c.going-recovery.result c.args.event p sound h.0 h.1 at.comes at.opening _ _ _ _ _ at.state.1 _ _ _ c.args.story.now c.end.new.story
+    (c.stands.ensures.stays h.0.units.kept h.2.holding) c.replace.ensures.after at.state.0.flies c.in_err-scheduler.ensures.untold)
+
+pub returns-in_err-scheduler-clause-counts : goal.returns-in_err-scheduler-clause-counts
+returns-in_err-scheduler-clause-counts g c =
+    let q = err_from_is_err_and c.from_residual.result c.from_residual.ensures.1 in
+    rw (q.1, q.2) (counts-cause _ _ _ [] refl (cause-lost _ _ (same-cause (g.D.Disks.view c.args.disks.now))))
+
+pub returns-in_err-scheduler-clause-short : goal.returns-in_err-scheduler-clause-short
+returns-in_err-scheduler-clause-short g c =
+    let q = err_from_is_err_and c.from_residual.result c.from_residual.ensures.1 in
+    rw q.1 (λ p sound at. inl refl)
 
 pub returns-in_ok-go_on_in_opening-clause-moves : goal.returns-in_ok-go_on_in_opening-clause-moves
 returns-in_ok-go_on_in_opening-clause-moves g c = λ p sound at.
     let there = sym c.replace.ensures.value ∙ c.going-recovery.ensures in
     let x = c.going-recovery.result in
     let e = c.args.event in
-    let going = sym c.ends_opening-ends.ensures ∙ c.if-ends.false in
+    let going = sym c.ends_opening.ensures ∙ c.if-ends_opening.false in
     let h = opened-at _ _ _ _ _ p.state there at.state.0.seen in
     let d = c.in_ok-go_on_in_opening.ensures.comes h.0 (goes-on x e p sound h.0 h.1 at.comes going _ _ h.2) in
     opens-there x e p sound h.0 h.1 at.comes going _ _ _ (
@@ -70,7 +97,7 @@ returns-in_ok-go_on_in_opening-clause-less g c =
     let there = sym c.replace.ensures.value ∙ c.going-recovery.ensures in
     let x = c.going-recovery.result in
     let e = c.args.event in
-    let going = sym c.ends_opening-ends.ensures ∙ c.if-ends.false in
+    let going = sym c.ends_opening.ensures ∙ c.if-ends_opening.false in
     let h = opened-at _ _ _ _ _ p.state there at.state.0.seen in
     let d = c.in_ok-go_on_in_opening.ensures.comes h.0 (goes-on x e p sound h.0 h.1 at.comes going _ _ h.2) in
     opening-less _ _ _ _ x e _ p sound h.0 h.1 at.comes going there d.sees (c.stands.ensures.sound h.0.units.kept h.2.holding) d.told
@@ -85,7 +112,7 @@ returns-in_err-go_on_in_opening-clause-halts g c =
     let there = sym c.replace.ensures.value ∙ c.going-recovery.ensures in
     let x = c.going-recovery.result in
     let e = c.args.event in
-    let going = sym c.ends_opening-ends.ensures ∙ c.if-ends.false in
+    let going = sym c.ends_opening.ensures ∙ c.if-ends_opening.false in
     let h = opened-at _ _ _ _ _ p.state there at.state.0.seen in
     let b = c.in_err-go_on_in_opening.ensures.comes h.0 (goes-on x e p sound h.0 h.1 at.comes going _ _ h.2) in
     opens-halts x e p sound h.0 h.1 at.comes going _ _ _ _ _ _ _ ((ap (λ n. n.1) c.go_on_in_opening.ensures.stays.noted) ∙ at.state.1) _ _ _ _ c.args.story.now c.push.new.self b at.state.0.can_stop at.state.0.plain c.go_on_in_opening.ensures.stays.within.shape.can_stop at.state.0.line
@@ -98,7 +125,7 @@ returns-in_err-go_on_in_opening-clause-counts g c =
 
 pub returns-in_err-push-clause-halts : goal.returns-in_err-push-clause-halts
 returns-in_err-push-clause-halts g c =
-    let q = err_from_is_err_and c.from_residual.result c.from_residual.ensures.1 in
+    let q = err_from_is_err_and c.from_residual-in_err-push.result c.from_residual-in_err-push.ensures.1 in
     rw (q.1, q.2) (λ p sound at.
     let there = sym c.replace.ensures.value ∙ c.going-recovery.ensures in
     let h = opened-at _ _ _ _ _ p.state there at.state.0.seen in
@@ -107,7 +134,7 @@ returns-in_err-push-clause-halts g c =
 
 pub returns-in_err-push-clause-counts : goal.returns-in_err-push-clause-counts
 returns-in_err-push-clause-counts g c =
-    let q = err_from_is_err_and c.from_residual.result c.from_residual.ensures.1 in
+    let q = err_from_is_err_and c.from_residual-in_err-push.result c.from_residual-in_err-push.ensures.1 in
     rw (q.1, q.2) (counts-cause _ _ _ [] refl (cause-lost _ _ (same-cause (g.D.Disks.view c.args.disks.now))))
 
 pub returns-in_err-go_on_in_opening-clause-short : goal.returns-in_err-go_on_in_opening-clause-short
@@ -117,14 +144,14 @@ returns-in_err-go_on_in_opening-clause-short g c =
     let there = sym c.replace.ensures.value ∙ c.going-recovery.ensures in
     let x = c.going-recovery.result in
     let e = c.args.event in
-    let going = sym c.ends_opening-ends.ensures ∙ c.if-ends.false in
+    let going = sym c.ends_opening.ensures ∙ c.if-ends_opening.false in
     let h = opened-at _ _ _ _ _ p.state there at.state.0.seen in
     opens-short x e p sound h.0 h.1 at.comes going c.args.story.now c.push.new.self c.args.steps.now c.go_on_in_opening.new.steps
     (c.in_err-go_on_in_opening.ensures.short h.0 (goes-on x e p sound h.0 h.1 at.comes going _ _ h.2)) c.in_ok-push.ensures.ok)
 
 pub returns-in_err-push-clause-short : goal.returns-in_err-push-clause-short
 returns-in_err-push-clause-short g c =
-    let q = err_from_is_err_and c.from_residual.result c.from_residual.ensures.1 in
+    let q = err_from_is_err_and c.from_residual-in_err-push.result c.from_residual-in_err-push.ensures.1 in
     rw q.1 (λ p sound at. inl refl)
 
 pub returns-in_ok-go_on_in_opening-clause-within : goal.returns-in_ok-go_on_in_opening-clause-within

@@ -1,12 +1,12 @@
 use Rattle.salt_engine.proofs.engine.Engine.new.Goals as goal
-use Rattle.std.proofs.Common.{inl, refl, sym, ◌∙◌}
+use Rattle.std.proofs.Common.{inl, sym, ◌∙◌}
 
 pub returns-clause-serves : goal.returns-clause-serves
 returns-clause-serves g c = λ s r.
     let known = c.new-known.ensures s.units.kept r.schema r.catalogue (c.new-conts.ensures ∙ sym r.conts) r.boot r.decisions r.lead_on in
     let books = c.new.ensures s.units.kept s.units.phase s.units.line known in (
       c.new-scheduler.result,
-      refl,
+      c.over.ensures.stage,
       c.new-scheduler.ensures s
           (record {
             known = books.known;
