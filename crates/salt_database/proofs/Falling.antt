@@ -24,7 +24,7 @@ use Rattle.law_openings.proofs.Opening.{falls-again, none-to-go}
 use Rattle.law_openings.specs.Openings.{FallsAgain}
 use Rattle.law_decisions.proofs.Flying.{fallen-same}
 use Rattle.law_decisions.proofs.Owning.{fallen-none}
-use Rattle.salt_driver.proofs.PlainStarts.{owes-none}
+use Rattle.salt_driver.proofs.Owing.{owes-none}
 use Rattle.salt_driver.specs.Opening.{IsFallenFrom}
 use Rattle.salt_values.specs.declared.id.Id.{Id}
 use Rattle.salt_conflicts.proofs.Others.{others}

@@ -17,16 +17,16 @@ use Rattle.salt_storage.specs.Storing.{IsFound, IsSoundKept, Reopens}
 use Rattle.salt_storage.specs.declared.found.Found.{Found}
 use Rattle.salt_storage.specs.declared.found.Numbers.{Numbers}
 use Rattle.std.proofs.Common.{inl, inr}
-use Rattle.std.specs.Prelude.{Option, Some, [], false, refl, ◌≡◌, ◌⊎◌}
+use Rattle.std.specs.Prelude.{Bool, Option, Some, [], false, refl, ◌≡◌, ◌⊎◌}
 
 -- at first
-pub takes-on : (x : Found) (k : Kept) (known : Known) (books : Books) (found : Option Numbers) (stage : Stage Recovery) → IsFound x k → IsSoundKept k →
+pub takes-on : (early : Bool) (x : Found) (k : Kept) (known : Known) (books : Books) (found : Option Numbers) (stage : Stage Recovery) → IsFound x k → IsSoundKept k →
     are_spent x.boot x.decisions ≡ false →
     (x.schema ≡ schema_of k → x.catalogue ≡ programs_of k → x.conts ≡ k.conts → x.boot ≡ k.boot → x.decisions ≡ k.decisions → AllLeadOn (programs_of k) → IsKnown known k) →
     ((phase : Phase) (line : Line) → IsKnown known k →
-    AreBooks books (record { kept = k; phase = phase; line = line; to_go = []; early = false; named = []; owes = false; units = []; unit_count = 0; base_count = 0 })) →
-    found ≡ Some (record { boot = x.boot; decisions = x.decisions }) → stage ≡ at.Down books → IsTakenOn k found stage
-takes-on x k known books found stage is sound unspent knows fresh numbered there =
+    AreBooks books (record { kept = k; phase = phase; line = line; to_go = []; early = early; named = []; owes = false; units = []; unit_count = 0; base_count = 0 })) →
+    found ≡ Some (record { boot = x.boot; decisions = x.decisions }) → stage ≡ at.Down books → IsTakenOn early k found stage
+takes-on early x k known books found stage is sound unspent knows fresh numbered there =
     let it : IsKnown known k = knows is.schema is.catalogue is.conts is.boot is.decisions (leads-on k sound) in
     record {
       books = books;

@@ -74,7 +74,7 @@ module _ {S : Type 0} (holds : S → Kept → Type 0) (is_new : S → Id → Typ
             subst (λ (t : S). StandsAtEventIn (holds t) (is_new t) e.stage None s) (sym stored)
             (subst (λ (k : Stage Scheduler). StandsAtEventIn (holds o.storage) (is_new o.storage) k None s) (sym f.1) (f.2, h.seen.1));
         can_stop = h.can_stop;
-        plain = h.plain;
+        off_net = h.off_net;
         line = single ∙ h.line;
         flies = none-flies e.in_flight None s.units none refl;
       }
@@ -94,7 +94,7 @@ module _ {S : Type 0} (holds : S → Kept → Type 0) (leaves : S → Kept → K
     knows = subst (λ (books : Option Books). KnowsUnits books p.state.units) (sym b.books) h.knows;
     sound = h.sound;
     can_stop = h.can_stop;
-    plain = h.plain;
+    off_net = h.off_net;
     line = b.single ∙ h.line;
     flies = subst (λ (i : Option InFlight). IsInFlight i p.flight p.state.units) (sym b.flies) h.flies;
   }

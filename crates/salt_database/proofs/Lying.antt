@@ -19,7 +19,6 @@ use Rattle.salt_model.specs.declared.events.Event.{Event}
 use Rattle.salt_model.specs.declared.events.Event.TheVariants.{Down}
 use Rattle.salt_model.specs.declared.events.Why.{Why}
 use Rattle.salt_drain.specs.declared.recovery.Recovery.{Recovery}
-use Rattle.salt_driver.proofs.PlainStarts.{plain-after}
 use Rattle.salt_driver.specs.Opening.{IsFallenFrom, IsOpenedFirst}
 use Rattle.salt_storage.specs.Storing.{IsSoundKept}
 use Rattle.salt_storage.specs.declared.found.Numbers.{Numbers}
@@ -29,9 +28,9 @@ use Rattle.std.specs.Prelude.{Bool, IsSome, None, Option, Some, [], refl, ℕ, �
 -- AT FIRST
 
 pub opened-first : (holds : Kept → Type 0) (leaves : Kept → Kept → Type 0) (stoppable : Bool) (found : Option Numbers) (stage : Stage Recovery) (single : Bool)
-    (in_flight : Option InFlight) (k : Kept) → IsNew k found stage single in_flight → holds k → IsSoundKept k →
-    IsOpenedFirst (CanReopenAt holds leaves stoppable found (opening_books stage) single in_flight) k stoppable
-opened-first holds leaves stoppable found stage single in_flight k new holding sound p u =
+    (in_flight : Option InFlight) (early : Bool) (k : Kept) → IsNew early k found stage single in_flight → holds k → IsSoundKept k →
+    IsOpenedFirst (CanReopenAt holds leaves stoppable found (opening_books stage) single in_flight) k stoppable early
+opened-first holds leaves stoppable found stage single in_flight early k new holding sound p u =
     let taken = new.taken in
     let books = taken.fresh p.state.units.phase p.state.units.line in
     record {
@@ -49,7 +48,7 @@ opened-first holds leaves stoppable found stage single in_flight k new holding s
             unit_count = books.unit_count;
             base_count = books.base_count;
             to_go = books.to_go;
-            early = books.early ∙ sym u.plain.early;
+            early = books.early ∙ sym u.early;
             named = books.named ∙ sym u.named;
             owes = books.owes ∙ sym u.owes;
           };
@@ -58,7 +57,7 @@ opened-first holds leaves stoppable found stage single in_flight k new holding s
       );
       sound = subst IsSoundKept (sym u.kept) sound;
       can_stop = u.can_stop;
-      plain = u.plain;
+      off_net = u.off_net;
       line = new.line ∙ sym (ap is_statement_line u.line);
       flies = subst (λ (i : Option InFlight). IsInFlight i p.flight p.state.units) (sym new.none) u.flight;
     }
@@ -101,7 +100,7 @@ fallen-lies holds now leaves again old stoppable found books later single in_fli
       knows = subst (KnowsUnits later) (sym units) (knows p.state.units fell.why h.knows);
       sound = subst (λ (s : UnitState). IsSoundKept s.kept) (sym units) h.sound;
       can_stop = fell.after.can_stop ∙ h.can_stop ∙ sym same;
-      plain = plain-after (Down fell.why) p.state q.state fell.after h.plain;
+      off_net = fell.after.over_net ∙ h.off_net;
       line = h.line ∙ sym (ap (λ (s : UnitState). is_statement_line s.line) units);
       flies =
           subst (λ (f : Option Event). IsInFlight in_flight f q.state.units) (sym fell.flight)

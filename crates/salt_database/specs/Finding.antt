@@ -26,14 +26,14 @@ use Rattle.salt_storage.specs.Storing.{IsSoundKept}
 use Rattle.salt_storage.specs.declared.found.Numbers.{Numbers}
 use Rattle.std.specs.Prelude.{Bool, IsSome, None, Option, Some, [], false, true, ℕ, ◌+◌, ◌<◌, ◌≡◌, ◌⊎◌}
 
--- nothing is open over what is kept
-abbrev pub AreFresh : Books → Kept → Type 0
-AreFresh x k = (phase : Phase) (line : Line) → AreBooks x (record {
+-- nothing is open over what is kept; openings may be early, or not
+abbrev pub AreFresh : Bool → Books → Kept → Type 0
+AreFresh early x k = (phase : Phase) (line : Line) → AreBooks x (record {
   kept = k;
   phase = phase;
   line = line;
   to_go = [];
-  early = false;
+  early = early;
   named = [];
   owes = false;
   units = [];
@@ -42,17 +42,17 @@ AreFresh x k = (phase : Phase) (line : Line) → AreBooks x (record {
 })
 
 -- so it stands over what is kept
-pub record IsTakenOn (k : Kept) (found : Option Numbers) (stage : Stage Recovery) : Type 0 where
+pub record IsTakenOn (early : Bool) (k : Kept) (found : Option Numbers) (stage : Stage Recovery) : Type 0 where
   pub books : Books
   pub numbers : Numbers
   pub is : found ≡ Some numbers
   pub there : stage ≡ Down books
-  pub fresh : AreFresh books k
+  pub fresh : AreFresh early books k
   pub numbered : IsNumbered numbers k
 
 -- and was asked nothing yet
-pub record IsNew (k : Kept) (found : Option Numbers) (stage : Stage Recovery) (single : Bool) (in_flight : Option InFlight) : Type 0 where
-  pub taken : IsTakenOn k found stage
+pub record IsNew (early : Bool) (k : Kept) (found : Option Numbers) (stage : Stage Recovery) (single : Bool) (in_flight : Option InFlight) : Type 0 where
+  pub taken : IsTakenOn early k found stage
   pub line : single ≡ false
   pub none : in_flight ≡ None
 

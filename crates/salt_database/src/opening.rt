@@ -46,12 +46,13 @@ fn left_with(books: Option<Books>) -> Stage<Recovery>
 }
 
 impl<S: Drop> Opening<S> {
-    /// An opening over what was found on a storage, whose numbers are not spent. No boot has begun.
-    pub fn new(alloc: Global, storage: S, found: Found) -> Opening<S>
+    /// An opening over what was found on a storage, whose numbers are not spent; `early` tells whether openings may end early. No boot has
+    /// begun.
+    pub fn new(alloc: Global, storage: S, found: Found, early: bool) -> Opening<S>
         requires { are_spent found.boot found.decisions ≡ false }
         ensures storage { result.storage ≡ storage }
         ensures found { IsFoundStage result.found result.stage }
-        ensures is_new { (k : Kept) → IsFound found k → IsSoundKept k → IsNew k result.found result.stage result.single result.in_flight }
+        ensures is_new { (k : Kept) → IsFound found k → IsSoundKept k → IsNew early k result.found result.stage result.single result.in_flight }
     {
         let Found {
             schema,
@@ -64,7 +65,7 @@ impl<S: Drop> Opening<S> {
         Opening {
             alloc,
             storage,
-            stage: Stage::Down(Books::new(alloc, known, 0, false)),
+            stage: Stage::Down(Books::new(alloc, known, 0, early)),
             found: Some(Numbers { boot, decisions }),
             single: false,
             in_flight: None,

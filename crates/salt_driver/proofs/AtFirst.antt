@@ -15,7 +15,7 @@ use Rattle.law_openings.proofs.Leaving.{leaves}
 use Rattle.law_openings.proofs.Opening.{falls-again, start-point}
 use Rattle.salt_driver.proofs.Falling.{fallen_point}
 use Rattle.salt_driver.proofs.StartNames.{start-names}
-use Rattle.salt_driver.specs.Opening.{FailsToFind, FindsFirst, IsOpenedFirst, IsUnfound, IsUnopened, fallen_often, plain_start, starting}
+use Rattle.salt_driver.specs.Opening.{FailsToFind, FindsFirst, IsOpenedFirst, IsUnfound, IsUnopened, fallen_often, start_over, starting}
 use Rattle.salt_driver.specs.Serving.{IsDown}
 use Rattle.salt_stands.specs.Stands.{are_spent}
 use Rattle.salt_stands.specs.Unspent.{OpensUnspent}
@@ -52,17 +52,17 @@ often-unspent start zero = tt
 often-unspent start (suc times) = (often-unspent start times, tt)
 
 -- it lies there as it fell first
-unfound-point : (k : Kept) (can_stop : Bool) → WellKept k → (times : ℕ) →
-    (p : Point) × KeepsPoint p (fallen_often (plain_start k can_stop) times) × IsSound (fallen_often (plain_start k can_stop) times) × IsUnopened k can_stop p
+unfound-point : (k : Kept) (can_stop early : Bool) → WellKept k → (times : ℕ) →
+    (p : Point) × KeepsPoint p (fallen_often (start_over k can_stop early) times) × IsSound (fallen_often (start_over k can_stop early) times) × IsUnopened k can_stop early p
 unfolding fallen_point
-unfound-point k can_stop well zero =
-    let start = plain_start k can_stop in
+unfound-point k can_stop early well zero =
+    let start = start_over k can_stop early in
     let at = start-point start well in
-    (starting start, at.0, at.1, record { fallen = refl; kept = refl; line = refl; units = refl; named = refl; owes = refl; flight = refl; can_stop = refl; plain = record { early = refl; over_net = refl } })
-unfound-point k can_stop well (suc times) =
-    let u = unfound-point k can_stop well times in
+    (starting start, at.0, at.1, record { fallen = refl; kept = refl; line = refl; units = refl; named = refl; owes = refl; flight = refl; can_stop = refl; early = refl; off_net = refl })
+unfound-point k can_stop early well (suc times) =
+    let u = unfound-point k can_stop early well times in
     let p = u.0 in
-    let trace = fallen_often (plain_start k can_stop) times in
+    let trace = fallen_often (start_over k can_stop early) times in
     let l = leaves p.state trace (Down Stopped) u.1.state u.2 in
     let q = fallen_point Stopped p l in
     let at = falls-again p q trace u.1 u.2 (record { fallen = u.3.fallen; after = l.after; next = refl; flight = refl }) in (
@@ -78,18 +78,19 @@ unfound-point k can_stop well (suc times) =
         owes = refl;
         flight = u.3.flight;
         can_stop = u.3.can_stop;
-        plain = record { early = u.3.plain.early; over_net = u.3.plain.over_net };
+        early = u.3.early;
+        off_net = u.3.off_net;
       },
     )
 
 -- over what was found then it is down
-pub down-at-first : (k : Kept) (can_stop : Bool) (lies : ℕ → Point → Type 0) (flies : Option Flight) (story : List Event) → IsUnfound story → IsSoundKept k →
-    IsOpenedFirst lies k can_stop → flies ≡ None → (trace : Trace) × IsDown lies flies (plain_start k can_stop) story trace × (lines_of trace ≡ [])
-down-at-first k can_stop lies flies story u sound opens none =
-    let start = plain_start k can_stop in
+pub down-at-first : (k : Kept) (can_stop early : Bool) (lies : ℕ → Point → Type 0) (flies : Option Flight) (story : List Event) → IsUnfound story → IsSoundKept k →
+    IsOpenedFirst lies k can_stop early → flies ≡ None → (trace : Trace) × IsDown lies flies (start_over k can_stop early) story trace × (lines_of trace ≡ [])
+down-at-first k can_stop early lies flies story u sound opens none =
+    let start = start_over k can_stop early in
     let times = u.0 in
     let trace = fallen_often start times in
-    let x = unfound-point k can_stop sound.well times in (
+    let x = unfound-point k can_stop early sound.well times in (
       trace,
       record {
         tells = record { begins = often-begins start times; told = u.1 start; played = x.2.played };

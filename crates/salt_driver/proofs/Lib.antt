@@ -7,5 +7,5 @@ pub mod Draining
 pub mod Falling
 pub mod AtFirst
 pub mod Refusing
-pub mod PlainStarts
+pub mod Owing
 pub mod RefusedAlone

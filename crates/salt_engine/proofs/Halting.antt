@@ -18,7 +18,7 @@ use Rattle.salt_model.specs.Next.{decision_in}
 use Rattle.salt_model.specs.Turns.{is_statement_line}
 use Rattle.salt_model.specs.declared.events.Event.{Event}
 use Rattle.salt_model.specs.declared.events.Flight.TheVariants as flight
-use Rattle.salt_driver.specs.Opening.{HasPlainStart}
+use Rattle.salt_driver.specs.Opening.{IsOffNet}
 use Rattle.salt_driver.specs.Standing.{HaltsAt}
 use Rattle.salt_driver.specs.Writing.{IsWrittenBy}
 use Rattle.salt_storage.specs.Storing.{IsSoundKept}
@@ -89,7 +89,7 @@ module _ {H : Type 0} (books_of : H → Books) (holds : Kept → Type 0) (leaves
         by (inl none) = inl (memory, ap flight_of none)
         by (inr flies) = inr (told flies)
 
-    down : q.state.can_stop ≡ stoppable → HasPlainStart q.state → single ≡ is_statement_line q.state.units.line → IsSoundKept q.state.units.kept →
+    down : q.state.can_stop ≡ stoppable → IsOffNet q.state → single ≡ is_statement_line q.state.units.line → IsSoundKept q.state.units.kept →
         IsHalted fills halt stage in_flight q.next q.state.units → Halts
     down stops plain line kept h =
         let flies : IsInFlight in_flight q.flight q.state.units = subst (λ (f : Option Event). IsInFlight in_flight f q.state.units) (sym flight) h.flies in
@@ -102,14 +102,14 @@ module _ {H : Type 0} (books_of : H → Books) (holds : Kept → Type 0) (leaves
             knows = (h.books, ap (books_in books_of) h.there, know-units h.books q.state.units h.are);
             sound = kept;
             can_stop = stops;
-            plain = plain;
+            off_net = plain;
             line = line;
             flies = flies;
           };
           stays = (stays, tt);
         }
 
-    pub halts : q.state.can_stop ≡ stoppable → HasPlainStart q.state → single ≡ is_statement_line q.state.units.line → IsSoundKept q.state.units.kept → Halts
+    pub halts : q.state.can_stop ≡ stoppable → IsOffNet q.state → single ≡ is_statement_line q.state.units.line → IsSoundKept q.state.units.kept → Halts
     halts stops plain line kept = by b.how
       where
         by : ((halt ≡ Memory) × IsLost stage in_flight q.next q.state.units) ⊎ IsHalted fills halt stage in_flight q.next q.state.units → Halts

@@ -58,7 +58,7 @@ pub net-refused : (holds : Kept → Type 0) (is_new : Id → Type 0) (stoppable 
     (pairs : List (ℕ × ℕ)) → line ≡ Net pairs → ⊥
 net-refused holds is_new stoppable line (at.Going x) s h pairs is =
     let allowed : refused_in s.units (under_way_of s) (Net pairs) ≡ None = subst (λ (l : Line). refusal_in s.units (under_way_of s) (Tree l) ≡ None) is h.allowed.allowed in
-    let no : false ≡ true = sym h.plain.over_net ∙ unless-not s.over_net (allowed-right s.units (under_way_of s) (Net pairs) allowed) in cc
+    let no : false ≡ true = sym h.off_net ∙ unless-not s.over_net (allowed-right s.units (under_way_of s) (Net pairs) allowed) in cc
 net-refused holds is_new stoppable line (at.Down books) s h pairs is = h
 net-refused holds is_new stoppable line at.Lost s h pairs is = h
 

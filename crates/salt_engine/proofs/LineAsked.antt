@@ -94,7 +94,7 @@ module _ (holds : Kept → Type 0) (is_new : Id → Type 0) (stoppable : Bool) (
     stored = record { holding = h.stored.holding; new = h.stored.new };
     served = h.served;
     can_stop = h.can_stop;
-    plain = record { early = h.plain.early; over_net = h.plain.over_net };
+    off_net = h.off_net;
   }
 
   -- OR IT IS

@@ -30,9 +30,8 @@ use Rattle.salt_scheduler.proofs.Following.{not-of-run}
 use Rattle.salt_scheduler.specs.Standing.{HasDoneEvent, behind_in}
 use Rattle.salt_scheduler.specs.declared.scheduler.Scheduler.{Scheduler}
 use Rattle.salt_driver.proofs.Advancing.{sound-moved}
-use Rattle.salt_driver.proofs.PlainStarts.{plain-after}
 use Rattle.salt_driver.proofs.Refusing.{refused-rests}
-use Rattle.salt_driver.specs.Opening.{HasPlainStart}
+use Rattle.salt_driver.specs.Opening.{IsOffNet}
 use Rattle.salt_driver.specs.Standing.{BreaksAt, IsAt, IsSoundPoint, left_to_come}
 use Rattle.salt_storage.specs.Storing.{IsSoundKept}
 use Rattle.salt_storage.specs.Writing.{ToWrite}
@@ -89,7 +88,7 @@ module _ (line : Line) (x : Scheduler) (e : Event) (p : Point) (sound : IsSoundP
       (broken-out leaves fills halt told later now in_flight (behind_in t (read line x e p sound t d comes phase served) (follow_in stage)) t.units same broken b)
 
   pub said-sees : (holds : Kept → Type 0) (is_new : Id → Type 0) (old stoppable : Bool) (was single : Bool) (stage : Stage Scheduler) (in_flight : Option InFlight) (given : Option Event) →
-      Performs (StandsAtEventIn holds is_new stage) in_flight wanted given t → p.state.can_stop ≡ old → HasPlainStart p.state → stoppable ≡ old → was ≡ is_statement_line p.state.units.line → single ≡ was →
+      Performs (StandsAtEventIn holds is_new stage) in_flight wanted given t → p.state.can_stop ≡ old → IsOffNet p.state → stoppable ≡ old → was ≡ is_statement_line p.state.units.line → single ≡ was →
       AgreesWithState (StandsAtEventIn holds is_new stage) stoppable single in_flight given t
   said-sees holds is_new old stoppable was single stage in_flight given h can began same lined kept =
       serves-on line x e p sound t d comes phase served holds is_new old stoppable was single stage in_flight given h can began same lined kept
@@ -105,12 +104,12 @@ module _ (line : Line) (x : Scheduler) (e : Event) (p : Point) (sound : IsSoundP
       kept ∙ lined ∙ ap is_statement_line (served ∙ sym s.line)
 
   pub said-halts : (holds : Kept → Type 0) (leaves : Kept → Kept → Type 0) (fills : ToWrite → ℕ → Type 0) (halt : Halt) (old stoppable : Bool) (was single : Bool) (stage : Stage Scheduler)
-      (in_flight : Option InFlight) (story told : List Event) → BreaksOff leaves fills halt stage in_flight wanted t.units → p.state.can_stop ≡ old → HasPlainStart p.state → stoppable ≡ old →
+      (in_flight : Option InFlight) (story told : List Event) → BreaksOff leaves fills halt stage in_flight wanted t.units → p.state.can_stop ≡ old → IsOffNet p.state → stoppable ≡ old →
       was ≡ is_statement_line p.state.units.line → single ≡ was → IsSoundKept t.units.kept → told ≡ story ++ e ∷ [] →
       BreaksAt (λ p. CanReopenAt holds leaves stoppable None (serving_books stage) single in_flight 0 p) (λ p. LeavesOnDevices holds leaves (IsSome in_flight) None 0 p × ⊤) fills (flight_of in_flight) halt p e story told
   said-halts holds leaves fills halt old stoppable was single stage in_flight story told b can began same lined kept may tells = inr (
     tells,
-    (now, moves line x e p sound t d comes phase served, halts (λ (x : Scheduler). x.books) holds leaves fills halt stoppable None refl stage single in_flight now b now-flies (d.after.can_stop ∙ can ∙ sym same) (plain-after e p.state t d.after began) (line-now was single lined kept) may),
+    (now, moves line x e p sound t d comes phase served, halts (λ (x : Scheduler). x.books) holds leaves fills halt stoppable None refl stage single in_flight now b now-flies (d.after.can_stop ∙ can ∙ sym same) (d.after.over_net ∙ began) (line-now was single lined kept) may),
   )
 
   -- or before it was told

@@ -34,7 +34,7 @@ use Rattle.salt_scheduler.specs.Standing as scheduling
 use Rattle.salt_scheduler.specs.Standing.{ServesAllowed, ServesLine, behind_in}
 use Rattle.salt_scheduler.specs.declared.scheduler.Scheduler.{Scheduler}
 use Rattle.law_decisions.specs.Spelled.{IsSpelledLine}
-use Rattle.salt_driver.specs.Opening.{HasPlainStart}
+use Rattle.salt_driver.specs.Opening.{IsOffNet}
 use Rattle.salt_driver.specs.Writing.{IsWrittenBy}
 use Rattle.salt_storage.specs.Staying.{StaysWithin}
 use Rattle.salt_storage.specs.Writing.{ToWrite}
@@ -124,7 +124,7 @@ pub record AsksLine (holds : Kept → Type 0) (is_new : Id → Type 0) (stoppabl
   pub stored : Stored holds is_new s.units
   pub served : IsServed line
   pub can_stop : s.can_stop ≡ stoppable
-  pub plain : HasPlainStart s
+  pub off_net : IsOffNet s
 
 abbrev pub AsksLineIn : (holds : Kept → Type 0) (is_new : Id → Type 0) → Bool → Line → Stage Scheduler → State → Type 0
 AsksLineIn holds is_new stoppable line stage s = GoesWith (λ (x : Scheduler). AsksLine holds is_new stoppable line x s) stage
@@ -138,7 +138,7 @@ pub record IsToAsk (holds : Kept → Type 0) (is_new : Id → Type 0) (stoppable
   pub stored : Stored holds is_new s.units
   pub served : IsServed line
   pub can_stop : s.can_stop ≡ stoppable
-  pub plain : HasPlainStart s
+  pub off_net : IsOffNet s
 
 abbrev pub IsToAskIn : (holds : Kept → Type 0) (is_new : Id → Type 0) → Bool → Line → Stage Scheduler → State → Type 0
 IsToAskIn holds is_new stoppable line stage s = GoesWith (λ (x : Scheduler). IsToAsk holds is_new stoppable line x s) stage

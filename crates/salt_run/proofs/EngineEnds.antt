@@ -47,7 +47,7 @@ use Rattle.salt_loop.specs.Stopping.{numbers_told, status_opening}
 use Rattle.salt_driver.proofs.AtFirst.{down-at-first}
 use Rattle.salt_stands.specs.Stands.{are_spent}
 use Rattle.salt_driver.specs.Counting.{CountsOpening}
-use Rattle.salt_driver.specs.Opening.{FailsToFind, IsOpenedFirst, IsUnfound, plain_start}
+use Rattle.salt_driver.specs.Opening.{FailsToFind, IsOpenedFirst, IsUnfound, start_over}
 use Rattle.salt_storage.specs.Answers.{IsRefusal, open_disk_err_of}
 use Rattle.salt_storage.specs.Storing.{IsSoundKept}
 use Rattle.salt_storage.specs.Writing.{OfOpening}
@@ -156,10 +156,10 @@ module _ (command : Command) (d : View) (started0 : Bool) (shape0 : Shape) (was 
         by dev full (inr w) = absurd (not-full status dev w.0 full)
 
 -- a run over it begins
-pub begins-over : (k : Kept) (now : Bool) (lies : ℕ → Point → Type 0) (flies : Option Flight) (story : List Event) → IsUnfound story → IsSoundKept k → IsOpenedFirst lies k now → flies ≡ None →
-    (trace : Trace) × IsToBegin lies flies (plain_start k now) story trace
-begins-over k now lies flies story unfound sound opens none =
-    let d = down-at-first k now lies flies story unfound sound opens none in
+pub begins-over : (k : Kept) (now early : Bool) (lies : ℕ → Point → Type 0) (flies : Option Flight) (story : List Event) → IsUnfound story → IsSoundKept k → IsOpenedFirst lies k now early → flies ≡ None →
+    (trace : Trace) × IsToBegin lies flies (start_over k now early) story trace
+begins-over k now early lies flies story unfound sound opens none =
+    let d = down-at-first k now early lies flies story unfound sound opens none in
     (d.0, record { down = d.1; unasked = d.2 })
 
 -- AND ENDS

@@ -33,14 +33,14 @@ use Rattle.salt_promise.specs.Counting.{Stops}
 use Rattle.salt_run.proofs.Tallied.{stops-by-lines}
 use Rattle.salt_loop.specs.Ending.{IsStatusOf}
 use Rattle.salt_stands.specs.Stands.{are_spent}
-use Rattle.salt_driver.specs.Opening.{fallen_often, plain_start}
+use Rattle.salt_driver.specs.Opening.{fallen_often, start_over}
 use Rattle.salt_storage.specs.declared.halt.Halt.TheVariants as halt
 use Rattle.salt_storage.specs.declared.halt.Halt.{Halt}
 use Rattle.salt_storage.specs.declared.open.OpenErr.TheVariants as open_err
 use Rattle.salt_storage.specs.declared.open.OpenErr.TheVariants.{Halted}
 use Rattle.salt_promise.specs.declared.command.Command.{Command}
 use Rattle.std.proofs.Common.{ap, arith, inl, inr, subst, sym, ◌∙◌}
-use Rattle.std.specs.Prelude.{IsTrue, List, Some, [], refl, suc, true, zero, ℕ, ◌+◌, ◌++◌, ◌∷◌, ◌≡◌}
+use Rattle.std.specs.Prelude.{IsTrue, List, Some, [], false, refl, suc, true, zero, ℕ, ◌+◌, ◌++◌, ◌∷◌, ◌≡◌}
 
 -- A TRACE of nothing but stops
 
@@ -123,7 +123,7 @@ module _ (reads : IsReader definition_in) (r : Run) (command : Command)
     (rests : IsTrue r.after.devices.told → (image : ℕ → List ℕ) → IsImage r.after.devices image → StandsFor (shape_of command) image k)
     (stops : Stops r.status (armed_behind r.story (Some r.before.devices.armed)) r.after.devices.armed) where
   abbrev start : Start
-  start = plain_start k r.before.devices.can_stop
+  start = start_over k r.before.devices.can_stop false
 
   replays : Replays command r.status r.flight (streams_of r) r.story start
   replays = x.replays start well

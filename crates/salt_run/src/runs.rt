@@ -92,7 +92,7 @@ pub fn run_script<S: Source, K: Sink, D: Disks, F: Fn(PlaceKind, &Key, u32) -> u
     let mut devices = Devices::new(alloc, shape);
     match find(&mut devices, disks, place, &mut story) {
         Ok(found) => {
-            let opening = Opening::new(alloc, devices, found);
+            let opening = Opening::new(alloc, devices, found, false);
             let mut database = Database::Closed(opening);
             let done = serve(alloc, &mut database, disks, place, source, sink, &mut story);
             let status = status_behind(done);
@@ -165,7 +165,7 @@ pub fn run_load<K: Sink, D: Disks, F: Fn(PlaceKind, &Key, u32) -> u32>(
     let mut devices = Devices::new(alloc, Command::Load(calls).shape());
     match find(&mut devices, disks, place, &mut story) {
         Ok(found) => {
-            let opening = Opening::new(alloc, devices, found);
+            let opening = Opening::new(alloc, devices, found, false);
             let mut database = Database::Closed(opening);
             let Loaded { lines, done } = load(
                 alloc,

@@ -4,7 +4,7 @@ use Rattle.salt_database.specs.Halves.{database_flight}
 use Rattle.salt_devices.specs.Standing.{StandsHeld}
 use Rattle.salt_devices.specs.declared.devices.Devices.{Devices}
 use Rattle.salt_engine.specs.Flights.{flight_of}
-use Rattle.salt_driver.specs.Opening.{plain_start}
+use Rattle.salt_driver.specs.Opening.{start_over}
 use Rattle.salt_run.proofs.EngineEnds.{as-told, begins-over, behind-faults, behind-outcome, behind-stops, flight-none, found-counts, found-is, load-over, nothing, unfound-counts, unfound-load, unfound-status}
 use Rattle.salt_run.proofs.Replayed.{load-replays}
 use Rattle.salt_run.proofs.Staying.{stays-as, stays-from}
@@ -20,7 +20,7 @@ use Rattle.salt_stands.specs.Stands.{are_spent}
 use Rattle.salt_storage.proofs.Staying.{stays-behind}
 use Rattle.salt_promise.specs.declared.command.Command.TheVariants.{Load}
 use Rattle.std.proofs.Common.{ap, inl, inr, refl, subst, sym, ◌∙◌}
-use Rattle.std.specs.Prelude.{Err, None}
+use Rattle.std.specs.Prelude.{Err, None, false}
 
 pub new-opening-requires : goal.new-opening-requires
 new-opening-requires g c = c.in-Ok.ensures.found.unspent
@@ -33,9 +33,9 @@ load-lines-requires-clause-begins g c =
     let f = c.in-Ok.ensures.found in
     let mid = g.D.Disks.view c.find.new.disks in
     let new = c.new-opening.ensures.is_new f.kept f.is f.sound in
-    let opens = opened-first _ _ mid.can_stop _ _ _ _ f.kept new (subst (λ (x : Devices). StandsHeld x.shape x.started x.store x.numbers x.pending mid f.kept) (sym c.new-opening.ensures.storage) f.holding) f.sound in
-    let b = begins-over f.kept mid.can_stop _ _ c.find.new.story c.find.ensures.unfound f.sound opens (ap flight_of new.none) in
-    (plain_start f.kept mid.can_stop, b.0, b.1)
+    let opens = opened-first _ _ mid.can_stop _ _ _ _ false f.kept new (subst (λ (x : Devices). StandsHeld x.shape x.started x.store x.numbers x.pending mid f.kept) (sym c.new-opening.ensures.storage) f.holding) f.sound in
+    let b = begins-over f.kept mid.can_stop false _ _ c.find.new.story c.find.ensures.unfound f.sound opens (ap flight_of new.none) in
+    (start_over f.kept mid.can_stop false, b.0, b.1)
 
 pub returns-in-Ok-clause-runs : goal.returns-in-Ok-clause-runs
 returns-in-Ok-clause-runs g c left =
@@ -49,10 +49,10 @@ returns-in-Ok-clause-runs g c left =
     let r = c.load-lines.result in
     let status = c.write_summary-status.result in
     let s = streams left left (g.K.Sink.held c.args.sink.now) (g.K.Sink.held c.write_summary-status.new.sink) in
-    let start = plain_start f.kept mid.can_stop in
+    let start = start_over f.kept mid.can_stop false in
     let new = c.new-opening.ensures.is_new f.kept f.is f.sound in
-    let opens = opened-first _ _ mid.can_stop _ _ _ _ f.kept new (subst (λ (x : Devices). StandsHeld x.shape x.started x.store x.numbers x.pending mid f.kept) (sym c.new-opening.ensures.storage) f.holding) f.sound in
-    let b = begins-over f.kept mid.can_stop _ _ c.find.new.story c.find.ensures.unfound f.sound opens (ap flight_of new.none) in
+    let opens = opened-first _ _ mid.can_stop _ _ _ _ false f.kept new (subst (λ (x : Devices). StandsHeld x.shape x.started x.store x.numbers x.pending mid f.kept) (sym c.new-opening.ensures.storage) f.holding) f.sound in
+    let b = begins-over f.kept mid.can_stop false _ _ c.find.new.story c.find.ensures.unfound f.sound opens (ap flight_of new.none) in
     let asked = c.new-devices.ensures.shape ∙ c.shape.ensures in
     as-told (Load c.args.calls) d e s c.load-lines.new.story status status flies c.flight_at.result refl (c.flight_at.ensures ∙ ap (flight_at status) c.flight.ensures)
     (inl (load-over d e x c.requires.promised start f.sound ((λ i. are_spent (sym f.is.boot i) (sym f.is.decisions i)) ∙ f.unspent) c.find.ensures.within.shape.can_stop refl refl s c.load-lines.new.story

@@ -46,7 +46,7 @@ returns-in_ok-scheduler-clause-moves g c = λ p sound at.
     let ends = sym c.ends_opening.ensures ∙ c.if-ends_opening.true in
     let h = opened-at _ _ _ _ _ p.state there at.state.0.seen in
     let serves = subst (λ (books : Books). ServesBehind e books (λ s. StandsForState y s)) c.into_books.ensures c.in_ok-scheduler.ensures.serves in
-    ended-at (g.S.Storage.holds now) (g.S.Storage.is_new now) _ y e p h.0 _ _ _ (ended x e p sound h.0 h.1 at.comes at.opening _ ends serves) h.2 at.state.0.can_stop at.state.0.plain refl
+    ended-at (g.S.Storage.holds now) (g.S.Storage.is_new now) _ y e p h.0 _ _ _ (ended x e p sound h.0 h.1 at.comes at.opening _ ends serves) h.2 at.state.0.can_stop at.state.0.off_net refl
     at.state.0.line refl refl
 
 pub returns-in_ok-scheduler-clause-less : goal.returns-in_ok-scheduler-clause-less
@@ -85,7 +85,7 @@ returns-in_ok-go_on_in_opening-clause-moves g c = λ p sound at.
     let h = opened-at _ _ _ _ _ p.state there at.state.0.seen in
     let d = c.in_ok-go_on_in_opening.ensures.comes h.0 (goes-on x e p sound h.0 h.1 at.comes going _ _ h.2) in
     opens-there x e p sound h.0 h.1 at.comes going _ _ _ (
-      (opened-on x e p sound h.0 h.1 at.comes going _ _ _ _ _ _ _ _ _ d at.state.0.can_stop at.state.0.plain c.go_on_in_opening.ensures.stays.within.shape.can_stop at.state.0.line (ap (λ n. n.0) c.go_on_in_opening.ensures.stays.noted)).0,
+      (opened-on x e p sound h.0 h.1 at.comes going _ _ _ _ _ _ _ _ _ d at.state.0.can_stop at.state.0.off_net c.go_on_in_opening.ensures.stays.within.shape.can_stop at.state.0.line (ap (λ n. n.0) c.go_on_in_opening.ensures.stays.noted)).0,
       (ap (λ n. n.1) c.go_on_in_opening.ensures.stays.noted) ∙ at.state.1,
     ) d.told
 
@@ -115,7 +115,7 @@ returns-in_err-go_on_in_opening-clause-halts g c =
     let going = sym c.ends_opening.ensures ∙ c.if-ends_opening.false in
     let h = opened-at _ _ _ _ _ p.state there at.state.0.seen in
     let b = c.in_err-go_on_in_opening.ensures.comes h.0 (goes-on x e p sound h.0 h.1 at.comes going _ _ h.2) in
-    opens-halts x e p sound h.0 h.1 at.comes going _ _ _ _ _ _ _ ((ap (λ n. n.1) c.go_on_in_opening.ensures.stays.noted) ∙ at.state.1) _ _ _ _ c.args.story.now c.push.new.self b at.state.0.can_stop at.state.0.plain c.go_on_in_opening.ensures.stays.within.shape.can_stop at.state.0.line
+    opens-halts x e p sound h.0 h.1 at.comes going _ _ _ _ _ _ _ ((ap (λ n. n.1) c.go_on_in_opening.ensures.stays.noted) ∙ at.state.1) _ _ _ _ c.args.story.now c.push.new.self b at.state.0.can_stop at.state.0.off_net c.go_on_in_opening.ensures.stays.within.shape.can_stop at.state.0.line
     (ap (λ n. n.0) c.go_on_in_opening.ensures.stays.noted) (c.stands.ensures.sound h.0.units.kept h.2.holding) c.in_ok-push.ensures.ok)
 
 pub returns-in_err-go_on_in_opening-clause-counts : goal.returns-in_err-go_on_in_opening-clause-counts

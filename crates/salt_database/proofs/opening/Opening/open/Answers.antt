@@ -50,7 +50,7 @@ returns-in-Ok-clause-opens g c = ok-with c.open_boot.result _ _ _ (λ next o tel
     opening-at p sound fallen room k _ c.in-Ok.boot f next_boot _ c.open_boot.new.self next _ _ _ _ w (
       opening-sees p sound fallen room k _ c.in-Ok.boot f next_boot _ _ _ _ _ _ _ _ next w
           (subst (λ (st : g.row.S.Denot). g.S.Storage.holds (view c.boot.new.disks) st (booted k)) same (c.in-Ok.ensures.holds k holding))
-          (λ u is. subst (λ (st : g.row.S.Denot). g.S.Storage.is_new (view c.boot.new.disks) st u) same (c.in-Ok.ensures.is_new u is)) lies.can_stop lies.plain c.in-Ok.ensures.within.shape.can_stop lies.line
+          (λ u is. subst (λ (st : g.row.S.Denot). g.S.Storage.is_new (view c.boot.new.disks) st u) same (c.in-Ok.ensures.is_new u is)) lies.can_stop lies.off_net c.in-Ok.ensures.within.shape.can_stop lies.line
           c.open_boot.ensures.single,
       c.open_boot.ensures.found,
     ) tells) c.open_boot.ensures.opens c.open_boot.ensures.tells

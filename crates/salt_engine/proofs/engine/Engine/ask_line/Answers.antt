@@ -28,13 +28,13 @@ begin_line-requires-clause-ready g c =
     let s = c.requires.ready.0 in
     let h = stands-there _ _ c.in-Going.scheduler c.in-Going.is c.requires.ready.1 in (
       asked_of (Tree c.args.line.now) s,
-      asks-line _ _ _ c.args.line.now _ s h _ (sym (c.in_ok-refusal.ensures s h.stands (h.can_stop ∙ sym c.can_stop.ensures) h.plain.over_net h.distinct).0 ∙ c.in-None.is) (c.in_ok-refusal.ensures s h.stands (h.can_stop ∙ sym c.can_stop.ensures) h.plain.over_net h.distinct).1,
+      asks-line _ _ _ c.args.line.now _ s h _ (sym (c.in_ok-refusal.ensures s h.stands (h.can_stop ∙ sym c.can_stop.ensures) h.off_net h.distinct).0 ∙ c.in-None.is) (c.in_ok-refusal.ensures s h.stands (h.can_stop ∙ sym c.can_stop.ensures) h.off_net h.distinct).1,
     )
 
 pub returns-in-Some-clause-comes : goal.returns-in-Some-clause-comes
 returns-in-Some-clause-comes g c = λ s r k.
     let h = stands-there _ _ c.in-Going.scheduler c.in-Going.is k in
-    let asks = c.in_ok-refusal.ensures s h.stands (h.can_stop ∙ sym c.can_stop.ensures) h.plain.over_net h.distinct in
+    let asks = c.in_ok-refusal.ensures s h.stands (h.can_stop ∙ sym c.can_stop.ensures) h.off_net h.distinct in
     refused-performs _ _ _ c.args.line.now _ s h c.in-Some.refusal (sym asks.0 ∙ c.in-Some.is) _ _ _ _ c.refuse.new.self refl c.refuse.ensures asks.1 c.requires.none r
 
 pub returns-in-Some-clause-stays : goal.returns-in-Some-clause-stays
@@ -44,16 +44,16 @@ pub returns-in-Some-clause-counts : goal.returns-in-Some-clause-counts
 returns-in-Some-clause-counts g c =
     let s = c.requires.ready.0 in
     let h = stands-there _ _ c.in-Going.scheduler c.in-Going.is c.requires.ready.1 in
-    let asks = c.in_ok-refusal.ensures s h.stands (h.can_stop ∙ sym c.can_stop.ensures) h.plain.over_net h.distinct in
+    let asks = c.in_ok-refusal.ensures s h.stands (h.can_stop ∙ sym c.can_stop.ensures) h.off_net h.distinct in
     counts-same _ _
     (refused-unarmed _ _ _ c.args.line.now _ s h c.in-Some.refusal (sym asks.0 ∙ c.in-Some.is) _ _ c.refuse.new.self c.refuse.ensures asks.1 (reads (asked_of (Tree c.args.line.now) s) h.serves.sound))
 
 pub returns-in-None-clause-comes : goal.returns-in-None-clause-comes
 returns-in-None-clause-comes g c = λ s r k.
     let h = stands-there _ _ c.in-Going.scheduler c.in-Going.is k in
-    let none = sym (c.in_ok-refusal.ensures s h.stands (h.can_stop ∙ sym c.can_stop.ensures) h.plain.over_net h.distinct).0 ∙ c.in-None.is in
+    let none = sym (c.in_ok-refusal.ensures s h.stands (h.can_stop ∙ sym c.can_stop.ensures) h.off_net h.distinct).0 ∙ c.in-None.is in
     comes-same _ _ _ _ _ _ _ _ (asked_of (Tree c.args.line.now) s) c.begin_line.result (sym (unrefused _ _ _ c.args.line.now _ s h none r))
-    (c.begin_line.ensures.comes (asked_of (Tree c.args.line.now) s) r (asks-line _ _ _ c.args.line.now _ s h _ none (c.in_ok-refusal.ensures s h.stands (h.can_stop ∙ sym c.can_stop.ensures) h.plain.over_net h.distinct).1))
+    (c.begin_line.ensures.comes (asked_of (Tree c.args.line.now) s) r (asks-line _ _ _ c.args.line.now _ s h _ none (c.in_ok-refusal.ensures s h.stands (h.can_stop ∙ sym c.can_stop.ensures) h.off_net h.distinct).1))
 
 pub returns-in-None-clause-stays : goal.returns-in-None-clause-stays
 returns-in-None-clause-stays g c = c.begin_line.ensures.stays
@@ -78,7 +78,7 @@ returns-in-None-clause-refused g c = λ refusal is.
     let s = c.requires.ready.0 in
     let h = stands-there _ _ c.in-Going.scheduler c.in-Going.is c.requires.ready.1 in
     let t = asked_of (Tree c.args.line.now) s in
-    let asks = c.in_ok-refusal.ensures s h.stands (h.can_stop ∙ sym c.can_stop.ensures) h.plain.over_net h.distinct in
+    let asks = c.in_ok-refusal.ensures s h.stands (h.can_stop ∙ sym c.can_stop.ensures) h.off_net h.distinct in
     let r = reads t h.serves.sound in
     absurd (begun-unrefused _ _ _ _ _ t r c.args.line.now c.begin_line.result (c.begin_line.ensures.comes t r (asks-line _ _ _ c.args.line.now _ s h _ (sym asks.0 ∙ c.in-None.is) asks.1)) refusal is)
 

@@ -28,7 +28,7 @@ returns-in-Ok-clause-moves g c = λ p sound at.
     let r = reads-here p sound in
     let d = c.in-Ok.ensures.comes p.state r (to-ask _ _ _ _ _ _ c.args.line.now p sound at.idle c.requires.served c.read_lines_are_spelled.ensures.keys at.state) in
     asked-there _ _ (Tree c.args.line.now) p sound at.idle r c.in-Ok.next
-    (asked-at (Tree c.args.line.now) p sound at.idle _ _ _ _ _ _ _ c.in-Ok.next r d at.state.can_stop at.state.plain c.ask_line.ensures.stays.within.shape.can_stop (c.ask_line.ensures.stays.noted ∙ c.is_statement_line-self.ensures)) d.told
+    (asked-at (Tree c.args.line.now) p sound at.idle _ _ _ _ _ _ _ c.in-Ok.next r d at.state.can_stop at.state.off_net c.ask_line.ensures.stays.within.shape.can_stop (c.ask_line.ensures.stays.noted ∙ c.is_statement_line-self.ensures)) d.told
 
 pub returns-in-Ok-clause-within : goal.returns-in-Ok-clause-within
 returns-in-Ok-clause-within g c = c.ask_line.ensures.stays.within
@@ -42,7 +42,7 @@ returns-in-Err-clause-halts g c = λ p sound at.
     let b = broken-out _ _ c.in-Err.halt c.break_by.result _ _ _ _ _ c.break_by.ensures.halt c.break_by.ensures.broken
     (c.in-Err.ensures.comes p.state r (to-ask _ _ _ _ _ _ c.args.line.now p sound at.idle c.requires.served c.read_lines_are_spelled.ensures.keys at.state)) in
     let kept = c.stands.ensures.sound p.state.units.kept (held-now _ _ _ p.state at.state.seen) in
-    inr (asked-halts _ _ _ c.break_by.result _ _ _ _ _ p sound at.state.can_stop at.state.plain c.ask_line.ensures.stays.within.shape.can_stop kept (Tree c.args.line.now) at.idle r b (c.ask_line.ensures.stays.noted ∙ c.is_statement_line-self.ensures))
+    inr (asked-halts _ _ _ c.break_by.result _ _ _ _ _ p sound at.state.can_stop at.state.off_net c.ask_line.ensures.stays.within.shape.can_stop kept (Tree c.args.line.now) at.idle r b (c.ask_line.ensures.stays.noted ∙ c.is_statement_line-self.ensures))
 
 pub returns-in-Err-clause-within : goal.returns-in-Err-clause-within
 returns-in-Err-clause-within g c = c.ask_line.ensures.stays.within

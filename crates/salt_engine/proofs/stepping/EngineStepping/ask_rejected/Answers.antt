@@ -30,7 +30,7 @@ returns-in-Ok-clause-moves g c = λ p sound at.
     let h = seen-at _ _ _ _ _ p.state c.in-Going.is at.state.seen in
     let d = rejected-performs holds is_new c.args.refusal c.in-Going.scheduler c.reject.new.scheduler p _ _ r c.in-Ok.ensures h.0 (asked-serves asked p sound at.idle) (asked-played asked p sound at.idle tt r) h.1
     (flies-none c.args.self.now.in_flight p.state.units at.state.flies) in
-    asked-there _ _ asked p sound at.idle r _ (asked-at asked p sound at.idle holds is_new _ _ _ (Going c.reject.new.scheduler) _ _ r d at.state.can_stop at.state.plain refl refl) d.told
+    asked-there _ _ asked p sound at.idle r _ (asked-at asked p sound at.idle holds is_new _ _ _ (Going c.reject.new.scheduler) _ _ r d at.state.can_stop at.state.off_net refl refl) d.told
 
 pub returns-in-Ok-clause-counts : goal.returns-in-Ok-clause-counts
 returns-in-Ok-clause-counts g c =

@@ -38,7 +38,7 @@ returns-in-Ok-go_on_in_line-clause-moves g c = λ p sound at.
     let t = i.behind in
     let d = said-performs line x e p sound t i.done at.comes at.serves at.line _ _ _ _ _ _ i.there (c.in-Ok-go_on_in_line.ensures.comes t (read line x e p sound t i.done at.comes at.serves at.line) (said-goes line x e p sound t i.done at.comes at.serves at.line _ _ _ i.there i.stored)) in
     said-there line x e p sound t i.done at.comes at.serves at.line _ _ c.in-Ok-go_on_in_line.next
-    (said-sees line x e p sound t i.done at.comes at.serves at.line _ _ _ _ _ _ _ _ c.in-Ok-go_on_in_line.next d at.state.can_stop at.state.plain c.go_on_in_line.ensures.stays.within.shape.can_stop at.state.line c.go_on_in_line.ensures.stays.noted) d.told
+    (said-sees line x e p sound t i.done at.comes at.serves at.line _ _ _ _ _ _ _ _ c.in-Ok-go_on_in_line.next d at.state.can_stop at.state.off_net c.go_on_in_line.ensures.stays.within.shape.can_stop at.state.line c.go_on_in_line.ensures.stays.noted) d.told
 
 pub returns-in-Ok-go_on_in_line-clause-tells : goal.returns-in-Ok-go_on_in_line-clause-tells
 returns-in-Ok-go_on_in_line-clause-tells g c = c.in-Ok.ensures.ok
@@ -97,7 +97,7 @@ returns-in-Err-go_on_in_line-clause-halts g c = λ p sound at.
     let t = i.behind in
     let b = said-breaks line x e p sound t i.done at.comes at.serves at.line _ _ c.in-Err-go_on_in_line.halt c.break_by.result _ _ _ _ i.there c.break_by.ensures.halt c.break_by.ensures.broken
     (c.in-Err-go_on_in_line.ensures.comes t (read line x e p sound t i.done at.comes at.serves at.line) (said-goes line x e p sound t i.done at.comes at.serves at.line _ _ _ i.there i.stored)) in
-    said-halts line x e p sound t i.done at.comes at.serves at.line _ _ _ c.break_by.result _ _ _ _ _ _ c.args.story.now c.push.new.self b at.state.can_stop at.state.plain c.go_on_in_line.ensures.stays.within.shape.can_stop
+    said-halts line x e p sound t i.done at.comes at.serves at.line _ _ _ c.break_by.result _ _ _ _ _ _ c.args.story.now c.push.new.self b at.state.can_stop at.state.off_net c.go_on_in_line.ensures.stays.within.shape.can_stop
     at.state.line c.go_on_in_line.ensures.stays.noted (c.stands.ensures.sound t.units.kept i.stored.holding) c.in-Ok.ensures.ok
 
 pub returns-in-Err-go_on_in_line-clause-counts : goal.returns-in-Err-go_on_in_line-clause-counts

@@ -27,7 +27,7 @@ returns-in-Ok-clause-moves g c = λ p sound at turn.
     let r = reads-here p sound in
     let d = c.in-Ok.ensures.comes p.state r (to-turn _ _ c.args.self.now.stage c.args.line.now c.args.base p sound at.serves at.line at.comes turn at.state.seen) in
     turned-there _ _ c.args.line.now c.args.base p sound at.serves at.comes turn r c.in-Ok.next at.line
-    (turned-sees _ _ _ _ _ _ _ _ _ c.in-Ok.next c.args.base p.state d at.state.can_stop at.state.plain c.turn_in_line.ensures.stays.within.shape.can_stop at.state.line c.turn_in_line.ensures.stays.noted) d.told
+    (turned-sees _ _ _ _ _ _ _ _ _ c.in-Ok.next c.args.base p.state d at.state.can_stop at.state.off_net c.turn_in_line.ensures.stays.within.shape.can_stop at.state.line c.turn_in_line.ensures.stays.noted) d.told
 
 pub returns-in-Ok-clause-fewer : goal.returns-in-Ok-clause-fewer
 returns-in-Ok-clause-fewer g c =
@@ -51,7 +51,7 @@ returns-in-Err-clause-halts g c = λ p sound at turn.
     let b = broken-out _ _ c.in-Err.halt c.break_by.result _ _ _ _ _ c.break_by.ensures.halt c.break_by.ensures.broken
     (c.in-Err.ensures.comes p.state r (to-turn _ _ c.args.self.now.stage c.args.line.now c.args.base p sound at.serves at.line at.comes turn at.state.seen)) in
     let kept = c.stands.ensures.sound p.state.units.kept (held-now _ _ _ p.state at.state.seen) in
-    inr (turned-halts _ _ _ c.break_by.result _ _ _ _ _ p sound at.state.can_stop at.state.plain c.turn_in_line.ensures.stays.within.shape.can_stop kept c.args.base at.serves at.comes turn r b (c.turn_in_line.ensures.stays.noted ∙ at.state.line))
+    inr (turned-halts _ _ _ c.break_by.result _ _ _ _ _ p sound at.state.can_stop at.state.off_net c.turn_in_line.ensures.stays.within.shape.can_stop kept c.args.base at.serves at.comes turn r b (c.turn_in_line.ensures.stays.noted ∙ at.state.line))
 
 pub returns-in-Err-clause-counts : goal.returns-in-Err-clause-counts
 returns-in-Err-clause-counts g c = counts-cause _ _ _ [] refl (cause-told _ _ c.in-Err.halt c.break_by.result c.break_by.ensures.halt c.in-Err.ensures.cause)
