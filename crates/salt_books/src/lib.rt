@@ -23,6 +23,7 @@ mod texts;
 mod turns;
 
 pub use asking::Asking;
+pub use bindings::{values_kept, vars_at_call, vars_at_cont};
 pub use books::Books;
 pub use called::CalledNames;
 pub use coming::Coming;
