@@ -14,11 +14,12 @@ const TWO: &[&str] = &["--parts=2"];
 /// partitions.
 const SHORT: usize = 16_384;
 
-/// A script, and the story that it is to tell.
+/// A script, whether its openings may end early, and the story that it is to tell.
 #[derive(Drop)]
 struct Case {
     script: Vec<u8>,
     story: Vec<u8>,
+    early: bool,
 }
 
 impl Case {
@@ -27,11 +28,13 @@ impl Case {
         Case {
             script: Vec::new(alloc),
             story: Vec::new(alloc),
+            early: false,
         }
     }
 
     /// Adds the lines of another case.
     fn add(&mut self, other: &Case) -> Result<(), AllocError> {
+        self.early = self.early || other.early;
         self.script.extend_from_slice(&other.script)?;
         self.story.extend_from_slice(&other.story)
     }
@@ -90,7 +93,12 @@ fn story_in(alloc: Global, outcome: &Outcome) -> Result<Vec<u8>, AllocError> {
 fn story_over(alloc: Global, case: &Case, parts: &str) -> Result<Vec<u8>, AllocError> {
     let room = case.story.len().saturating_add(ROOM);
     let mut devices = Devices::new(alloc)?;
-    let outcome = devices.run_within(alloc, room, &["run", parts], &case.script)?;
+    let words: &[&str] = if case.early {
+        &["run", parts, "--early"]
+    } else {
+        &["run", parts]
+    };
+    let outcome = devices.run_within(alloc, room, words, &case.script)?;
     story_in(alloc, &outcome)
 }
 
@@ -140,6 +148,10 @@ impl Cases {
         match row {
             [b'>', line @ ..] => add_line(&mut self.case.script, line),
             [b'<', line @ ..] => add_line(&mut self.case.story, line),
+            [b'+'] => {
+                self.case.early = true;
+                Ok(())
+            }
             [] => self.end(),
             [b'='] => {
                 let whole = self.whole()?;

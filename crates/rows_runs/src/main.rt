@@ -6,6 +6,7 @@
 //! |---|---|
 //! | `> LINE` | a line of the script |
 //! | `< LINE` | a line of its story |
+//! | `+` | the script is run with `--early` |
 //! | nothing | the script's end; it is run |
 //! | `=` | the script's end; all that follow begin with it, and their stories with its story |
 //! | `/` | the script's end; those that follow begin with nothing |
@@ -30,12 +31,48 @@ use std::io;
 use std::process::ExitCode;
 use streams::{cut_scripts, longest_lines, most_bytes, reads_that_fail, writes_that_fail};
 use tables::{
-    Table, all_writes_fail, one_read_fails, one_stop, one_write_fails, stop_at_first, two_stops,
+    EARLY, LATE, Table, Way, all_writes_fail, one_read_fails, one_stop, one_write_fails,
+    stop_at_first, two_stops,
 };
 use words::{by_words, statuses};
 
 /// The most lines of a source: each takes a byte.
 const LINES_MOST: u32 = 16_777_216;
+
+/// The tables of runs that stop or fail.
+#[derive(Clone, Copy)]
+enum Hostile {
+    OneStop,
+    TwoStops,
+    StopAtFirst,
+    OneWriteFails,
+    OneReadFails,
+    AllWritesFail,
+}
+
+impl Hostile {
+    fn name(self) -> &'static str {
+        match self {
+            Hostile::OneStop => "a stop",
+            Hostile::TwoStops => "a stop in the opening behind another",
+            Hostile::StopAtFirst => "a stop in the first opening",
+            Hostile::OneWriteFails => "a write that fails",
+            Hostile::OneReadFails => "a read that fails",
+            Hostile::AllWritesFail => "writes that fail from one on",
+        }
+    }
+
+    fn table(self, alloc: Global, way: Way) -> Result<Table, AllocError> {
+        match self {
+            Hostile::OneStop => one_stop(alloc, way),
+            Hostile::TwoStops => two_stops(alloc, way),
+            Hostile::StopAtFirst => stop_at_first(alloc, way),
+            Hostile::OneWriteFails => one_write_fails(alloc, way),
+            Hostile::OneReadFails => one_read_fails(alloc, way),
+            Hostile::AllWritesFail => all_writes_fail(alloc, way),
+        }
+    }
+}
 
 /// What is told.
 #[derive(Clone, Copy)]
@@ -44,12 +81,7 @@ enum Part {
     Statuses,
     Words,
     Devices,
-    OneStop,
-    TwoStops,
-    StopAtFirst,
-    OneWriteFails,
-    OneReadFails,
-    AllWritesFail,
+    Hostile(Hostile, Way),
     CutScripts,
     ReadsThatFail,
     WritesThatFail,
@@ -57,17 +89,23 @@ enum Part {
     MostBytes,
 }
 
-const PARTS: [Part; 15] = [
+const PARTS: [Part; 21] = [
     Part::Stories,
     Part::Statuses,
     Part::Words,
     Part::Devices,
-    Part::OneStop,
-    Part::TwoStops,
-    Part::StopAtFirst,
-    Part::OneWriteFails,
-    Part::OneReadFails,
-    Part::AllWritesFail,
+    Part::Hostile(Hostile::OneStop, LATE),
+    Part::Hostile(Hostile::TwoStops, LATE),
+    Part::Hostile(Hostile::StopAtFirst, LATE),
+    Part::Hostile(Hostile::OneWriteFails, LATE),
+    Part::Hostile(Hostile::OneReadFails, LATE),
+    Part::Hostile(Hostile::AllWritesFail, LATE),
+    Part::Hostile(Hostile::OneStop, EARLY),
+    Part::Hostile(Hostile::TwoStops, EARLY),
+    Part::Hostile(Hostile::StopAtFirst, EARLY),
+    Part::Hostile(Hostile::OneWriteFails, EARLY),
+    Part::Hostile(Hostile::OneReadFails, EARLY),
+    Part::Hostile(Hostile::AllWritesFail, EARLY),
     Part::CutScripts,
     Part::ReadsThatFail,
     Part::WritesThatFail,
@@ -103,11 +141,12 @@ fn stories(rt: &HostRuntime) -> Result<Vec<u8>, AllocError> {
 /// The line that tells of a table.
 fn line_of(
     alloc: Global,
+    way: &str,
     name: &str,
     table: Result<Table, AllocError>,
 ) -> Result<Vec<u8>, AllocError> {
     let Table { runs, right } = table?;
-    Ok(format!(in alloc; "{name}: {right} of {runs}\n")?.into_bytes())
+    Ok(format!(in alloc; "{way}{name}: {right} of {runs}\n")?.into_bytes())
 }
 
 /// The lines of a part.
@@ -118,33 +157,27 @@ fn lines_of(rt: &HostRuntime, part: Part) -> Result<Vec<u8>, AllocError> {
         Part::Statuses => statuses(alloc),
         Part::Words => by_words(alloc),
         Part::Devices => by_devices(alloc),
-        Part::OneStop => line_of(alloc, "a stop", one_stop(alloc)),
-        Part::TwoStops => line_of(
+        Part::Hostile(hostile, way) => line_of(
             alloc,
-            "a stop in the opening behind another",
-            two_stops(alloc),
+            way.name,
+            hostile.name(),
+            hostile.table(alloc, way),
         ),
-        Part::StopAtFirst => line_of(alloc, "a stop in the first opening", stop_at_first(alloc)),
-        Part::OneWriteFails => line_of(alloc, "a write that fails", one_write_fails(alloc)),
-        Part::OneReadFails => line_of(alloc, "a read that fails", one_read_fails(alloc)),
-        Part::AllWritesFail => line_of(
-            alloc,
-            "writes that fail from one on",
-            all_writes_fail(alloc),
-        ),
-        Part::CutScripts => line_of(alloc, "a script that is cut", cut_scripts(alloc)),
+        Part::CutScripts => line_of(alloc, "", "a script that is cut", cut_scripts(alloc)),
         Part::ReadsThatFail => line_of(
             alloc,
+            "",
             "a read of the script that fails",
             reads_that_fail(alloc),
         ),
         Part::WritesThatFail => line_of(
             alloc,
+            "",
             "a write of the output that fails",
             writes_that_fail(alloc),
         ),
-        Part::LongestLines => line_of(alloc, "lines of the most bytes", longest_lines(alloc)),
-        Part::MostBytes => line_of(alloc, "scripts of the most bytes", most_bytes(alloc)),
+        Part::LongestLines => line_of(alloc, "", "lines of the most bytes", longest_lines(alloc)),
+        Part::MostBytes => line_of(alloc, "", "scripts of the most bytes", most_bytes(alloc)),
     }
 }
 

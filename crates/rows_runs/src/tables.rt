@@ -2,7 +2,7 @@
 
 ghost use Rattle.std.specs.Prelude.{◌≤◌};
 
-use crate::devices::{Devices, Failing, told_of};
+use crate::devices::{Devices, Failing, ROOM};
 use crate::outcome::Outcome;
 use salt_run::Status;
 use std::alloc::{AllocError, Global};
@@ -37,6 +37,43 @@ const SUM_KEPT: &[u8] = b"-> value 150\n";
 
 const STOPPED: &[u8] = b"down stopped\n";
 
+/// The words by which the runs of a table are called, and the lines that end their scripts.
+#[derive(Clone, Copy)]
+pub struct Way {
+    /// In front of a table's name.
+    pub name: &'static str,
+    words: &'static [&'static str],
+    last: &'static str,
+}
+
+/// Openings finish what was accepted.
+pub const LATE: Way = Way {
+    name: "",
+    words: &["run"],
+    last: "",
+};
+
+/// Openings end early, and each line behind one gives a turn.
+pub const EARLY: Way = Way {
+    name: "where openings end early: ",
+    words: &["run", "--early"],
+    last: "show bases\nshow bases\nshow bases\nshow bases\n",
+};
+
+impl Way {
+    /// Runs a script over these devices, started again, and then the lines that end it.
+    fn run(
+        self,
+        alloc: Global,
+        devices: &mut Devices,
+        script: &str,
+    ) -> Result<Outcome, AllocError> {
+        let last = self.last;
+        let script = format!(in alloc; "{script}{last}")?;
+        devices.run_within(alloc, ROOM, self.words, script.as_bytes())
+    }
+}
+
 /// How many runs a table has, and how many of them end as they must.
 #[derive(Clone, Copy)]
 pub struct Table {
@@ -65,56 +102,59 @@ fn stops_well(outcome: &Outcome, stops: u64) -> bool {
 /// A script with transfers, in which a line arms this stop behind others.
 fn ends_well(
     alloc: Global,
+    way: Way,
     others: &str,
     call: u64,
     pick: u8,
     stops: u64,
 ) -> Result<bool, AllocError> {
     let script = format!(in alloc; "{ACCOUNTS}crash {others}{call} {pick}\n{TRANSFERS}")?;
-    let outcome = told_of(alloc, script.as_bytes())?;
+    let mut devices = Devices::new(alloc)?;
+    let outcome = way.run(alloc, &mut devices, script.as_str())?;
     Ok(stops_well(&outcome, stops))
 }
 
 /// A stop with each pick.
 fn each_pick(
     alloc: Global,
+    way: Way,
     table: &mut Table,
     others: &str,
     call: u64,
     stops: u64,
 ) -> Result<(), AllocError> {
     for pick in 0..5 {
-        table.add(ends_well(alloc, others, call, pick, stops)?);
+        table.add(ends_well(alloc, way, others, call, pick, stops)?);
     }
     Ok(())
 }
 
 /// A stop at each of the calls behind the line that arms it, and at one that does not come any more.
-pub fn one_stop(alloc: Global) -> Result<Table, AllocError> {
+pub fn one_stop(alloc: Global, way: Way) -> Result<Table, AllocError> {
     let mut table = Table::new();
     for call in 1..38 {
         let stops = if call < 37 { 1 } else { 0 };
-        each_pick(alloc, &mut table, "", call, stops)?;
+        each_pick(alloc, way, &mut table, "", call, stops)?;
     }
     Ok(table)
 }
 
 /// A stop, and another within the opening behind it or what that finishes.
-pub fn two_stops(alloc: Global) -> Result<Table, AllocError> {
+pub fn two_stops(alloc: Global, way: Way) -> Result<Table, AllocError> {
     let mut table = Table::new();
     for call in 1..21 {
-        each_pick(alloc, &mut table, "16 1 ", call, 2)?;
+        each_pick(alloc, way, &mut table, "16 1 ", call, 2)?;
     }
     Ok(table)
 }
 
 /// A first opening that stops is told, and the next one is ready.
-fn opens_well(alloc: Global, call: u64, pick: u8) -> Result<bool, AllocError>
+fn opens_well(alloc: Global, way: Way, call: u64, pick: u8) -> Result<bool, AllocError>
     requires { pick ≤ 4 }
 {
     let mut devices = Devices::new(alloc)?;
     devices.arm(call, pick)?;
-    let outcome = devices.run(alloc, b"")?;
+    let outcome = devices.run_within(alloc, ROOM, way.words, b"")?;
     let text = outcome.text();
     Ok(
         outcome.is(Status::Done)
@@ -125,11 +165,11 @@ fn opens_well(alloc: Global, call: u64, pick: u8) -> Result<bool, AllocError>
 }
 
 /// A stop in the first opening, armed before the run.
-pub fn stop_at_first(alloc: Global) -> Result<Table, AllocError> {
+pub fn stop_at_first(alloc: Global, way: Way) -> Result<Table, AllocError> {
     let mut table = Table::new();
     for call in 1..29 {
         for pick in 0..5 {
-            table.add(opens_well(alloc, call, pick)?);
+            table.add(opens_well(alloc, way, call, pick)?);
         }
     }
     Ok(table)
@@ -148,52 +188,52 @@ fn rows_of(outcome: &Outcome) -> &[u8] {
 
 /// A call fails: the run ends well or fails in an opening. Where it ends well, a second run over its devices gives the rows that the first
 /// has given.
-fn fails_well(alloc: Global, script: &str, failing: Failing) -> Result<bool, AllocError> {
+fn fails_well(alloc: Global, way: Way, script: &str, failing: Failing) -> Result<bool, AllocError> {
     let mut devices = failing_devices(alloc, failing)?;
-    let first = devices.run(alloc, script.as_bytes())?;
+    let first = way.run(alloc, &mut devices, script)?;
     if first.is(Status::DiskFault) {
         return Ok(true);
     }
-    let second = devices.copied(alloc)?.run(alloc, ROWS.as_bytes())?;
+    let second = way.run(alloc, &mut devices.copied(alloc)?, ROWS)?;
     Ok(first.is(Status::Done) && second.is(Status::Done) && rows_of(&second) == rows_of(&first))
 }
 
 /// Each write or sync fails in turn.
-pub fn one_write_fails(alloc: Global) -> Result<Table, AllocError> {
+pub fn one_write_fails(alloc: Global, way: Way) -> Result<Table, AllocError> {
     let script = format!(in alloc; "{ACCOUNTS}{TRANSFER}{ROWS}")?;
     let mut table = Table::new();
     for call in 1..81 {
-        table.add(fails_well(alloc, script.as_str(), Failing::Write(call))?);
+        table.add(fails_well(alloc, way, script.as_str(), Failing::Write(call))?);
     }
     Ok(table)
 }
 
 /// Each read fails in turn.
-pub fn one_read_fails(alloc: Global) -> Result<Table, AllocError> {
+pub fn one_read_fails(alloc: Global, way: Way) -> Result<Table, AllocError> {
     let script = format!(in alloc; "{ACCOUNTS}{TRANSFER}{ROWS}")?;
     let mut table = Table::new();
     for call in 1..41 {
-        table.add(fails_well(alloc, script.as_str(), Failing::Read(call))?);
+        table.add(fails_well(alloc, way, script.as_str(), Failing::Read(call))?);
     }
     Ok(table)
 }
 
 /// All writes fail from one on: what was told to be accepted is finished by a second run.
-fn keeps_accepted(alloc: Global, script: &str, call: u64) -> Result<bool, AllocError> {
+fn keeps_accepted(alloc: Global, way: Way, script: &str, call: u64) -> Result<bool, AllocError> {
     let mut devices = failing_devices(alloc, Failing::From(call))?;
-    let first = devices.run(alloc, script.as_bytes())?;
-    let second = devices.copied(alloc)?.run(alloc, SUM.as_bytes())?;
+    let first = way.run(alloc, &mut devices, script)?;
+    let second = way.run(alloc, &mut devices.copied(alloc)?, SUM)?;
     let may_end = first.is(Status::Done) || first.is(Status::DiskFault);
     let is_kept = first.count(b"b1.1 accepted\n") == 0 || second.count(SUM_KEPT) == 1;
     Ok(may_end && second.is(Status::Done) && is_kept)
 }
 
 /// From each write or sync on all fail.
-pub fn all_writes_fail(alloc: Global) -> Result<Table, AllocError> {
+pub fn all_writes_fail(alloc: Global, way: Way) -> Result<Table, AllocError> {
     let script = format!(in alloc; "{ACCOUNTS}{TRANSFER}")?;
     let mut table = Table::new();
     for call in 1..81 {
-        table.add(keeps_accepted(alloc, script.as_str(), call)?);
+        table.add(keeps_accepted(alloc, way, script.as_str(), call)?);
     }
     Ok(table)
 }

@@ -3,11 +3,11 @@ use Rattle.salt_place.specs.declared.placement.PlaceKind.TheVariants.{Remainder}
 use Rattle.salt_promise.specs.Words.{all_given, command_said, folder_named}
 use Rattle.salt_promise.specs.declared.command.Command.TheVariants.{Script}
 use Rattle.salt_promise.specs.declared.command.Command.{Command}
-use Rattle.std.specs.Prelude.{List, None, Option, Some, [], codes, refl, ℕ, ◌∷◌, ◌≡◌}
+use Rattle.std.specs.Prelude.{List, None, Option, Some, [], codes, false, refl, ℕ, ◌∷◌, ◌≡◌}
 
 -- the lines of a script over so many partitions
 abbrev over : ℕ → Command
-over parts = Script (record { parts = parts; kind = Remainder })
+over parts = Script (record { parts = parts; kind = Remainder }) false
 
 -- the command, and the folder of a run
 abbrev said : List (List ℕ) → Option Command × Option (List ℕ)

@@ -138,7 +138,7 @@ module _ (read : List ℕ → Option Definition) (reads : IsReader read) where
 
 abbrev pub finds_table : Run
 finds_table = record {
-  command = Some (Script one_part);
+  command = Some (Script one_part false);
   before = record { source = record { bytes = Some []; faults = 0 }; sink = record { bytes = Some []; faults = 0 }; devices = holding ample bytes_before [] };
   after = record {
     source = record { bytes = Some []; faults = 0 };

@@ -133,7 +133,7 @@ after = record {
 
 abbrev pub in_flight : Run
 in_flight = record {
-  command = Some (Script one_part);
+  command = Some (Script one_part false);
   before = before;
   after = after;
   status = DiskFault;

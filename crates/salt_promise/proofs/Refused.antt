@@ -31,7 +31,7 @@ quiet = record { bytes = Some []; faults = 0 }
 -- over these devices, of an empty script, with nothing told
 abbrev run : (before after : View) → Status → Run
 run before after status = record {
-  command = Some (Script one_part);
+  command = Some (Script one_part false);
   before = record { source = quiet; sink = quiet; devices = before };
   after = record { source = quiet; sink = quiet; devices = after };
   status = status;

@@ -7,7 +7,7 @@ use Rattle.salt_promise.specs.declared.command.Command.{Command}
 use Rattle.salt_promise.specs.declared.status.Status.{Status}
 use Rattle.salt_place.specs.declared.placement.PlaceKind.TheVariants.{Remainder}
 use Rattle.salt_place.specs.declared.placement.Shape.{Shape}
-use Rattle.std.specs.Prelude.{List, Option, ℕ}
+use Rattle.std.specs.Prelude.{Bool, List, Option, false, ℕ}
 
 -- a source with the bytes that it has left, or a sink with those that it holds, where it tells them; and how often it has failed
 pub record Stream : Type 0 where
@@ -25,8 +25,13 @@ world left reads held writes devices = record { source = record { bytes = left; 
 
 -- the shape of the devices that a command asks for
 abbrev pub shape_of : Command → Shape
-shape_of (Script shape) = shape
+shape_of (Script shape early) = shape
 shape_of (Load calls) = record { parts = 2; kind = Remainder }
+
+-- whether its openings end before accepted programs are finished
+abbrev pub early_of : Command → Bool
+early_of (Script shape early) = early
+early_of (Load calls) = false
 
 -- no command, where the words say none
 pub record Run : Type 1 where

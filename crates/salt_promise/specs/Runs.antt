@@ -10,7 +10,7 @@ use Rattle.salt_promise.specs.Counting.{Downs, FailsOnly, Stops}
 use Rattle.salt_model.specs.Arming.{armed_behind, armed_by_lines}
 use Rattle.salt_promise.specs.Doing.{Does}
 use Rattle.salt_promise.specs.Ending.{Ends, Flies}
-use Rattle.salt_promise.specs.Given.{Run, shape_of}
+use Rattle.salt_promise.specs.Given.{Run, early_of, shape_of}
 use Rattle.salt_promise.specs.declared.command.Command.{Command}
 use Rattle.salt_promise.specs.declared.status.Status.TheVariants.{DiskFault, Memory, NotSalt, NumbersSpent, OtherShape, ReadFault, Usage, WriteFault}
 use Rattle.salt_promise.specs.declared.status.Status.{Status}
@@ -83,7 +83,7 @@ pub record RunsOver (r : Run) (command : Command) : Type 0 where
   pub opens : IsTrue r.before.devices.told → OpenAs (shape_of command) r.before.devices.bytes start.kept
   pub well : WellKept start.kept
   pub can_stop : start.can_stop ≡ r.before.devices.can_stop
-  pub early : start.early ≡ false
+  pub early : start.early ≡ early_of command
   pub over_net : start.over_net ≡ false
   pub tells : Tells start trace r.story
   pub promises : Promises trace

@@ -9,7 +9,7 @@ use Rattle.std.specs.Bool.{then_some}
 use Rattle.std.specs.Char.{is_ascii_digit}
 use Rattle.std.specs.Global.{Global}
 use Rattle.std.specs.List.{find, list_all, position}
-use Rattle.std.specs.Prelude.{Bool, List, None, Option, Some, [], codes, drop, false, if◌then◌else◌, map, nat_le, nat_lt, option_and_then, option_map, string_bytes, take, true, ℕ, ◌&&◌, ◌+◌, ◌==◌, ◌∷◌}
+use Rattle.std.specs.Prelude.{Bool, List, None, Option, Some, [], codes, drop, false, if◌then◌else◌, map, nat_le, nat_lt, option_and_then, option_map, string_bytes, suc, take, true, ℕ, ◌&&◌, ◌+◌, ◌==◌, ◌∷◌}
 use Rattle.std.specs.Str.Parse.{digits_value}
 use Rattle.std.specs.Str.{byte, bytes_eq}
 use Rattle.std.specs.declared.string.String.{String}
@@ -26,13 +26,10 @@ count_said most word = then_some (list_all is_ascii_digit word && is_count most 
 
 -- ---- the settings of a run
 
--- a setting, and the value that the words give it
-pub record Given : Type 0 where
-  pub setting : Setting
-  pub value : List ℕ
-
-abbrev pub given : Setting → List ℕ → Given
-given setting value = record { setting = setting; value = value }
+-- what words give to a run: a value to a setting, or leave for its openings to end early
+pub data Given : Type 0 where
+  given : (setting : Setting) (value : List ℕ) → Given
+  early : Given
 
 abbrev pub name_of : Setting → List ℕ
 name_of Parts = codes "--parts"
@@ -42,14 +39,18 @@ abbrev pub setting_named : List ℕ → Option Setting
 setting_named name = find (λ setting. bytes_eq name (name_of setting)) (Parts ∷ Folder ∷ [])
 
 abbrev pub given_to : List ℕ → List ℕ → Option Given
-given_to name value = option_map (λ setting. given setting value) (setting_named name)
+given_to name value = option_map (λ (setting : Setting). given setting value) (setting_named name)
 
 abbrev pub is_equals_sign : ℕ → Bool
 is_equals_sign b = b == byte "="
 
--- in one word, as `--parts=2`: what stands before the first `=` is the name, and what stands behind it the value
+-- a value in one word, as `--parts=2`: what stands before the first `=` is the name, and what stands behind it the value
+abbrev pub value_in : List ℕ → Option Given
+value_in word = option_and_then (λ at. given_to (take at word) (drop (at + 1) word)) (position is_equals_sign word)
+
+-- what one word gives
 abbrev pub given_in : List ℕ → Option Given
-given_in word = option_and_then (λ at. given_to (take at word) (drop (at + 1) word)) (position is_equals_sign word)
+given_in word = if bytes_eq word (codes "--early") then Some early else value_in word
 
 abbrev pub begins_with_dash : List ℕ → Bool
 begins_with_dash [] = false
@@ -79,14 +80,22 @@ is_setting _ _ = false
 -- each value that a setting is given
 abbrev pub values_of : Setting → List Given → List (List ℕ)
 values_of setting [] = []
-values_of setting (g ∷ gs) = if is_setting setting g.setting then g.value ∷ values_of setting gs else values_of setting gs
+values_of setting (given other value ∷ gs) = if is_setting setting other then value ∷ values_of setting gs else values_of setting gs
+values_of setting (early ∷ gs) = values_of setting gs
+
+-- how often openings are given leave to end early
+abbrev pub early_given : List Given → ℕ
+early_given [] = 0
+early_given (given setting value ∷ gs) = early_given gs
+early_given (early ∷ gs) = suc (early_given gs)
 
 -- ---- a run
 
--- how many partitions, and the folder of their files, where one is named
+-- how many partitions, the folder of their files, where one is named, and whether openings end early
 pub record Settings : Type 0 where
   pub parts : ℕ
   pub folder : Option (List ℕ)
+  pub early : Bool
 
 -- a run has two partitions, or as many as it is told once
 abbrev pub parts_said : List (List ℕ) → Option ℕ
@@ -105,12 +114,18 @@ folder_said [] = Some None
 folder_said (path ∷ []) = folder_called path
 folder_said (path ∷ another ∷ paths) = None
 
-abbrev pub settings_of : Option ℕ → Option (Option (List ℕ)) → Option Settings
-settings_of (Some parts) (Some folder) = Some (record { parts = parts; folder = folder })
-settings_of parts folder = None
+-- openings end early where that is said once, and not where it is not said
+abbrev pub early_said : ℕ → Option Bool
+early_said 0 = Some false
+early_said 1 = Some true
+early_said (suc (suc times)) = None
+
+abbrev pub settings_of : Option ℕ → Option (Option (List ℕ)) → Option Bool → Option Settings
+settings_of (Some parts) (Some folder) (Some early) = Some (record { parts = parts; folder = folder; early = early })
+settings_of parts folder early = None
 
 abbrev pub settings_given : List Given → Option Settings
-settings_given gs = settings_of (parts_said (values_of Parts gs)) (folder_said (values_of Folder gs))
+settings_given gs = settings_of (parts_said (values_of Parts gs)) (folder_said (values_of Folder gs)) (early_said (early_given gs))
 
 -- the settings of a run that is called with these words behind `run`
 abbrev pub settings_said : List (List ℕ) → Option Settings
@@ -120,7 +135,7 @@ settings_said words = option_and_then settings_given (all_given words)
 
 -- a run of a script spreads rows by remainders
 abbrev pub script_with : Settings → Command
-script_with settings = Script (record { parts = settings.parts; kind = Remainder })
+script_with settings = Script (record { parts = settings.parts; kind = Remainder }) settings.early
 
 abbrev pub run_said : List (List ℕ) → Option Command
 run_said words = option_map script_with (settings_said words)

@@ -80,7 +80,7 @@ after = record {
 
 abbrev pub one_line : Run
 one_line = record {
-  command = Some (Script one_part);
+  command = Some (Script one_part false);
   before = before;
   after = after;
   status = Done;

@@ -1,6 +1,6 @@
 //! The command that words say.
 
-ghost use Rattle.salt_promise.specs.Given.{shape_of};
+ghost use Rattle.salt_promise.specs.Given.{early_of, shape_of};
 ghost use Rattle.std.specs.Prelude.{◌≡◌};
 
 use salt_place::{PlaceKind, Shape};
@@ -8,8 +8,8 @@ use salt_place::{PlaceKind, Shape};
 /// What the program is to do.
 #[derive(Clone, Copy, Debug, PartialEq, Eq)]
 pub enum Command {
-    /// `run`: the lines of a script, over devices of this shape.
-    Script(Shape),
+    /// `run`: the lines of a script, over devices of this shape; and whether openings end before accepted programs are finished.
+    Script { shape: Shape, early: bool },
     /// `load N`: the lines of the workload with so many calls, over two partitions.
     Load(u64),
 }
@@ -20,16 +20,26 @@ impl Command {
         ensures { result ≡ shape_of self }
     {
         match self {
-            Command::Script(shape) => shape,
+            Command::Script { shape, .. } => shape,
             Command::Load(_) => Shape {
                 parts: 2,
                 kind: PlaceKind::Remainder,
             },
         }
     }
+
+    /// Whether its openings end before accepted programs are finished.
+    pub fn early(self) -> bool
+        ensures { result ≡ early_of self }
+    {
+        match self {
+            Command::Script { early, .. } => early,
+            Command::Load(_) => false,
+        }
+    }
 }
 
-/// What may be set, each by a name of its own.
+/// What may be given a value, each by a name of its own.
 #[derive(Clone, Copy, Debug, PartialEq, Eq)]
 pub enum Setting {
     /// `--parts`: how many partitions there are.

@@ -216,28 +216,28 @@ module _ (e : View) where
 
 module _ (d e : View) (x : Database Devices) where
   module _ (promised : (trace : Trace) → IsPlayed trace → WellKept (start_of trace).kept → Promises trace) (start : Start) (sound : IsSoundKept start.kept) (unspent : are_spent start.kept.boot start.kept.decisions ≡ false)
-      (stops : start.can_stop ≡ d.can_stop) (early : start.early ≡ false) (over_net : start.over_net ≡ false) (s : Streams) (story : List Event) where
+      (stops : start.can_stop ≡ d.can_stop) (over_net : start.over_net ≡ false) (s : Streams) (story : List Event) where
     sound-start : (trace : Trace) → Tells start trace story → IsSoundKept (start_of trace).kept
     sound-start trace tells = subst (λ (k : Start). IsSoundKept k.kept) (sym tells.begins) sound
 
-    module _ (drained : (texts : List (List ℕ)) → DoTheirRests (AskInOrder texts)) (shape : Shape) (asked : by_half (λ o. o.storage.shape) (λ g. g.storage.shape) no_shape x ≡ shape) (stood : Finds d true shape start.kept) (status : Status)
+    module _ (drained : (texts : List (List ℕ)) → DoTheirRests (AskInOrder texts)) (shape : Shape) (early : Bool) (is_early : start.early ≡ early) (asked : by_half (λ o. o.storage.shape) (λ g. g.storage.shape) no_shape x ≡ shape) (stood : Finds d true shape start.kept) (status : Status)
         (y : (run : IsRun start status (database_flight x) s.script s.left s.before story s.now) × FoundAt e x status run.played.trace) where
-      pub script-over : RunsOver (Script shape) d e status (flight_at status (database_flight x)) s story
+      pub script-over : RunsOver (Script shape early) d e status (flight_at status (database_flight x)) s story
       script-over = record {
         start = start;
         stood = stood;
         sound = sound;
         unspent = unspent;
         stops = stops;
-        early = early;
+        early = is_early;
         over_net = over_net;
         may = may-end y.1.room y.1.point status y.1.may;
-        replays = script-replays promised shape status (database_flight x) s story start sound.well y.0;
+        replays = script-replays promised shape early status (database_flight x) s story start sound.well y.0;
         drains = drained y.0.played.texts y.0.played.trace y.0.played.tells.played (sound-start y.0.played.trace y.0.played.tells) y.0.played.reads;
         ends = ends-there e x shape asked status y.0.played.trace y.0.played.tells.played y.1;
       }
 
-    module _ (calls done : ℕ) (drained : DoTheirRests (λ lines. IsFrontOf lines (asked_by_load calls))) (asked : by_half (λ o. o.storage.shape) (λ g. g.storage.shape) no_shape x ≡ shape_of (Load calls)) (stood : Finds d true (shape_of (Load calls)) start.kept) (old status : Status) (how : IsBehind old status)
+    module _ (calls done : ℕ) (is_early : start.early ≡ false) (drained : DoTheirRests (λ lines. IsFrontOf lines (asked_by_load calls))) (asked : by_half (λ o. o.storage.shape) (λ g. g.storage.shape) no_shape x ≡ shape_of (Load calls)) (stood : Finds d true (shape_of (Load calls)) start.kept) (old status : Status) (how : IsBehind old status)
         (summed : IsSummary status (summary_text calls done story) s.before s.now) (y : (run : IsPlayedLoad start old (database_flight x) calls done story) × FoundAt e x old run.trace) where
       abbrev Loaded : Status → Type 0
       Loaded t = (r : IsPlayedLoad start t (database_flight x) calls done story) × FoundAt e x t r.trace
@@ -258,7 +258,7 @@ module _ (d e : View) (x : Database Devices) where
         sound = sound;
         unspent = unspent;
         stops = stops;
-        early = early;
+        early = is_early;
         over_net = over_net;
         may = may-end loaded.1.room loaded.1.point status loaded.1.may;
         replays = load-replays promised calls done status (database_flight x) s story start sound.well loaded.0 summed;

@@ -24,14 +24,14 @@ use Rattle.salt_place.specs.declared.placement.Shape.{Shape}
 use Rattle.salt_promise.specs.declared.command.Command.TheVariants.{Load, Script}
 use Rattle.salt_promise.specs.declared.command.Command.{Command}
 use Rattle.std.proofs.Common.{subst}
-use Rattle.std.specs.Prelude.{List, Some, length, ℕ, ◌≡◌, ◌≤◌}
+use Rattle.std.specs.Prelude.{Bool, List, Some, length, ℕ, ◌≡◌, ◌≤◌}
 
 module _ (r : Run) where
   abbrev pub streams_of : Streams
   streams_of = streams r.before.source.bytes r.after.source.bytes r.before.sink.bytes r.after.sink.bytes
 
-  pub script-does : (shape : Shape) (trace : Trace) → (r.status ≡ Done → IsAtEnd r.after.source.bytes) → Does (Script shape) r.status streams_of trace → DoesScript r trace
-  script-does shape trace end h = record {
+  pub script-does : (shape : Shape) (early : Bool) (trace : Trace) → (r.status ≡ Done → IsAtEnd r.after.source.bytes) → Does (Script shape early) r.status streams_of trace → DoesScript r trace
+  script-does shape early trace end h = record {
     texts = h.0.texts;
     asked = h.0.reads;
     lines = lines-way r.status r.before.source.bytes r.after.source.bytes h.0.texts end h.0.lines;

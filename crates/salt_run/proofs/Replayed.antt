@@ -17,7 +17,7 @@ use Rattle.salt_place.specs.declared.placement.Shape.{Shape}
 use Rattle.salt_workload.specs.Summary.{summary_text}
 use Rattle.salt_promise.specs.declared.command.Command.TheVariants.{Load, Script}
 use Rattle.std.proofs.Common.{subst, sym}
-use Rattle.std.specs.Prelude.{List, Option, length, refl, ℕ, ◌≡◌}
+use Rattle.std.specs.Prelude.{Bool, List, Option, length, refl, ℕ, ◌≡◌}
 
 pub flies-told : (status : Status) (trace : Trace) (f : Option Flight) → IsFlightAt status trace f → IsFlightTold status trace (flight_at status f)
 flies-told (NumbersSpent boot decisions) trace f h = refl
@@ -27,9 +27,9 @@ module _ (promised : (trace : Trace) → IsPlayed trace → WellKept (start_of t
   pub keeps : (start : Start) (trace : Trace) (story : List Event) → WellKept start.kept → Tells start trace story → Promises trace
   keeps start trace story well tells = promised trace tells.played (subst (λ (s : Start). WellKept s.kept) (sym tells.begins) well)
 
-  abbrev pub script-replays : (shape : Shape) (status : Status) (f : Option Flight) (s : Streams) (story : List Event) (start : Start) → WellKept start.kept →
-      IsRun start status f s.script s.left s.before story s.now → Replays (Script shape) status (flight_at status f) s story start
-  script-replays shape status f s story start well x =
+  abbrev pub script-replays : (shape : Shape) (early : Bool) (status : Status) (f : Option Flight) (s : Streams) (story : List Event) (start : Start) → WellKept start.kept →
+      IsRun start status f s.script s.left s.before story s.now → Replays (Script shape early) status (flight_at status f) s story start
+  script-replays shape early status f s story start well x =
       let p = x.played in
       record {
         trace = p.trace;

@@ -22,7 +22,7 @@ use Rattle.salt_storage.specs.Staying.{StaysWithin}
 use Rattle.salt_place.specs.declared.placement.Shape.{Shape}
 use Rattle.salt_promise.specs.declared.command.Command.TheVariants.{Load, Script}
 use Rattle.salt_promise.specs.declared.command.Command.{Command}
-use Rattle.std.specs.Prelude.{Some, refl, ℕ, ◌≡◌, ◌≤◌}
+use Rattle.std.specs.Prelude.{Bool, Some, refl, ℕ, ◌≡◌, ◌≤◌}
 
 -- STREAMS fail only where the run ends by that
 
@@ -56,9 +56,9 @@ module _ (reads : IsReader definition_in) (r : Run) (count : 26 ≤ r.before.dev
     others = within.others;
   }
 
-  pub script-runs : (shape : Shape) → r.command ≡ Some (Script shape) → IsCommand (Script shape) → StaysWithin shape shape r.before.devices r.after.devices →
-      (r.status ≡ Done → IsAtEnd r.after.source.bytes) → Runs (Script shape) r.before.devices r.after.devices r.status r.flight (streams_of r) r.story → promised.Runs r
-  script-runs shape is limits within end runs = runs_as is (counted (Script shape) limits within (λ trace. script-does r shape trace end) runs)
+  pub script-runs : (shape : Shape) (early : Bool) → r.command ≡ Some (Script shape early) → IsCommand (Script shape early) → StaysWithin shape shape r.before.devices r.after.devices →
+      (r.status ≡ Done → IsAtEnd r.after.source.bytes) → Runs (Script shape early) r.before.devices r.after.devices r.status r.flight (streams_of r) r.story → promised.Runs r
+  script-runs shape early is limits within end runs = runs_as is (counted (Script shape early) limits within (λ trace. script-does r shape early trace end) runs)
 
   pub load-runs : (calls : ℕ) → r.command ≡ Some (Load calls) → IsCommand (Load calls) → StaysWithin (shape_of (Load calls)) (shape_of (Load calls)) r.before.devices r.after.devices →
       r.after.source ≡ r.before.source → Runs (Load calls) r.before.devices r.after.devices r.status r.flight (streams_of r) r.story → promised.Runs r

@@ -17,7 +17,7 @@ use Rattle.salt_model.specs.declared.events.Why.TheVariants as why
 use Rattle.salt_promise.specs.Doing as promise
 use Rattle.salt_promise.specs.Ending.{AreSpentBehind, HasNumbers, IsInDoubt, IsLeftBehind, raised}
 use Rattle.salt_promise.specs.Filling.{IsFullBehind, NextFills}
-use Rattle.salt_promise.specs.Given.{Run, shape_of}
+use Rattle.salt_promise.specs.Given.{Run, early_of, shape_of}
 use Rattle.salt_promise.specs.Runs as promised
 use Rattle.salt_promise.specs.Runs.{IsNoRefusal}
 use Rattle.salt_promise.specs.Standing.{IsReader, OpenAs}
@@ -40,7 +40,7 @@ use Rattle.salt_storage.specs.declared.open.OpenErr.TheVariants as open_err
 use Rattle.salt_storage.specs.declared.open.OpenErr.TheVariants.{Halted}
 use Rattle.salt_promise.specs.declared.command.Command.{Command}
 use Rattle.std.proofs.Common.{ap, arith, inl, inr, subst, sym, ◌∙◌}
-use Rattle.std.specs.Prelude.{IsTrue, List, Some, [], false, refl, suc, true, zero, ℕ, ◌+◌, ◌++◌, ◌∷◌, ◌≡◌}
+use Rattle.std.specs.Prelude.{IsTrue, List, Some, [], refl, suc, true, zero, ℕ, ◌+◌, ◌++◌, ◌∷◌, ◌≡◌}
 
 -- A TRACE of nothing but stops
 
@@ -123,7 +123,7 @@ module _ (reads : IsReader definition_in) (r : Run) (command : Command)
     (rests : IsTrue r.after.devices.told → (image : ℕ → List ℕ) → IsImage r.after.devices image → StandsFor (shape_of command) image k)
     (stops : Stops r.status (armed_behind r.story (Some r.before.devices.armed)) r.after.devices.armed) where
   abbrev start : Start
-  start = start_over k r.before.devices.can_stop false
+  start = start_over k r.before.devices.can_stop (early_of command)
 
   replays : Replays command r.status r.flight (streams_of r) r.story start
   replays = x.replays start well

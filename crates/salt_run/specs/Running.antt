@@ -15,7 +15,7 @@ use Rattle.salt_promise.specs.Promises.{Promises}
 use Rattle.salt_promise.specs.Runs.{AreAsBefore, IsNoRefusal, may_have_failed}
 use Rattle.salt_promise.specs.declared.status.Status.{Status}
 use Rattle.salt_promise.specs.declared.status.Status.TheVariants.{DeviceFull}
-use Rattle.salt_promise.specs.Given.{shape_of}
+use Rattle.salt_promise.specs.Given.{early_of, shape_of}
 use Rattle.salt_run.specs.Doing.{Does, Streams}
 use Rattle.salt_run.specs.Ending.{EndsBehind, IsFlightTold}
 use Rattle.salt_loop.specs.Ending.{IsStatusOf}
@@ -49,14 +49,14 @@ pub record Replays (command : Command) (status : Status) (flight : Option Flight
   pub flies : IsFlightTold status trace flight
 
 -- A run over what the devices stood for when it began, blank ones for nothing, if they tell, with numbers that are not spent; and whether
--- they can be stopped. No opening is early, and no commit goes over messages.
+-- they can be stopped. Openings are early where the command says so, and no commit goes over messages.
 pub record RunsOver (command : Command) (old new : View) (status : Status) (flight : Option Flight) (s : Streams) (story : List Event) : Type 0 where
   pub start : Start
   pub stood : Finds old true (shape_of command) start.kept
   pub sound : IsSoundKept start.kept
   pub unspent : are_spent start.kept.boot start.kept.decisions ≡ false
   pub stops : start.can_stop ≡ old.can_stop
-  pub early : start.early ≡ false
+  pub early : start.early ≡ early_of command
   pub over_net : start.over_net ≡ false
   pub may : IsNoRefusal status
   pub replays : Replays command status flight s story start

@@ -54,7 +54,9 @@ pub fn run<S: Source, K: Sink, D: Disks, F: Fn(PlaceKind, &Key, u32) -> u32>(
     openings_do_their_rests();
     definitions_are_read();
     match command_in(words) {
-        Some(Command::Script(shape)) => run_script(alloc, shape, source, sink, disks, place),
+        Some(Command::Script { shape, early }) => {
+            run_script(alloc, shape, early, source, sink, disks, place)
+        }
         Some(Command::Load(calls)) => run_load(alloc, calls, sink, disks, place),
         None => Ended {
             status: Status::Usage,

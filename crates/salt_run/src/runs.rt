@@ -58,10 +58,12 @@ fn status_behind(done: Result<(), Stop>) -> Status
     }
 }
 
-/// Runs the script of the source over devices of this shape, and writes its story to the sink.
+/// Runs the script of the source over devices of this shape, and writes its story to the sink. Where it is `early`, openings end before accepted programs
+/// are finished.
 pub fn run_script<S: Source, K: Sink, D: Disks, F: Fn(PlaceKind, &Key, u32) -> u32>(
     alloc: Global,
     shape: Shape,
+    early: bool,
     source: &mut S,
     sink: &mut K,
     disks: &mut D,
@@ -74,7 +76,7 @@ pub fn run_script<S: Source, K: Sink, D: Disks, F: Fn(PlaceKind, &Key, u32) -> u
     requires answers { GivesPlaceOf (F.post place.now.place) }
     requires promised { (trace : Trace) → IsPlayed trace → WellKept (start_of trace).kept → Promises trace }
     requires drained { (texts : List (List ℕ)) → DoTheirRests (AskInOrder texts) }
-    ensures runs { Runs (Script shape) (D.view disks.old) (D.view disks.new) result.status result.flight
+    ensures runs { Runs (Script shape early) (D.view disks.old) (D.view disks.new) result.status result.flight
         (streams (S.left source.old) (S.left source.new) (K.held sink.old) (K.held sink.new)) result.story }
     ensures right { result.status ≢ Status.Usage }
     ensures done { result.status ≡ Status.Done → IsAtEnd (S.left source.new) }
@@ -92,7 +94,7 @@ pub fn run_script<S: Source, K: Sink, D: Disks, F: Fn(PlaceKind, &Key, u32) -> u
     let mut devices = Devices::new(alloc, shape);
     match find(&mut devices, disks, place, &mut story) {
         Ok(found) => {
-            let opening = Opening::new(alloc, devices, found, false);
+            let opening = Opening::new(alloc, devices, found, early);
             let mut database = Database::Closed(opening);
             let done = serve(alloc, &mut database, disks, place, source, sink, &mut story);
             let status = status_behind(done);

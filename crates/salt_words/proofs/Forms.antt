@@ -1,6 +1,6 @@
 -- A setting in one word and in two.
 use Rattle.salt_words.proofs.Givens.{none-given, one-given, two-given}
-use Rattle.salt_promise.specs.Words.{Given, all_given, begins_with_dash, given, given_by, given_in, given_to, is_equals_sign, name_of, settings_given, settings_said}
+use Rattle.salt_promise.specs.Words.{Given, all_given, begins_with_dash, given, given_by, given_in, given_to, is_equals_sign, name_of, settings_given, settings_said, value_in}
 use Rattle.salt_promise.specs.declared.command.Setting.TheVariants.{Folder, Parts}
 use Rattle.salt_promise.specs.declared.command.Setting.{Setting}
 use Rattle.std.proofs.Common.{ap, arith, refl, sym, ◌∙◌}
@@ -15,7 +15,7 @@ within : (at n : ℕ) → at < n → nat_lt at n ≡ true
 within at n h = grind (arith, nat_tests)
 
 -- a word whose first `=` stands at this place
-cut-at : (word : List ℕ) (at : ℕ) → position_or_len is_equals_sign word ≡ at → at < length word → given_in word ≡ given_to (take at word) (drop (at + 1) word)
+cut-at : (word : List ℕ) (at : ℕ) → position_or_len is_equals_sign word ≡ at → at < length word → value_in word ≡ given_to (take at word) (drop (at + 1) word)
 cut-at word at e h = rw (e, within at (length word) h) refl
 
 pub in-one : (setting : Setting) (value : List ℕ) → given_in (one_word setting value) ≡ Some (given setting value)

@@ -1,11 +1,11 @@
 -- Settings behind settings.
 use Rattle.salt_words.proofs.Givens.{none-alone, none-given, one-given, two-given}
-use Rattle.salt_promise.specs.Words.{Given, all_given, folder_said, given_by, given_in, is_setting, parts_said, settings_given, settings_of, settings_said, values_of}
+use Rattle.salt_promise.specs.Words.{Given, all_given, early, early_given, early_said, folder_said, given, given_by, given_in, is_setting, parts_said, settings_given, settings_of, settings_said, values_of}
 use Rattle.salt_promise.specs.declared.command.Setting.TheVariants.{Folder, Parts}
 use Rattle.salt_promise.specs.declared.command.Setting.{Setting}
-use Rattle.std.proofs.Common.{ap, append-nil, refl, subst, sym, ◌∙◌}
+use Rattle.std.proofs.Common.{ap, append-nil, arith, refl, subst, sym, ◌∙◌}
 use Rattle.std.proofs.lemmas.Bool.{false≢true}
-use Rattle.std.specs.Prelude.{Bool, IsSome, List, None, Option, Some, [], false, if◌then◌else◌, option_and_then, option_map, true, ℕ, ◌++◌, ◌∷◌, ◌≡◌}
+use Rattle.std.specs.Prelude.{Bool, IsSome, List, None, Option, Some, [], false, if◌then◌else◌, option_and_then, option_map, suc, true, ℕ, ◌+◌, ◌++◌, ◌∷◌, ◌≡◌}
 
 -- ---- what is given behind what is given
 
@@ -68,8 +68,9 @@ values_of-first false value us vs ws e = e
 
 values_of-append : (setting : Setting) (xs ys : List Given) → values_of setting (xs ++ ys) ≡ values_of setting xs ++ values_of setting ys
 values_of-append setting [] ys = refl
-values_of-append setting (x ∷ xs) ys =
-    values_of-first (is_setting setting x.setting) x.value (values_of setting (xs ++ ys)) (values_of setting xs) (values_of setting ys) (values_of-append setting xs ys)
+values_of-append setting (early ∷ xs) ys = values_of-append setting xs ys
+values_of-append setting (given other value ∷ xs) ys =
+    values_of-first (is_setting setting other) value (values_of setting (xs ++ ys)) (values_of setting xs) (values_of setting ys) (values_of-append setting xs ys)
 
 -- what is said once is said in any order
 once-swapped : {A : Type 0} (said : List (List ℕ) → Option A) → ((u v : List ℕ) (ws : List (List ℕ)) → said (u ∷ v ∷ ws) ≡ None) →
@@ -88,10 +89,22 @@ said-swapped setting said twice xs ys =
     ∙ once-swapped said twice (values_of setting xs) (values_of setting ys)
     ∙ ap said (sym (values_of-append setting ys xs))
 
+early-append : (xs ys : List Given) → early_given (xs ++ ys) ≡ early_given xs + early_given ys
+early-append [] ys = refl
+early-append (early ∷ xs) ys = ap suc (early-append xs ys)
+early-append (given setting value ∷ xs) ys = early-append xs ys
+
+early-swapped : (xs ys : List Given) → early_given (xs ++ ys) ≡ early_given (ys ++ xs)
+early-swapped xs ys =
+    let here = early-append xs ys in
+    let there = early-append ys xs in
+    omega arith
+
 given-swapped : (xs ys : List Given) → settings_given (xs ++ ys) ≡ settings_given (ys ++ xs)
 given-swapped xs ys =
-    ap (λ parts. settings_of parts (folder_said (values_of Folder (xs ++ ys)))) (said-swapped Parts parts_said (λ u v ws. refl) xs ys)
-    ∙ ap (settings_of (parts_said (values_of Parts (ys ++ xs)))) (said-swapped Folder folder_said (λ u v ws. refl) xs ys)
+    ap (λ parts. settings_of parts (folder_said (values_of Folder (xs ++ ys))) (early_said (early_given (xs ++ ys)))) (said-swapped Parts parts_said (λ u v ws. refl) xs ys)
+    ∙ ap (λ folder. settings_of (parts_said (values_of Parts (ys ++ xs))) folder (early_said (early_given (xs ++ ys)))) (said-swapped Folder folder_said (λ u v ws. refl) xs ys)
+    ∙ ap (λ times. settings_of (parts_said (values_of Parts (ys ++ xs))) (folder_said (values_of Folder (ys ++ xs))) (early_said times)) (early-swapped xs ys)
 
 both-swapped : (o p : Option (List Given)) → IsSome o → IsSome p → option_and_then settings_given (both o p) ≡ option_and_then settings_given (both p o)
 unfolding both

@@ -1,8 +1,8 @@
 -- What is given is what is spelled.
 use Rattle.salt_words.proofs.Forms.{by-two, in-one, name-alone, one_word}
 use Rattle.salt_words.proofs.Givens.{none-alone, none-given, one-given, two-given}
-use Rattle.salt_words.specs.Spelling.{Spells, in_one, in_two, nothing}
-use Rattle.salt_promise.specs.Words.{Given, all_given, begins_with_dash, given, given_by, given_in, given_to, is_equals_sign, name_of}
+use Rattle.salt_words.specs.Spelling.{Spells, alone, in_one, in_two, nothing}
+use Rattle.salt_promise.specs.Words.{Given, all_given, begins_with_dash, early, given, given_by, given_in, given_to, is_equals_sign, name_of, value_in}
 use Rattle.salt_promise.specs.declared.command.Setting.TheVariants.{Folder, Parts}
 use Rattle.salt_promise.specs.declared.command.Setting.{Setting}
 use Rattle.std.proofs.Common.{ap, refl, subst, sym, ◌∙◌}
@@ -11,7 +11,7 @@ use Rattle.std.proofs.lemmas.List.Quantifiers.{position-Some}
 use Rattle.std.proofs.lemmas.List.{drop_more, take-append-drop}
 use Rattle.std.proofs.lemmas.Slice.Eq.{bytes_eq-Decides}
 use Rattle.std.specs.List.{position}
-use Rattle.std.specs.Prelude.{Bool, List, None, Option, Some, [], drop, false, if◌then◌else◌, option_and_then, option_map, take, true, ℕ, ◌+◌, ◌++◌, ◌∷◌, ◌↔◌, ◌≡◌}
+use Rattle.std.specs.Prelude.{Bool, List, None, Option, Some, [], codes, drop, false, if◌then◌else◌, option_and_then, option_map, take, true, ℕ, ◌+◌, ◌++◌, ◌∷◌, ◌↔◌, ◌≡◌}
 use Rattle.std.specs.Str.{bytes_eq}
 
 -- ---- what is spelled is given
@@ -25,21 +25,23 @@ given-spelled (in_one setting value {words} h) =
 given-spelled (in_two setting value {words} d h) =
     two-given (name_of setting) value words (given setting value) (name-alone setting) (by-two setting value d)
     ∙ ap (option_map (λ gs. given setting value ∷ gs)) (given-spelled h)
+given-spelled (alone {words} h) = one-given (codes "--early") words early refl ∙ ap (option_map (λ gs. early ∷ gs)) (given-spelled h)
 
 -- ---- what is given is spelled
 
 record IsNamed (said value : List ℕ) (g : Given) : Type 0 where
-  name : said ≡ name_of g.setting
-  same : value ≡ g.value
+  setting : Setting
+  name : said ≡ name_of setting
+  same : given setting value ≡ g
 
 named-by : (said value : List ℕ) (g : Given) (s t : Bool) → (s ≡ true → said ≡ name_of Parts) → (t ≡ true → said ≡ name_of Folder) →
-    option_map (λ setting. given setting value) (if s then Some Parts else if t then Some Folder else None) ≡ Some g → IsNamed said value g
+    option_map (λ (setting : Setting). given setting value) (if s then Some Parts else if t then Some Folder else None) ≡ Some g → IsNamed said value g
 named-by said value g true t parts folder e =
     let is : given Parts value ≡ g = cc in
-    subst (λ g. IsNamed said value g) is (record { name = parts refl; same = refl })
+    record { setting = Parts; name = parts refl; same = is }
 named-by said value g false true parts folder e =
     let is : given Folder value ≡ g = cc in
-    subst (λ g. IsNamed said value g) is (record { name = folder refl; same = refl })
+    record { setting = Folder; name = folder refl; same = is }
 named-by said value g false false parts folder e = absurd cc
 
 named-as : (said value : List ℕ) (g : Given) → given_to said value ≡ Some g → IsNamed said value g
@@ -51,17 +53,28 @@ unfolding one_word
 joined Parts value = refl
 joined Folder value = refl
 
+-- it is a value, in one word
+record IsCut (word : List ℕ) (g : Given) : Type 0 where
+  setting : Setting
+  value : List ℕ
+  spelled : word ≡ one_word setting value
+  same : given setting value ≡ g
+
 cut-by : (word : List ℕ) (g : Given) (o : Option ℕ) → position is_equals_sign word ≡ o →
-    option_and_then (λ at. given_to (take at word) (drop (at + 1) word)) o ≡ Some g → word ≡ one_word g.setting g.value
+    option_and_then (λ at. given_to (take at word) (drop (at + 1) word)) o ≡ Some g → IsCut word g
 cut-by word g (Some at) e h =
     let p = position-Some is_equals_sign word at 0 e in
     let n = named-as (take at word) (drop (at + 1) word) g h in
-    sym (take-append-drop at word)
-    ∙ ap (λ d. take at word ++ d) (drop_more word at 0 p.0)
-    ∙ ap (λ b. take at word ++ b ∷ drop (at + 1) word) (eqb-true _ 61 p.1)
-    ∙ ap (λ name. name ++ 61 ∷ drop (at + 1) word) n.name
-    ∙ ap (λ value. name_of g.setting ++ 61 ∷ value) n.same
-    ∙ joined g.setting g.value
+    record {
+      setting = n.setting;
+      value = drop (at + 1) word;
+      spelled = sym (take-append-drop at word)
+          ∙ ap (λ d. take at word ++ d) (drop_more word at 0 p.0)
+          ∙ ap (λ b. take at word ++ b ∷ drop (at + 1) word) (eqb-true _ 61 p.1)
+          ∙ ap (λ name. name ++ 61 ∷ drop (at + 1) word) n.name
+          ∙ joined n.setting (drop (at + 1) word);
+      same = n.same;
+    }
 cut-by word g None e h = absurd cc
 
 told-by : (name value : List ℕ) (g : Given) (t : Bool) → begins_with_dash value ≡ t → (if t then None else given_to name value) ≡ Some g →
@@ -76,21 +89,34 @@ behind g None gs e = absurd cc
 abbrev Reads : List (List ℕ) → Type 0
 Reads words = (gs : List Given) → all_given words ≡ Some gs → Spells words gs
 
+-- what a word spells that gives this
+Begins : List ℕ → Given → Type 0
+Begins word g = (words : List (List ℕ)) (gs : List Given) → Spells words gs → Spells (word ∷ words) (g ∷ gs)
+
+word-spelled : (word : List ℕ) (g : Given) (t : Bool) → bytes_eq word (codes "--early") ≡ t → (if t then Some early else value_in word) ≡ Some g → Begins word g
+unfolding Begins one_word
+word-spelled word g true e h = λ words gs spells.
+    let is : early ≡ g = cc in
+    subst (λ g. Spells (word ∷ words) (g ∷ gs)) is (subst (λ w. Spells (w ∷ words) (early ∷ gs)) (sym ((bytes_eq-Decides word (codes "--early")).0 e)) (alone spells))
+word-spelled word g false e h = λ words gs spells.
+    let cut = cut-by word g (position is_equals_sign word) refl h in
+    subst (λ g. Spells (word ∷ words) (g ∷ gs)) cut.same
+    (subst (λ w. Spells (w ∷ words) (given cut.setting cut.value ∷ gs)) (sym cut.spelled) (in_one cut.setting cut.value spells))
+
 one-spelled : (word : List ℕ) (words : List (List ℕ)) (g : Given) → given_in word ≡ Some g → Reads words → Reads (word ∷ words)
-unfolding one_word
+unfolding Begins
 one-spelled word words g e reads = λ gs h.
     let b = behind g (all_given words) gs (sym (one-given word words g e) ∙ h) in
-    let w : word ≡ one_word g.setting g.value = cut-by word g (position is_equals_sign word) refl e in
-    subst (λ gs. Spells (word ∷ words) gs) b.2 (subst (λ w. Spells (w ∷ words) (g ∷ b.0)) (sym w) (in_one g.setting g.value (reads b.0 b.1)))
+    let spells = word-spelled word g (bytes_eq word (codes "--early")) refl e words b.0 (reads b.0 b.1) in
+    subst (λ gs. Spells (word ∷ words) gs) b.2 spells
 
 two-spelled : (word next : List ℕ) (words : List (List ℕ)) (g : Given) → given_in word ≡ None → given_by word next ≡ Some g → Reads words → Reads (word ∷ next ∷ words)
 two-spelled word next words g e f reads = λ gs h.
     let b = behind g (all_given words) gs (sym (two-given word next words g e f) ∙ h) in
     let t = told-by word next g (begins_with_dash next) refl f in
-    let d : begins_with_dash g.value ≡ false = subst (λ v. begins_with_dash v ≡ false) t.1.same t.0 in
     subst (λ gs. Spells (word ∷ next ∷ words) gs) b.2
     (subst (λ w. Spells (w ∷ next ∷ words) (g ∷ b.0)) (sym t.1.name)
-    (subst (λ v. Spells (name_of g.setting ∷ v ∷ words) (g ∷ b.0)) (sym t.1.same) (in_two g.setting g.value d (reads b.0 b.1))))
+    (subst (λ g. Spells (name_of t.1.setting ∷ next ∷ words) (g ∷ b.0)) t.1.same (in_two t.1.setting next t.0 (reads b.0 b.1))))
 
 reads-nothing : Reads []
 unfolding all_given

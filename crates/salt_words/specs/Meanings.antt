@@ -1,24 +1,29 @@
 -- What the values of the program mean.
 use Rattle.salt_promise.specs.Words as words
-use Rattle.salt_promise.specs.Words.{folder_said, parts_said, settings_of, values_of}
+use Rattle.salt_promise.specs.Words.{early_given, early_said, folder_said, parts_said, settings_of, values_of}
 use Rattle.salt_words.specs.declared.settings.First.{First}
+use Rattle.salt_words.specs.declared.settings.Given.TheVariants.{Early, Value}
 use Rattle.salt_words.specs.declared.settings.Given.{Given}
 use Rattle.salt_words.specs.declared.settings.Said.{Said}
 use Rattle.salt_promise.specs.declared.command.Setting.TheVariants.{Folder, Parts}
 use Rattle.salt_words.specs.declared.settings.Settings.{Settings}
 use Rattle.std.specs.Option.{option_copied}
-use Rattle.std.specs.Prelude.{List, Option, option_to_list, ◌++◌}
+use Rattle.std.specs.Prelude.{Bool, List, Option, if◌then◌else◌, option_to_list, ℕ, ◌+◌, ◌++◌, ◌∷◌}
 
--- what is given, by the bytes of its value
+-- what is given, a value by its bytes
 abbrev pub given_meant : Given → words.Given
-given_meant g = words.given g.setting g.value.now
+given_meant (Value setting value) = words.given setting value.now
+given_meant Early = words.early
 
 abbrev pub first_meant : First → words.Given
-first_meant first = words.given first.setting first.value.now
+first_meant first = given_meant first.given
 
 -- the settings of a run, by the bytes of its folder
 abbrev pub settings_meant : Settings → words.Settings
-settings_meant s = record { parts = s.parts; folder = option_copied s.folder }
+settings_meant s = record { parts = s.parts; folder = option_copied s.folder; early = s.early }
+
+abbrev pub times : Bool → ℕ
+times said = if said then 1 else 0
 
 -- the settings where more is given behind what was said
 abbrev pub settings_behind : Said → List words.Given → Option words.Settings
@@ -26,3 +31,4 @@ settings_behind said gs =
     settings_of
     (parts_said (option_to_list (option_copied said.parts) ++ values_of Parts gs))
     (folder_said (option_to_list (option_copied said.folder) ++ values_of Folder gs))
+    (early_said (times said.early + early_given gs))

@@ -1,12 +1,13 @@
 -- How settings are spelled.
-use Rattle.salt_promise.specs.Words.{Given, begins_with_dash, given, name_of}
+use Rattle.salt_promise.specs.Words.{Given, begins_with_dash, early, given, name_of}
 use Rattle.salt_promise.specs.declared.command.Setting.{Setting}
 use Rattle.std.specs.Prelude.{List, [], codes, false, ℕ, ◌++◌, ◌∷◌, ◌≡◌}
 
--- words that give values to settings, each in one word, `--parts=2`, or in two, `--parts 2`
+-- words that give values to settings, each in one word, `--parts=2`, or in two, `--parts 2`; and `--early`, a word alone
 pub data Spells : List (List ℕ) → List Given → Type 0 where
   nothing : Spells [] []
   in_one : (setting : Setting) (value : List ℕ) {words : List (List ℕ)} {gs : List Given} → Spells words gs →
       Spells ((name_of setting ++ codes "=" ++ value) ∷ words) (given setting value ∷ gs)
   in_two : (setting : Setting) (value : List ℕ) {words : List (List ℕ)} {gs : List Given} → begins_with_dash value ≡ false → Spells words gs →
       Spells (name_of setting ∷ value ∷ words) (given setting value ∷ gs)
+  alone : {words : List (List ℕ)} {gs : List Given} → Spells words gs → Spells (codes "--early" ∷ words) (early ∷ gs)

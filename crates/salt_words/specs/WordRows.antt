@@ -3,11 +3,14 @@ use Rattle.salt_place.specs.declared.placement.PlaceKind.TheVariants.{Remainder}
 use Rattle.salt_promise.specs.Words.{all_given, command_said, folder_named}
 use Rattle.salt_promise.specs.declared.command.Command.TheVariants.{Load, Script}
 use Rattle.salt_promise.specs.declared.command.Command.{Command}
-use Rattle.std.specs.Prelude.{List, None, Option, Some, [], codes, refl, ℕ, ◌∷◌, ◌≡◌}
+use Rattle.std.specs.Prelude.{List, None, Option, Some, [], codes, false, refl, true, ℕ, ◌∷◌, ◌≡◌}
 
 -- the lines of a script over so many partitions
 abbrev over : ℕ → Command
-over parts = Script (record { parts = parts; kind = Remainder })
+over parts = Script (record { parts = parts; kind = Remainder }) false
+
+abbrev over_early : ℕ → Command
+over_early parts = Script (record { parts = parts; kind = Remainder }) true
 
 -- the command, and the folder of a run
 abbrev said : List (List ℕ) → Option Command × Option (List ℕ)
@@ -61,7 +64,31 @@ greatest_load : said (codes "load" ∷ codes "020000" ∷ []) ≡ (Some (Load 20
 unfolding all_given
 greatest_load = refl
 
+early_alone : said (codes "run" ∷ codes "--early" ∷ []) ≡ (Some (over_early 2), None)
+unfolding all_given
+early_alone = refl
+
+early_between : said (codes "run" ∷ codes "--parts" ∷ codes "3" ∷ codes "--early" ∷ codes "--dir=data" ∷ []) ≡ (Some (over_early 3), Some (codes "data"))
+unfolding all_given
+early_between = refl
+
 -- Words that say none.
+
+early_twice : said (codes "run" ∷ codes "--early" ∷ codes "--early" ∷ []) ≡ (None, None)
+unfolding all_given
+early_twice = refl
+
+early_with_a_value : said (codes "run" ∷ codes "--early" ∷ codes "1" ∷ []) ≡ (None, None)
+unfolding all_given
+early_with_a_value = refl
+
+early_with_a_value_in_one_word : said (codes "run" ∷ codes "--early=1" ∷ []) ≡ (None, None)
+unfolding all_given
+early_with_a_value_in_one_word = refl
+
+early_load : said (codes "load" ∷ codes "1" ∷ codes "--early" ∷ []) ≡ (None, None)
+unfolding all_given
+early_load = refl
 
 no_words : said ([]) ≡ (None, None)
 unfolding all_given

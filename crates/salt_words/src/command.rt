@@ -17,10 +17,13 @@ pub fn command_in(words: &[String]) -> Option<Command>
     match words {
         [word, settings @ ..] if word.as_bytes() == b"run".as_slice() => {
             let settings = settings_in(settings)?;
-            Some(Command::Script(Shape {
-                parts: settings.parts,
-                kind: PlaceKind::Remainder,
-            }))
+            Some(Command::Script {
+                shape: Shape {
+                    parts: settings.parts,
+                    kind: PlaceKind::Remainder,
+                },
+                early: settings.early,
+            })
         }
         [word, calls] if word.as_bytes() == b"load".as_slice() => {
             Some(Command::Load(count_in(CALLS_MOST, calls.as_str())?))

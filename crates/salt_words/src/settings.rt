@@ -1,6 +1,6 @@
 //! The settings of a run.
 
-ghost use Rattle.salt_promise.specs.Words.{all_given, begins_with_dash, given_by, given_in, given_to, parts_said, setting_named, settings_said};
+ghost use Rattle.salt_promise.specs.Words.{all_given, begins_with_dash, given_by, given_in, given_to, parts_said, setting_named, settings_said, value_in};
 ghost use Rattle.salt_promise.specs.Words as words;
 ghost use Rattle.salt_words.specs.Meanings.{first_meant, given_meant, settings_behind, settings_meant};
 ghost use Rattle.std.specs.Option.{option_copied};
@@ -22,11 +22,13 @@ fn setting_named(name: &str) -> Option<Setting>
     }
 }
 
-/// A setting, and the value that words give it.
+/// What words give to a run.
 #[derive(Clone, Copy)]
-pub struct Given<'a> {
-    pub setting: Setting,
-    pub value: &'a str,
+pub enum Given<'a> {
+    /// A value to a setting.
+    Value { setting: Setting, value: &'a str },
+    /// Leave for its openings to end early.
+    Early,
 }
 
 /// A value that is given to a setting of this name.
@@ -34,7 +36,17 @@ fn given_to<'a>(name: &str, value: &'a str) -> Option<Given<'a>>
     ensures { option_map given_meant result ≡ given_to name.now value.now }
 {
     match setting_named(name) {
-        Some(setting) => Some(Given { setting, value }),
+        Some(setting) => Some(Given::Value { setting, value }),
+        None => None,
+    }
+}
+
+/// A value that one word gives.
+fn value_in(word: &str) -> Option<Given<'_>>
+    ensures { option_map given_meant result ≡ value_in word.now }
+{
+    match word.split_once('=') {
+        Some((name, value)) => given_to(name, value),
         None => None,
     }
 }
@@ -43,9 +55,10 @@ fn given_to<'a>(name: &str, value: &'a str) -> Option<Given<'a>>
 fn given_in(word: &str) -> Option<Given<'_>>
     ensures { option_map given_meant result ≡ given_in word.now }
 {
-    match word.split_once('=') {
-        Some((name, value)) => given_to(name, value),
-        None => None,
+    if word.as_bytes() == b"--early".as_slice() {
+        Some(Given::Early)
+    } else {
+        value_in(word)
     }
 }
 
@@ -69,8 +82,7 @@ fn given_by<'a>(name: &str, value: &'a str) -> Option<Given<'a>>
 /// What words give first, and the words behind it.
 #[derive(Clone, Copy)]
 struct First<'a> {
-    setting: Setting,
-    value: &'a str,
+    given: Given<'a>,
     behind: &'a [String],
 }
 
@@ -84,11 +96,7 @@ fn first_by_two<'a>(name: &str, words: &'a [String]) -> Option<First<'a>>
 {
     match words {
         [next, behind @ ..] => match given_by(name, next) {
-            Some(Given { setting, value }) => Some(First {
-                setting,
-                value,
-                behind,
-            }),
+            Some(given) => Some(First { given, behind }),
             None => None,
         },
         [] => None,
@@ -105,26 +113,23 @@ fn first_given<'a>(words: &'a [String]) -> Option<First<'a>>
 {
     match words {
         [word, behind @ ..] => match given_in(word) {
-            Some(Given { setting, value }) => Some(First {
-                setting,
-                value,
-                behind,
-            }),
+            Some(given) => Some(First { given, behind }),
             None => first_by_two(word, behind),
         },
         [] => None,
     }
 }
 
-/// The value that each setting was given, where it was given one.
+/// The value that each setting was given, where it was given one, and whether openings may end early.
 #[derive(Clone, Copy)]
 struct Said<'a> {
     parts: Option<&'a str>,
     folder: Option<&'a str>,
+    early: bool,
 }
 
 /// With a value for a setting that had none.
-fn said_with<'a>(said: Said<'a>, setting: Setting, value: &'a str) -> Option<Said<'a>>
+fn said_of<'a>(said: Said<'a>, setting: Setting, value: &'a str) -> Option<Said<'a>>
     ensures { MatchOption result ((gs : List words.Given) → settings_behind said.entry (words.given setting value.now ∷ gs) ≡ None)
         (λ after. (gs : List words.Given) → settings_behind after gs ≡ settings_behind said.entry (words.given setting value.now ∷ gs)) }
 {
@@ -132,12 +137,29 @@ fn said_with<'a>(said: Said<'a>, setting: Setting, value: &'a str) -> Option<Sai
         (Setting::Parts, None, folder) => Some(Said {
             parts: Some(value),
             folder,
+            early: said.early,
         }),
         (Setting::Folder, parts, None) => Some(Said {
             parts,
             folder: Some(value),
+            early: said.early,
         }),
         _ => None,
+    }
+}
+
+/// With what was not given before.
+fn said_with<'a>(said: Said<'a>, given: Given<'a>) -> Option<Said<'a>>
+    ensures { MatchOption result ((gs : List words.Given) → settings_behind said.entry (given_meant given.entry ∷ gs) ≡ None)
+        (λ after. (gs : List words.Given) → settings_behind after gs ≡ settings_behind said.entry (given_meant given.entry ∷ gs)) }
+{
+    match given {
+        Given::Value { setting, value } => said_of(said, setting, value),
+        Given::Early if said.early => None,
+        Given::Early => Some(Said {
+            early: true,
+            ..said
+        }),
     }
 }
 
@@ -149,11 +171,12 @@ fn said_in<'a>(words: &'a [String]) -> Option<Said<'a>>
     let mut said = Said {
         parts: None,
         folder: None,
+        early: false,
     };
     let mut rest = words;
     while !rest.is_empty() {
         let first = first_given(rest)?;
-        said = said_with(said, first.setting, first.value)?;
+        said = said_with(said, first.given)?;
         rest = first.behind;
     }
     Some(said)
@@ -179,6 +202,8 @@ pub struct Settings<'a> {
     pub parts: u8,
     /// The folder of their files, where one is named.
     pub folder: Option<&'a str>,
+    /// Whether openings end before accepted programs are finished.
+    pub early: bool,
 }
 
 /// The settings that words say.
@@ -189,6 +214,10 @@ pub fn settings_in<'a>(words: &'a [String]) -> Option<Settings<'a>>
     let parts = parts_in(said.parts)?;
     match said.folder {
         Some(path) if path.is_empty() => None,
-        folder => Some(Settings { parts, folder }),
+        folder => Some(Settings {
+            parts,
+            folder,
+            early: said.early,
+        }),
     }
 }

@@ -13,8 +13,9 @@ run_script-requires-clause-parts g c =
     let b = c.in-Some-Script.ensures in
     let x = c.in-Some-Script.field-0-is in
     let y = c.in-Some-Script.shape-is in
-    let is : command_of c.args.words.now ≡ Some (Script c.in-Some-Script.shape) = cc in
-    command-within c.args.words.now (Script c.in-Some-Script.shape) is
+    let z = c.in-Some-Script.early-is in
+    let is : command_of c.args.words.now ≡ Some (Script c.in-Some-Script.shape c.in-Some-Script.early) = cc in
+    command-within c.args.words.now (Script c.in-Some-Script.shape c.in-Some-Script.early) is
 
 pub returns-in-Some-Script-clause-runs : goal.returns-in-Some-Script-clause-runs
 returns-in-Some-Script-clause-runs g c =
@@ -22,7 +23,8 @@ returns-in-Some-Script-clause-runs g c =
     let b = c.in-Some-Script.ensures in
     let x = c.in-Some-Script.field-0-is in
     let y = c.in-Some-Script.shape-is in
-    let is : command_of c.args.words.now ≡ Some (Script c.in-Some-Script.shape) = cc in
+    let z = c.in-Some-Script.early-is in
+    let is : command_of c.args.words.now ≡ Some (Script c.in-Some-Script.shape c.in-Some-Script.early) = cc in
     let e = c.run_script.new in
     let h = c.run_script.ensures in
     let r : Run = record {
@@ -34,7 +36,7 @@ returns-in-Some-Script-clause-runs g c =
       story = c.run_script.result.story;
     } in
     script-runs (record { each = c.definitions_are_read.ensures }) r c.requires.devices h.read_fault h.no_read_fault h.reads_later h.write_fault h.no_write_fault h.writes_later h.downs h.stops
-    c.in-Some-Script.shape is (command-within c.args.words.now (Script c.in-Some-Script.shape) is) h.within h.done h.runs
+    c.in-Some-Script.shape c.in-Some-Script.early is (command-within c.args.words.now (Script c.in-Some-Script.shape c.in-Some-Script.early) is) h.within h.done h.runs
 
 pub run_load-requires-clause-drained : goal.run_load-requires-clause-drained
 run_load-requires-clause-drained g c = c.openings_do_their_rests.ensures.load c.in-Some-Load.calls

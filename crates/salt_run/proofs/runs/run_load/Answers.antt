@@ -55,8 +55,8 @@ returns-in-Ok-clause-runs g c left =
     let b = begins-over f.kept mid.can_stop false _ _ c.find.new.story c.find.ensures.unfound f.sound opens (ap flight_of new.none) in
     let asked = c.new-devices.ensures.shape ∙ c.shape.ensures in
     as-told (Load c.args.calls) d e s c.load-lines.new.story status status flies c.flight_at.result refl (c.flight_at.ensures ∙ ap (flight_at status) c.flight.ensures)
-    (inl (load-over d e x c.requires.promised start f.sound ((λ i. are_spent (sym f.is.boot i) (sym f.is.decisions i)) ∙ f.unspent) c.find.ensures.within.shape.can_stop refl refl s c.load-lines.new.story
-    c.args.calls r.lines c.requires.drained (c.load-lines.ensures.within.asked ∙ (λ i. (c.new-opening.ensures.storage i).shape) ∙ c.find.ensures.within.asked ∙ asked)
+    (inl (load-over d e x c.requires.promised start f.sound ((λ i. are_spent (sym f.is.boot i) (sym f.is.decisions i)) ∙ f.unspent) c.find.ensures.within.shape.can_stop refl s c.load-lines.new.story
+    c.args.calls r.lines refl c.requires.drained (c.load-lines.ensures.within.asked ∙ (λ i. (c.new-opening.ensures.storage i).shape) ∙ c.find.ensures.within.asked ∙ asked)
     (found-is (Load c.args.calls) d z.started z.shape c.new-devices.ensures.started asked f.kept f.found) (outcome r.done) status
     (behind-outcome (outcome r.done) c.status_behind.result status c.status_behind.ensures c.write_summary-status.ensures.written) c.write_summary-status.ensures.summed (c.load-lines.ensures.ended start b.0 b.1)))
 

@@ -16,7 +16,7 @@ use Rattle.salt_stands.specs.Stands.{are_spent}
 use Rattle.salt_storage.proofs.Staying.{stays-behind}
 use Rattle.salt_promise.specs.declared.command.Command.TheVariants.{Script}
 use Rattle.std.proofs.Common.{ap, inl, inr, refl, subst, sym, ◌∙◌}
-use Rattle.std.specs.Prelude.{Err, None, false}
+use Rattle.std.specs.Prelude.{Err, None}
 
 pub new-opening-requires : goal.new-opening-requires
 new-opening-requires g c = c.in-Ok.ensures.found.unspent
@@ -29,9 +29,9 @@ serve-done-requires-clause-begins g c =
     let f = c.in-Ok.ensures.found in
     let mid = g.D.Disks.view c.find.new.disks in
     let new = c.new-opening.ensures.is_new f.kept f.is f.sound in
-    let opens = opened-first _ _ mid.can_stop _ _ _ _ false f.kept new (subst (λ (x : Devices). StandsHeld x.shape x.started x.store x.numbers x.pending mid f.kept) (sym c.new-opening.ensures.storage) f.holding) f.sound in
-    let b = begins-over f.kept mid.can_stop false _ _ c.find.new.story c.find.ensures.unfound f.sound opens (ap flight_of new.none) in
-    (start_over f.kept mid.can_stop false, b.0, b.1)
+    let opens = opened-first _ _ mid.can_stop _ _ _ _ c.args.early f.kept new (subst (λ (x : Devices). StandsHeld x.shape x.started x.store x.numbers x.pending mid f.kept) (sym c.new-opening.ensures.storage) f.holding) f.sound in
+    let b = begins-over f.kept mid.can_stop c.args.early _ _ c.find.new.story c.find.ensures.unfound f.sound opens (ap flight_of new.none) in
+    (start_over f.kept mid.can_stop c.args.early, b.0, b.1)
 
 pub returns-in-Ok-clause-runs : goal.returns-in-Ok-clause-runs
 returns-in-Ok-clause-runs g c =
@@ -44,15 +44,15 @@ returns-in-Ok-clause-runs g c =
     let z = c.new-devices.result in
     let status = c.status_behind-status.result in
     let s = streams (g.S.Source.left c.args.source.now) (g.S.Source.left c.serve-done.new.source) (g.K.Sink.held c.args.sink.now) (g.K.Sink.held c.serve-done.new.sink) in
-    let start = start_over f.kept mid.can_stop false in
+    let start = start_over f.kept mid.can_stop c.args.early in
     let new = c.new-opening.ensures.is_new f.kept f.is f.sound in
-    let opens = opened-first _ _ mid.can_stop _ _ _ _ false f.kept new (subst (λ (x : Devices). StandsHeld x.shape x.started x.store x.numbers x.pending mid f.kept) (sym c.new-opening.ensures.storage) f.holding) f.sound in
-    let b = begins-over f.kept mid.can_stop false _ _ c.find.new.story c.find.ensures.unfound f.sound opens (ap flight_of new.none) in
-    as-told (Script c.args.shape) d e s c.serve-done.new.story (outcome c.serve-done.result) status flies c.flight_at.result c.status_behind-status.ensures
+    let opens = opened-first _ _ mid.can_stop _ _ _ _ c.args.early f.kept new (subst (λ (x : Devices). StandsHeld x.shape x.started x.store x.numbers x.pending mid f.kept) (sym c.new-opening.ensures.storage) f.holding) f.sound in
+    let b = begins-over f.kept mid.can_stop c.args.early _ _ c.find.new.story c.find.ensures.unfound f.sound opens (ap flight_of new.none) in
+    as-told (Script c.args.shape c.args.early) d e s c.serve-done.new.story (outcome c.serve-done.result) status flies c.flight_at.result c.status_behind-status.ensures
     (c.flight_at.ensures ∙ ap (flight_at status) c.flight.ensures)
-    (inl (script-over d e x c.requires.promised start f.sound ((λ i. are_spent (sym f.is.boot i) (sym f.is.decisions i)) ∙ f.unspent) c.find.ensures.within.shape.can_stop refl refl s c.serve-done.new.story
-    c.requires.drained c.args.shape (c.serve-done.ensures.within.asked ∙ (λ i. (c.new-opening.ensures.storage i).shape) ∙ c.find.ensures.within.asked ∙ c.new-devices.ensures.shape)
-    (found-is (Script c.args.shape) d z.started z.shape c.new-devices.ensures.started c.new-devices.ensures.shape f.kept f.found) (outcome c.serve-done.result) (c.serve-done.ensures.ended start b.0 b.1)))
+    (inl (script-over d e x c.requires.promised start f.sound ((λ i. are_spent (sym f.is.boot i) (sym f.is.decisions i)) ∙ f.unspent) c.find.ensures.within.shape.can_stop refl s c.serve-done.new.story
+    c.requires.drained c.args.shape c.args.early refl (c.serve-done.ensures.within.asked ∙ (λ i. (c.new-opening.ensures.storage i).shape) ∙ c.find.ensures.within.asked ∙ c.new-devices.ensures.shape)
+    (found-is (Script c.args.shape c.args.early) d z.started z.shape c.new-devices.ensures.started c.new-devices.ensures.shape f.kept f.found) (outcome c.serve-done.result) (c.serve-done.ensures.ended start b.0 b.1)))
 
 pub returns-in-Ok-clause-downs : goal.returns-in-Ok-clause-downs
 returns-in-Ok-clause-downs g c =
@@ -89,10 +89,10 @@ returns-in-Err-clause-runs g c =
     let status = c.status_behind.result in
     let s = streams (g.S.Source.left c.args.source.now) (g.S.Source.left c.args.source.now) (g.K.Sink.held c.args.sink.now) (g.K.Sink.held c.tell_unfound.new.sink) in
     let now = outcome c.tell_unfound.result in
-    as-told (Script c.args.shape) d e s c.find.new.story now status None None c.status_behind.ensures (sym (flight-none status))
-    (inr (nothing (Script c.args.shape) d z.started z.shape c.new-devices.ensures.started c.new-devices.ensures.shape e y.shape y.started c.find.ensures.within.asked c.in-Err.ensures.rests
+    as-told (Script c.args.shape c.args.early) d e s c.find.new.story now status None None c.status_behind.ensures (sym (flight-none status))
+    (inr (nothing (Script c.args.shape c.args.early) d z.started z.shape c.new-devices.ensures.started c.new-devices.ensures.shape e y.shape y.started c.find.ensures.within.asked c.in-Err.ensures.rests
     c.in-Err.reason c.find.new.story c.in-Err.ensures.err c.in-Err.ensures.unwritten now (flight_at now None) s c.tell_unfound.ensures.is c.find.ensures.unfound
-    (λ start well. script-replays c.requires.promised c.args.shape now None s c.find.new.story start well (c.tell_unfound.ensures.run start (g.S.Source.left c.args.source.now) (g.S.Source.left c.args.source.now)))))
+    (λ start well. script-replays c.requires.promised c.args.shape c.args.early now None s c.find.new.story start well (c.tell_unfound.ensures.run start (g.S.Source.left c.args.source.now) (g.S.Source.left c.args.source.now)))))
 
 pub returns-in-Err-clause-downs : goal.returns-in-Err-clause-downs
 returns-in-Err-clause-downs g c =
