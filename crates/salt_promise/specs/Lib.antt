@@ -8,6 +8,7 @@ pub mod Promises
 pub mod Filling
 pub mod Ending
 pub mod Counting
+pub mod EarlyOpenings
 pub mod Runs
 pub mod Completing
 pub mod Worked
