@@ -12,6 +12,7 @@ ghost use Rattle.std.specs.Prelude.{List, ℕ};
 
 use law_decisions::{played_does_its_rests, read_lines_are_spelled};
 use law_definitions::definitions_are_read;
+use law_early::{held_back_is_hidden, turns_are_given};
 use law_story::{
     held_locks_stand_together, played_is_continued, played_is_declared, played_is_honest,
     played_is_kept, played_is_salted, played_is_whole, played_releases_exactly,
@@ -29,6 +30,8 @@ pub fn played_keeps_promises()
     played_is_kept();
     played_is_declared();
     held_locks_stand_together();
+    held_back_is_hidden();
+    turns_are_given();
 }
 
 /// In each opening of a run no more statements are told than the programs that it found had left.
