@@ -40,7 +40,7 @@ use Rattle.salt_tokens.specs.Spelling.{keyword_of, sign_of}
 use Rattle.salt_tokens.specs.declared.sign.Sign.TheVariants as mark
 use Rattle.salt_tokens.specs.declared.token.TokenKind.TheVariants as kind
 use Rattle.salt_values.specs.declared.id.Id.{Id}
-use Rattle.std.proofs.Common.{arith, inl, inr, ◌∙◌}
+use Rattle.std.proofs.Common.{arith, false, inl, inr, ◌∙◌}
 use Rattle.std.specs.Prelude.{List, Option, Some, [], codes, refl, suc, zero, ℕ, ⊤, ◌++◌, ◌<◌, ◌∷◌, ◌≡◌, ◌⊎◌}
 
 -- THE SCRIPT: a session begins a unit, and commits it

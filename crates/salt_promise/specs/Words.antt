@@ -9,7 +9,7 @@ use Rattle.std.specs.Bool.{then_some}
 use Rattle.std.specs.Char.{is_ascii_digit}
 use Rattle.std.specs.Global.{Global}
 use Rattle.std.specs.List.{find, list_all, position}
-use Rattle.std.specs.Prelude.{Bool, List, None, Option, Some, [], codes, drop, false, if◌then◌else◌, map, nat_le, nat_lt, option_and_then, option_map, string_bytes, suc, take, true, ℕ, ◌&&◌, ◌+◌, ◌==◌, ◌∷◌}
+use Rattle.std.specs.Prelude.{Bool, List, None, Option, Some, [], codes, drop, false, if◌then◌else◌, map, nat_le, nat_lt, option_and_then, option_map, string_bytes, suc, take, true, zero, ℕ, ◌&&◌, ◌+◌, ◌==◌, ◌∷◌}
 use Rattle.std.specs.Str.Parse.{digits_value}
 use Rattle.std.specs.Str.{byte, bytes_eq}
 use Rattle.std.specs.declared.string.String.{String}
@@ -29,7 +29,7 @@ count_said most word = then_some (list_all is_ascii_digit word && is_count most 
 -- what words give to a run: a value to a setting, or leave for its openings to end early
 pub data Given : Type 0 where
   given : (setting : Setting) (value : List ℕ) → Given
-  early : Given
+  ends_early : Given
 
 abbrev pub name_of : Setting → List ℕ
 name_of Parts = codes "--parts"
@@ -50,7 +50,7 @@ value_in word = option_and_then (λ at. given_to (take at word) (drop (at + 1) w
 
 -- what one word gives
 abbrev pub given_in : List ℕ → Option Given
-given_in word = if bytes_eq word (codes "--early") then Some early else value_in word
+given_in word = if bytes_eq word (codes "--early") then Some ends_early else value_in word
 
 abbrev pub begins_with_dash : List ℕ → Bool
 begins_with_dash [] = false
@@ -81,13 +81,13 @@ is_setting _ _ = false
 abbrev pub values_of : Setting → List Given → List (List ℕ)
 values_of setting [] = []
 values_of setting (given other value ∷ gs) = if is_setting setting other then value ∷ values_of setting gs else values_of setting gs
-values_of setting (early ∷ gs) = values_of setting gs
+values_of setting (ends_early ∷ gs) = values_of setting gs
 
 -- how often openings are given leave to end early
 abbrev pub early_given : List Given → ℕ
 early_given [] = 0
 early_given (given setting value ∷ gs) = early_given gs
-early_given (early ∷ gs) = suc (early_given gs)
+early_given (ends_early ∷ gs) = suc (early_given gs)
 
 -- ---- a run
 
@@ -116,8 +116,8 @@ folder_said (path ∷ another ∷ paths) = None
 
 -- openings end early where that is said once, and not where it is not said
 abbrev pub early_said : ℕ → Option Bool
-early_said 0 = Some false
-early_said 1 = Some true
+early_said zero = Some false
+early_said (suc zero) = Some true
 early_said (suc (suc times)) = None
 
 abbrev pub settings_of : Option ℕ → Option (Option (List ℕ)) → Option Bool → Option Settings

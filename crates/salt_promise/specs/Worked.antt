@@ -11,7 +11,7 @@ use Rattle.salt_promise.specs.declared.status.Status.TheVariants.{Done}
 use Rattle.salt_stands.specs.FirstOpening.{first_part_header}
 use Rattle.salt_place.specs.declared.placement.PlaceKind.TheVariants.{Remainder}
 use Rattle.salt_place.specs.declared.placement.Shape.{Shape}
-use Rattle.std.specs.Prelude.{List, None, Some, [], codes, suc, true, zero, ℕ, ◌++◌, ◌∷◌, ◌≡◌}
+use Rattle.std.specs.Prelude.{List, None, Some, [], codes, false, suc, true, zero, ℕ, ◌++◌, ◌∷◌, ◌≡◌}
 
 abbrev pub one_part : Shape
 one_part = record { parts = 1; kind = Remainder }

@@ -1,6 +1,6 @@
 -- Settings behind settings.
 use Rattle.salt_words.proofs.Givens.{none-alone, none-given, one-given, two-given}
-use Rattle.salt_promise.specs.Words.{Given, all_given, early, early_given, early_said, folder_said, given, given_by, given_in, is_setting, parts_said, settings_given, settings_of, settings_said, values_of}
+use Rattle.salt_promise.specs.Words.{Given, all_given, early_given, early_said, ends_early, folder_said, given, given_by, given_in, is_setting, parts_said, settings_given, settings_of, settings_said, values_of}
 use Rattle.salt_promise.specs.declared.command.Setting.TheVariants.{Folder, Parts}
 use Rattle.salt_promise.specs.declared.command.Setting.{Setting}
 use Rattle.std.proofs.Common.{ap, append-nil, arith, refl, subst, sym, ◌∙◌}
@@ -68,7 +68,7 @@ values_of-first false value us vs ws e = e
 
 values_of-append : (setting : Setting) (xs ys : List Given) → values_of setting (xs ++ ys) ≡ values_of setting xs ++ values_of setting ys
 values_of-append setting [] ys = refl
-values_of-append setting (early ∷ xs) ys = values_of-append setting xs ys
+values_of-append setting (ends_early ∷ xs) ys = values_of-append setting xs ys
 values_of-append setting (given other value ∷ xs) ys =
     values_of-first (is_setting setting other) value (values_of setting (xs ++ ys)) (values_of setting xs) (values_of setting ys) (values_of-append setting xs ys)
 
@@ -91,7 +91,7 @@ said-swapped setting said twice xs ys =
 
 early-append : (xs ys : List Given) → early_given (xs ++ ys) ≡ early_given xs + early_given ys
 early-append [] ys = refl
-early-append (early ∷ xs) ys = ap suc (early-append xs ys)
+early-append (ends_early ∷ xs) ys = ap suc (early-append xs ys)
 early-append (given setting value ∷ xs) ys = early-append xs ys
 
 early-swapped : (xs ys : List Given) → early_given (xs ++ ys) ≡ early_given (ys ++ xs)

@@ -2,7 +2,7 @@
 use Rattle.salt_words.proofs.Forms.{by-two, in-one, name-alone, one_word}
 use Rattle.salt_words.proofs.Givens.{none-alone, none-given, one-given, two-given}
 use Rattle.salt_words.specs.Spelling.{Spells, alone, in_one, in_two, nothing}
-use Rattle.salt_promise.specs.Words.{Given, all_given, begins_with_dash, early, given, given_by, given_in, given_to, is_equals_sign, name_of, value_in}
+use Rattle.salt_promise.specs.Words.{Given, all_given, begins_with_dash, ends_early, given, given_by, given_in, given_to, is_equals_sign, name_of, value_in}
 use Rattle.salt_promise.specs.declared.command.Setting.TheVariants.{Folder, Parts}
 use Rattle.salt_promise.specs.declared.command.Setting.{Setting}
 use Rattle.std.proofs.Common.{ap, refl, subst, sym, ◌∙◌}
@@ -25,7 +25,7 @@ given-spelled (in_one setting value {words} h) =
 given-spelled (in_two setting value {words} d h) =
     two-given (name_of setting) value words (given setting value) (name-alone setting) (by-two setting value d)
     ∙ ap (option_map (λ gs. given setting value ∷ gs)) (given-spelled h)
-given-spelled (alone {words} h) = one-given (codes "--early") words early refl ∙ ap (option_map (λ gs. early ∷ gs)) (given-spelled h)
+given-spelled (alone {words} h) = one-given (codes "--early") words ends_early refl ∙ ap (option_map (λ gs. ends_early ∷ gs)) (given-spelled h)
 
 -- ---- what is given is spelled
 
@@ -93,11 +93,11 @@ Reads words = (gs : List Given) → all_given words ≡ Some gs → Spells words
 Begins : List ℕ → Given → Type 0
 Begins word g = (words : List (List ℕ)) (gs : List Given) → Spells words gs → Spells (word ∷ words) (g ∷ gs)
 
-word-spelled : (word : List ℕ) (g : Given) (t : Bool) → bytes_eq word (codes "--early") ≡ t → (if t then Some early else value_in word) ≡ Some g → Begins word g
+word-spelled : (word : List ℕ) (g : Given) (t : Bool) → bytes_eq word (codes "--early") ≡ t → (if t then Some ends_early else value_in word) ≡ Some g → Begins word g
 unfolding Begins one_word
 word-spelled word g true e h = λ words gs spells.
-    let is : early ≡ g = cc in
-    subst (λ g. Spells (word ∷ words) (g ∷ gs)) is (subst (λ w. Spells (w ∷ words) (early ∷ gs)) (sym ((bytes_eq-Decides word (codes "--early")).0 e)) (alone spells))
+    let is : ends_early ≡ g = cc in
+    subst (λ g. Spells (word ∷ words) (g ∷ gs)) is (subst (λ w. Spells (w ∷ words) (ends_early ∷ gs)) (sym ((bytes_eq-Decides word (codes "--early")).0 e)) (alone spells))
 word-spelled word g false e h = λ words gs spells.
     let cut = cut-by word g (position is_equals_sign word) refl h in
     subst (λ g. Spells (word ∷ words) (g ∷ gs)) cut.same

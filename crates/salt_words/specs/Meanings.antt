@@ -13,7 +13,7 @@ use Rattle.std.specs.Prelude.{Bool, List, Option, if◌then◌else◌, option_to
 -- what is given, a value by its bytes
 abbrev pub given_meant : Given → words.Given
 given_meant (Value setting value) = words.given setting value.now
-given_meant Early = words.early
+given_meant Early = words.ends_early
 
 abbrev pub first_meant : First → words.Given
 first_meant first = given_meant first.given

@@ -1,5 +1,5 @@
 -- How settings are spelled.
-use Rattle.salt_promise.specs.Words.{Given, begins_with_dash, early, given, name_of}
+use Rattle.salt_promise.specs.Words.{Given, begins_with_dash, ends_early, given, name_of}
 use Rattle.salt_promise.specs.declared.command.Setting.{Setting}
 use Rattle.std.specs.Prelude.{List, [], codes, false, ℕ, ◌++◌, ◌∷◌, ◌≡◌}
 
@@ -10,4 +10,4 @@ pub data Spells : List (List ℕ) → List Given → Type 0 where
       Spells ((name_of setting ++ codes "=" ++ value) ∷ words) (given setting value ∷ gs)
   in_two : (setting : Setting) (value : List ℕ) {words : List (List ℕ)} {gs : List Given} → begins_with_dash value ≡ false → Spells words gs →
       Spells (name_of setting ∷ value ∷ words) (given setting value ∷ gs)
-  alone : {words : List (List ℕ)} {gs : List Given} → Spells words gs → Spells (codes "--early" ∷ words) (early ∷ gs)
+  alone : {words : List (List ℕ)} {gs : List Given} → Spells words gs → Spells (codes "--early" ∷ words) (ends_early ∷ gs)
