@@ -5,7 +5,6 @@ use Rattle.salt_bytes.specs.Generations.{LogA, LogB, WhichLog}
 use Rattle.salt_bytes.specs.Log.{entries_in}
 use Rattle.salt_bytes.specs.Spellable.{IsSpellableEntry}
 use Rattle.salt_decisions.proofs.Contents.{log_bytes}
-use Rattle.salt_decisions.proofs.Moving.{before}
 use Rattle.salt_decisions.specs.Decisions.{IsBeforeOrWith, IsCounting, log_with}
 use Rattle.salt_disk.specs.Disks.{EachImage, KeepsOthers, View}
 use Rattle.salt_disk.specs.declared.disks.DiskErr.{DiskErr}
