@@ -90,15 +90,18 @@ said-swapped setting said twice xs ys =
     ∙ ap said (sym (values_of-append setting ys xs))
 
 early-append : (xs ys : List Given) → early_given (xs ++ ys) ≡ early_given xs + early_given ys
-early-append [] ys = refl
-early-append (ends_early ∷ xs) ys = ap suc (early-append xs ys)
+early-append [] ys = let same : early_given ys ≡ 0 + early_given ys = omega arith in same
+early-append (ends_early ∷ xs) ys =
+    let behind = early-append xs ys in
+    let same : suc (early_given (xs ++ ys)) ≡ suc (early_given xs) + early_given ys = omega (arith, behind) in
+    same
 early-append (given setting value ∷ xs) ys = early-append xs ys
 
 early-swapped : (xs ys : List Given) → early_given (xs ++ ys) ≡ early_given (ys ++ xs)
 early-swapped xs ys =
     let here = early-append xs ys in
     let there = early-append ys xs in
-    omega arith
+    omega (arith, here, there)
 
 given-swapped : (xs ys : List Given) → settings_given (xs ++ ys) ≡ settings_given (ys ++ xs)
 given-swapped xs ys =

@@ -8,7 +8,7 @@ use Rattle.salt_words.specs.declared.settings.Said.{Said}
 use Rattle.salt_promise.specs.declared.command.Setting.TheVariants.{Folder, Parts}
 use Rattle.salt_words.specs.declared.settings.Settings.{Settings}
 use Rattle.std.specs.Option.{option_copied}
-use Rattle.std.specs.Prelude.{Bool, List, Option, if◌then◌else◌, option_to_list, ℕ, ◌+◌, ◌++◌, ◌∷◌}
+use Rattle.std.specs.Prelude.{List, Option, if◌then◌else◌, option_to_list, suc, ◌++◌}
 
 -- what is given, a value by its bytes
 abbrev pub given_meant : Given → words.Given
@@ -22,13 +22,10 @@ first_meant first = given_meant first.given
 abbrev pub settings_meant : Settings → words.Settings
 settings_meant s = record { parts = s.parts; folder = option_copied s.folder; early = s.early }
 
-abbrev pub times : Bool → ℕ
-times said = if said then 1 else 0
-
 -- the settings where more is given behind what was said
 abbrev pub settings_behind : Said → List words.Given → Option words.Settings
 settings_behind said gs =
     settings_of
     (parts_said (option_to_list (option_copied said.parts) ++ values_of Parts gs))
     (folder_said (option_to_list (option_copied said.folder) ++ values_of Folder gs))
-    (early_said (times said.early + early_given gs))
+    (early_said (if said.early then suc (early_given gs) else early_given gs))
