@@ -18,8 +18,9 @@ use Rattle.salt_scheduler.specs.declared.scheduler.Scheduler.{Scheduler}
 use Rattle.salt_values.specs.Id.{is_same_id}
 use Rattle.salt_values.specs.declared.cont.Cont.{Cont}
 use Rattle.salt_values.specs.declared.id.Id.{Id}
-use Rattle.std.proofs.Common.{ap, inl, inr, subst, sym, ◌∙◌}
-use Rattle.std.specs.Prelude.{Bool, List, Some, [], false, if◌then◌else◌, map, refl, true, ℕ, ◌++◌, ◌∷◌, ◌≡◌, ◌⊎◌}
+use Rattle.std.proofs.Common.{ap, get_or, inl, inr, subst, sym, take, ◌∙◌}
+use Rattle.std.proofs.lemmas.List.{take_more}
+use Rattle.std.specs.Prelude.{Bool, List, Some, [], false, if◌then◌else◌, length, map, refl, true, ℕ, ◌++◌, ◌+◌, ◌<◌, ◌∷◌, ◌≡◌, ◌⊎◌}
 
 -- NAMES are kept one by one: one that is kept already stays, or is that of another continuation of the same program
 
@@ -34,7 +35,7 @@ told-still : (called new : CalledNames) (b : Id) (c : Cont) → is_same_id b c.b
     name_told new b ≡ name_told called b
 told-still called new b c other told = told ∙ ap (λ (t : Bool). if t then Some c.program else name_told called b) other
 
-pub called-more : (called new : CalledNames) (cs : List Cont) (c : Cont) → AreCalled called cs →
+called-more : (called new : CalledNames) (cs : List Cont) (c : Cont) → AreCalled called cs →
     ((b : Id) → name_told new b ≡ (if is_same_id b c.base then Some c.program else name_told called b)) → AreCalled new (cs ++ c ∷ [])
 called-more called new cs c before told b i = by (is_same_id b c.base) refl
   where
@@ -56,6 +57,13 @@ called-more called new cs c before told b i = by (is_same_id b c.base) refl
     by false other =
         let m = in-map base_of b (cs ++ c ∷ []) i in
         from_before other (before b (among m.0 m.2 other (in-cases m.0 cs (c ∷ []) m.1)))
+
+-- so it goes along a list
+pub called-next : (called new : CalledNames) (cs : List Cont) (i : ℕ) (c : Cont) → i < length cs → c ≡ get_or cs i c → AreCalled called (take i cs) →
+    ((b : Id) → name_told new b ≡ (if is_same_id b c.base then Some c.program else name_told called b)) → AreCalled new (take (i + 1) cs)
+called-next called new cs i c within is before told =
+    let front = take_more cs i c within ∙ ap (λ (d : Cont). take i cs ++ d ∷ []) (sym is) in
+    subst (λ (ds : List Cont). AreCalled new ds) (sym front) (called-more called new (take i cs) c before told)
 
 -- THE STATE behind the opening
 
