@@ -1,0 +1,3 @@
+pub mod HeldBack
+pub mod Turning
+pub mod Finding
