@@ -11,7 +11,8 @@ use Rattle.salt_model.specs.declared.events.UnitKind.TheVariants as kind
 use Rattle.salt_model.specs.declared.events.Why.TheVariants as why
 use Rattle.salt_promise.specs.EarlyOpenings.{GivesTurns, HidesHeldBack, held_back}
 use Rattle.salt_values.specs.declared.id.Id.{Id}
-use Rattle.std.specs.Prelude.{IsTrue, List, None, Some, [], false, map, refl, ◌++◌, ◌∷◌, ◌≡◌}
+use Rattle.std.proofs.Common.{ap, arith}
+use Rattle.std.specs.Prelude.{IsTrue, List, None, Option, Some, [], false, map, refl, ℕ, ◌++◌, ◌∷◌, ◌≡◌}
 
 -- two programs are called; the run goes down before the commit of the line behind them, and the opening finds both unfinished
 abbrev two_called : List Line
@@ -58,8 +59,14 @@ turned_to_both = refl
 first_is_some : Some (base 1) ≡ None → ⊥
 first_is_some h = cc
 
+abbrev place_of : Option Id → ℕ
+place_of None = 0
+place_of (Some b) = b.seq
+
 first_is_first : Some (base 1) ≡ Some (base 2) → ⊥
-first_is_first h = cc
+first_is_first h =
+    let same : ◌≡◌ {A = ℕ} 1 2 = ap place_of h in
+    omega (arith, same)
 
 never : IsTrue false → ⊥
 never h = cc
