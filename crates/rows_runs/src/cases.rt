@@ -14,12 +14,12 @@ const TWO: &[&str] = &["--parts=2"];
 /// partitions.
 const SHORT: usize = 16_384;
 
-/// A script, whether its openings may end early, and the story that it is to tell.
+/// A script, the word that it is run by besides, and the story that it is to tell.
 #[derive(Drop)]
 struct Case {
     script: Vec<u8>,
     story: Vec<u8>,
-    early: bool,
+    word: Option<&'static str>,
 }
 
 impl Case {
@@ -28,13 +28,13 @@ impl Case {
         Case {
             script: Vec::new(alloc),
             story: Vec::new(alloc),
-            early: false,
+            word: None,
         }
     }
 
     /// Adds the lines of another case.
     fn add(&mut self, other: &Case) -> Result<(), AllocError> {
-        self.early = self.early || other.early;
+        self.word = other.word.or(self.word);
         self.script.extend_from_slice(&other.script)?;
         self.story.extend_from_slice(&other.story)
     }
@@ -93,12 +93,10 @@ fn story_in(alloc: Global, outcome: &Outcome) -> Result<Vec<u8>, AllocError> {
 fn story_over(alloc: Global, case: &Case, parts: &str) -> Result<Vec<u8>, AllocError> {
     let room = case.story.len().saturating_add(ROOM);
     let mut devices = Devices::new(alloc)?;
-    let words: &[&str] = if case.early {
-        &["run", parts, "--early"]
-    } else {
-        &["run", parts]
+    let outcome = match case.word {
+        Some(word) => devices.run_within(alloc, room, &["run", parts, word], &case.script)?,
+        None => devices.run_within(alloc, room, &["run", parts], &case.script)?,
     };
-    let outcome = devices.run_within(alloc, room, words, &case.script)?;
     story_in(alloc, &outcome)
 }
 
@@ -148,8 +146,12 @@ impl Cases {
         match row {
             [b'>', line @ ..] => add_line(&mut self.case.script, line),
             [b'<', line @ ..] => add_line(&mut self.case.story, line),
-            [b'+'] => {
-                self.case.early = true;
+            b"+ early" => {
+                self.case.word = Some("--early");
+                Ok(())
+            }
+            b"+ bands" => {
+                self.case.word = Some("--place=bands");
                 Ok(())
             }
             [] => self.end(),

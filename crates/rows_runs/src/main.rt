@@ -6,7 +6,7 @@
 //! |---|---|
 //! | `> LINE` | a line of the script |
 //! | `< LINE` | a line of its story |
-//! | `+` | the script is run with `--early` |
+//! | `+ early`, `+ bands` | the script is run with `--early`, with `--place=bands` |
 //! | nothing | the script's end; it is run |
 //! | `=` | the script's end; all that follow begin with it, and their stories with its story |
 //! | `/` | the script's end; those that follow begin with nothing |

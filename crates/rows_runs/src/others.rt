@@ -42,6 +42,8 @@ enum Start {
     Coordinator(&'static [u8]),
     /// Those of a database with a row.
     Kept,
+    /// Those of a database with a row that is spread by bands.
+    Bands,
     /// The same, where the coordinator's log has lost its last byte.
     Shorter,
     /// The same, where a partition's log is this one.
@@ -67,13 +69,15 @@ struct Case {
 
 const RUN: &[&str] = &["run"];
 
+const BANDS: &[&str] = &["run", "--place", "bands"];
+
 /// A definition of 27 bytes: an entry of 53, behind a boot.
 const DEFINITION: &str = "create table w (id int key)\n";
 
 /// A row of the partition of device 5: a unit of 56 bytes there, and a decision of 44, behind a boot.
 const ROW: &str = "@1 insert into t values (7, 1)\n";
 
-const CASES: [Case; 21] = [
+const CASES: [Case; 24] = [
     Case {
         name: "write 30 fails",
         start: Start::Failing(&[30]),
@@ -114,6 +118,24 @@ const CASES: [Case; 21] = [
         name: "another shape",
         start: Start::Kept,
         words: &["run", "--parts", "3"],
+        script: "",
+    },
+    Case {
+        name: "bands, and no word of them",
+        start: Start::Bands,
+        words: RUN,
+        script: "",
+    },
+    Case {
+        name: "bands of no database",
+        start: Start::Kept,
+        words: BANDS,
+        script: "",
+    },
+    Case {
+        name: "bands",
+        start: Start::Bands,
+        words: BANDS,
         script: "",
     },
     Case {
@@ -223,6 +245,13 @@ fn with_row(alloc: Global) -> Result<Devices, AllocError> {
     Ok(devices)
 }
 
+/// The devices of a database with a row that is spread by bands.
+fn with_row_by_bands(alloc: Global) -> Result<Devices, AllocError> {
+    let mut devices = Devices::new(alloc)?;
+    let _outcome = devices.run_within(alloc, ROOM, BANDS, ROWS.as_bytes())?;
+    Ok(devices)
+}
+
 /// The devices, where one holds these bytes.
 fn holding(
     devices: Result<Devices, AllocError>,
@@ -271,6 +300,7 @@ fn devices_of(alloc: Global, start: Start) -> Result<Devices, AllocError> {
         Start::NoRoom => with_no_room(alloc),
         Start::Coordinator(bytes) => holding(Devices::new(alloc), 0, bytes),
         Start::Kept => with_row(alloc),
+        Start::Bands => with_row_by_bands(alloc),
         Start::Shorter => with_row_but_a_byte(alloc),
         Start::Partition(bytes) => holding(with_row(alloc), 2, bytes),
         Start::CoordinatorWithin(limit) => within(with_row(alloc), 0, limit),

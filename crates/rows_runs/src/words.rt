@@ -9,11 +9,13 @@ use std::alloc::{AllocError, Global};
 const SCRIPT: &str = "create table t (id int key)\n";
 
 /// Words that are no command, a run, and workloads.
-const WORDS: [&[&str]; 20] = [
+const WORDS: [&[&str]; 24] = [
     &[],
     &["run", "run"],
     &["run", "--parts", "9"],
     &["run", "--parts", "2", "--parts", "2"],
+    &["run", "--early", "--early"],
+    &["run", "--place", "band"],
     &["run", "--"],
     &["Run"],
     &[""],
@@ -25,6 +27,8 @@ const WORDS: [&[&str]; 20] = [
     &["run"],
     &["run", "--parts=8"],
     &["run", "--parts", "1", "--dir=data"],
+    &["run", "--early"],
+    &["run", "--place=bands"],
     &["load", "1"],
     &["load", "008"],
     &["load", "50"],

@@ -1,8 +1,9 @@
 -- The words that a program was called with, and the command that they say.
-use Rattle.salt_place.specs.declared.placement.PlaceKind.TheVariants.{Remainder}
+use Rattle.salt_place.specs.declared.placement.PlaceKind.TheVariants.{Bands, Remainder}
+use Rattle.salt_place.specs.declared.placement.PlaceKind.{PlaceKind}
 use Rattle.salt_promise.specs.declared.command.Command.TheVariants.{Load, Script}
 use Rattle.salt_promise.specs.declared.command.Command.{Command}
-use Rattle.salt_promise.specs.declared.command.Setting.TheVariants.{Folder, Parts}
+use Rattle.salt_promise.specs.declared.command.Setting.TheVariants.{Folder, Parts, Place}
 use Rattle.salt_promise.specs.declared.command.Setting.{Setting}
 use Rattle.salt_values.specs.declared.limits.TheConstants.{CALLS_MOST, PARTITIONS_MOST}
 use Rattle.std.specs.Bool.{then_some}
@@ -34,9 +35,10 @@ pub data Given : Type 0 where
 abbrev pub name_of : Setting → List ℕ
 name_of Parts = codes "--parts"
 name_of Folder = codes "--dir"
+name_of Place = codes "--place"
 
 abbrev pub setting_named : List ℕ → Option Setting
-setting_named name = find (λ setting. bytes_eq name (name_of setting)) (Parts ∷ Folder ∷ [])
+setting_named name = find (λ setting. bytes_eq name (name_of setting)) (Parts ∷ Folder ∷ Place ∷ [])
 
 abbrev pub given_to : List ℕ → List ℕ → Option Given
 given_to name value = option_map (λ (setting : Setting). given setting value) (setting_named name)
@@ -75,6 +77,7 @@ all_given (word ∷ next ∷ words) = with_first (given_in word) (all_given (nex
 abbrev pub is_setting : Setting → Setting → Bool
 is_setting Parts Parts = true
 is_setting Folder Folder = true
+is_setting Place Place = true
 is_setting _ _ = false
 
 -- each value that a setting is given
@@ -91,10 +94,11 @@ early_given (ends_early ∷ gs) = suc (early_given gs)
 
 -- ---- a run
 
--- how many partitions, the folder of their files, where one is named, and whether openings end early
+-- how many partitions, the folder of their files, where one is named, how rows are spread, and whether openings end early
 pub record Settings : Type 0 where
   pub parts : ℕ
   pub folder : Option (List ℕ)
+  pub kind : PlaceKind
   pub early : Bool
 
 -- a run has two partitions, or as many as it is told once
@@ -114,18 +118,27 @@ folder_said [] = Some None
 folder_said (path ∷ []) = folder_called path
 folder_said (path ∷ another ∷ paths) = None
 
+abbrev pub kind_called : List ℕ → Option PlaceKind
+kind_called word = if bytes_eq word (codes "remainder") then Some Remainder else if bytes_eq word (codes "bands") then Some Bands else None
+
+-- rows are spread by remainders, or as it is told once
+abbrev pub kind_said : List (List ℕ) → Option PlaceKind
+kind_said [] = Some Remainder
+kind_said (word ∷ []) = kind_called word
+kind_said (word ∷ another ∷ words) = None
+
 -- openings end early where that is said once, and not where it is not said
 abbrev pub early_said : ℕ → Option Bool
 early_said zero = Some false
 early_said (suc zero) = Some true
 early_said (suc (suc times)) = None
 
-abbrev pub settings_of : Option ℕ → Option (Option (List ℕ)) → Option Bool → Option Settings
-settings_of (Some parts) (Some folder) (Some early) = Some (record { parts = parts; folder = folder; early = early })
-settings_of parts folder early = None
+abbrev pub settings_of : Option ℕ → Option (Option (List ℕ)) → Option PlaceKind → Option Bool → Option Settings
+settings_of (Some parts) (Some folder) (Some kind) (Some early) = Some (record { parts = parts; folder = folder; kind = kind; early = early })
+settings_of parts folder kind early = None
 
 abbrev pub settings_given : List Given → Option Settings
-settings_given gs = settings_of (parts_said (values_of Parts gs)) (folder_said (values_of Folder gs)) (early_said (early_given gs))
+settings_given gs = settings_of (parts_said (values_of Parts gs)) (folder_said (values_of Folder gs)) (kind_said (values_of Place gs)) (early_said (early_given gs))
 
 -- the settings of a run that is called with these words behind `run`
 abbrev pub settings_said : List (List ℕ) → Option Settings
@@ -133,9 +146,8 @@ settings_said words = option_and_then settings_given (all_given words)
 
 -- ---- commands
 
--- a run of a script spreads rows by remainders
 abbrev pub script_with : Settings → Command
-script_with settings = Script (record { parts = settings.parts; kind = Remainder }) settings.early
+script_with settings = Script (record { parts = settings.parts; kind = settings.kind }) settings.early
 
 abbrev pub run_said : List (List ℕ) → Option Command
 run_said words = option_map script_with (settings_said words)

@@ -46,4 +46,6 @@ pub enum Setting {
     Parts,
     /// `--dir`: the folder of their files.
     Folder,
+    /// `--place`: how rows are spread over the partitions of a new database.
+    Place,
 }

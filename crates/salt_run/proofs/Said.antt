@@ -2,11 +2,12 @@
 use Rattle.salt_values.specs.declared.limits.TheConstants.{CALLS_MOST}
 use Rattle.salt_promise.specs.Given.{shape_of}
 use Rattle.salt_place.specs.Placement.{IsParts}
+use Rattle.salt_place.specs.declared.placement.PlaceKind.{PlaceKind}
 use Rattle.salt_values.specs.declared.limits.TheConstants.{PARTITIONS_MOST}
-use Rattle.salt_promise.specs.Words.{Given, Settings, all_given, command_of, command_said, count_said, early_given, early_said, folder_said, is_count, load_said, parts_said, run_said, script_with, settings_given, settings_of, settings_said, values_of}
+use Rattle.salt_promise.specs.Words.{Given, Settings, all_given, command_of, command_said, count_said, early_given, early_said, folder_said, is_count, kind_said, load_said, parts_said, run_said, script_with, settings_given, settings_of, settings_said, values_of}
 use Rattle.salt_promise.specs.declared.command.Command.TheVariants.{Load, Script}
 use Rattle.salt_promise.specs.declared.command.Command.{Command}
-use Rattle.salt_promise.specs.declared.command.Setting.TheVariants.{Folder, Parts}
+use Rattle.salt_promise.specs.declared.command.Setting.TheVariants.{Folder, Parts, Place}
 use Rattle.std.proofs.Common.{ap, arith, subst}
 use Rattle.std.specs.Bool.{then_some}
 use Rattle.std.specs.Char.{is_ascii_digit}
@@ -43,17 +44,18 @@ parts-within [] n e =
 parts-within (count ∷ []) n e = count-within PARTITIONS_MOST count n e
 parts-within (count ∷ another ∷ counts) n e = absurd cc
 
-settings-parts : (o : Option ℕ) (f : Option (Option (List ℕ))) (early : Option Bool) (s : Settings) → settings_of o f early ≡ Some s → o ≡ Some s.parts
-settings-parts (Some parts) (Some folder) (Some early) s e =
-    let same : Some (record { parts = parts; folder = folder; early = early }) ≡ Some s = e in
+settings-parts : (o : Option ℕ) (f : Option (Option (List ℕ))) (kind : Option PlaceKind) (early : Option Bool) (s : Settings) → settings_of o f kind early ≡ Some s → o ≡ Some s.parts
+settings-parts (Some parts) (Some folder) (Some kind) (Some early) s e =
+    let same : Some (record { parts = parts; folder = folder; kind = kind; early = early }) ≡ Some s = e in
     ap (option_map (λ (x : Settings). x.parts)) same
-settings-parts (Some parts) (Some folder) None s e = absurd cc
-settings-parts (Some parts) None early s e = absurd cc
-settings-parts None f early s e = absurd cc
+settings-parts (Some parts) (Some folder) (Some kind) None s e = absurd cc
+settings-parts (Some parts) (Some folder) None early s e = absurd cc
+settings-parts (Some parts) None kind early s e = absurd cc
+settings-parts None f kind early s e = absurd cc
 
 given-within : (gs : Option (List Given)) (s : Settings) → option_and_then settings_given gs ≡ Some s → IsParts s.parts
 given-within None s e = absurd cc
-given-within (Some gs) s e = parts-within (values_of Parts gs) s.parts (settings-parts (parts_said (values_of Parts gs)) (folder_said (values_of Folder gs)) (early_said (early_given gs)) s e)
+given-within (Some gs) s e = parts-within (values_of Parts gs) s.parts (settings-parts (parts_said (values_of Parts gs)) (folder_said (values_of Folder gs)) (kind_said (values_of Place gs)) (early_said (early_given gs)) s e)
 
 -- the limits of a command
 abbrev pub IsCommand : Command → Type 0

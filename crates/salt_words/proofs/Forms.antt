@@ -1,7 +1,7 @@
 -- A setting in one word and in two.
 use Rattle.salt_words.proofs.Givens.{none-given, one-given, two-given}
 use Rattle.salt_promise.specs.Words.{Given, all_given, begins_with_dash, given, given_by, given_in, given_to, is_equals_sign, name_of, settings_given, settings_said, value_in}
-use Rattle.salt_promise.specs.declared.command.Setting.TheVariants.{Folder, Parts}
+use Rattle.salt_promise.specs.declared.command.Setting.TheVariants.{Folder, Parts, Place}
 use Rattle.salt_promise.specs.declared.command.Setting.{Setting}
 use Rattle.std.proofs.Common.{ap, arith, refl, sym, ◌∙◌}
 use Rattle.std.proofs.lemmas.Bool.Decides.{nat_tests}
@@ -22,14 +22,17 @@ pub in-one : (setting : Setting) (value : List ℕ) → given_in (one_word setti
 unfolding one_word
 in-one Parts value = cut-at (one_word Parts value) 7 refl (omega arith)
 in-one Folder value = cut-at (one_word Folder value) 5 refl (omega arith)
+in-one Place value = cut-at (one_word Place value) 7 refl (omega arith)
 
 pub name-alone : (setting : Setting) → given_in (name_of setting) ≡ None
 name-alone Parts = refl
 name-alone Folder = refl
+name-alone Place = refl
 
 named : (setting : Setting) (value : List ℕ) → given_to (name_of setting) value ≡ Some (given setting value)
 named Parts value = refl
 named Folder value = refl
+named Place value = refl
 
 pub by-two : (setting : Setting) (value : List ℕ) → begins_with_dash value ≡ false → given_by (name_of setting) value ≡ Some (given setting value)
 by-two setting value h = ap (λ t. if t then None else given_to (name_of setting) value) h ∙ named setting value
@@ -37,11 +40,13 @@ by-two setting value h = ap (λ t. if t then None else given_to (name_of setting
 no-name : (word : List ℕ) (setting : Setting) → given_by word (name_of setting) ≡ None
 no-name word Parts = refl
 no-name word Folder = refl
+no-name word Place = refl
 
 no-one-word : (word : List ℕ) (setting : Setting) (value : List ℕ) → given_by word (one_word setting value) ≡ None
 unfolding one_word
 no-one-word word Parts value = refl
 no-one-word word Folder value = refl
+no-one-word word Place value = refl
 
 pub same-first : (setting : Setting) (value : List ℕ) (after : List (List ℕ)) → begins_with_dash value ≡ false →
     all_given (name_of setting ∷ value ∷ after) ≡ all_given (one_word setting value ∷ after)

@@ -1,7 +1,7 @@
 -- Settings behind settings.
 use Rattle.salt_words.proofs.Givens.{none-alone, none-given, one-given, two-given}
-use Rattle.salt_promise.specs.Words.{Given, all_given, early_given, early_said, ends_early, folder_said, given, given_by, given_in, is_setting, parts_said, settings_given, settings_of, settings_said, values_of}
-use Rattle.salt_promise.specs.declared.command.Setting.TheVariants.{Folder, Parts}
+use Rattle.salt_promise.specs.Words.{Given, all_given, early_given, early_said, ends_early, folder_said, given, given_by, given_in, is_setting, kind_said, parts_said, settings_given, settings_of, settings_said, values_of}
+use Rattle.salt_promise.specs.declared.command.Setting.TheVariants.{Folder, Parts, Place}
 use Rattle.salt_promise.specs.declared.command.Setting.{Setting}
 use Rattle.std.proofs.Common.{ap, append-nil, arith, refl, subst, sym, ◌∙◌}
 use Rattle.std.proofs.lemmas.Bool.{false≢true}
@@ -105,9 +105,10 @@ early-swapped xs ys =
 
 given-swapped : (xs ys : List Given) → settings_given (xs ++ ys) ≡ settings_given (ys ++ xs)
 given-swapped xs ys =
-    ap (λ parts. settings_of parts (folder_said (values_of Folder (xs ++ ys))) (early_said (early_given (xs ++ ys)))) (said-swapped Parts parts_said (λ u v ws. refl) xs ys)
-    ∙ ap (λ folder. settings_of (parts_said (values_of Parts (ys ++ xs))) folder (early_said (early_given (xs ++ ys)))) (said-swapped Folder folder_said (λ u v ws. refl) xs ys)
-    ∙ ap (λ times. settings_of (parts_said (values_of Parts (ys ++ xs))) (folder_said (values_of Folder (ys ++ xs))) (early_said times)) (early-swapped xs ys)
+    ap (λ parts. settings_of parts (folder_said (values_of Folder (xs ++ ys))) (kind_said (values_of Place (xs ++ ys))) (early_said (early_given (xs ++ ys)))) (said-swapped Parts parts_said (λ u v ws. refl) xs ys)
+    ∙ ap (λ folder. settings_of (parts_said (values_of Parts (ys ++ xs))) folder (kind_said (values_of Place (xs ++ ys))) (early_said (early_given (xs ++ ys)))) (said-swapped Folder folder_said (λ u v ws. refl) xs ys)
+    ∙ ap (λ kind. settings_of (parts_said (values_of Parts (ys ++ xs))) (folder_said (values_of Folder (ys ++ xs))) kind (early_said (early_given (xs ++ ys)))) (said-swapped Place kind_said (λ u v ws. refl) xs ys)
+    ∙ ap (λ times. settings_of (parts_said (values_of Parts (ys ++ xs))) (folder_said (values_of Folder (ys ++ xs))) (kind_said (values_of Place (ys ++ xs))) (early_said times)) (early-swapped xs ys)
 
 both-swapped : (o p : Option (List Given)) → IsSome o → IsSome p → option_and_then settings_given (both o p) ≡ option_and_then settings_given (both p o)
 unfolding both

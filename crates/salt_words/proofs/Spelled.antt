@@ -3,7 +3,7 @@ use Rattle.salt_words.proofs.Forms.{by-two, in-one, name-alone, one_word}
 use Rattle.salt_words.proofs.Givens.{none-alone, none-given, one-given, two-given}
 use Rattle.salt_words.specs.Spelling.{Spells, alone, in_one, in_two, nothing}
 use Rattle.salt_promise.specs.Words.{Given, all_given, begins_with_dash, ends_early, given, given_by, given_in, given_to, is_equals_sign, name_of, value_in}
-use Rattle.salt_promise.specs.declared.command.Setting.TheVariants.{Folder, Parts}
+use Rattle.salt_promise.specs.declared.command.Setting.TheVariants.{Folder, Parts, Place}
 use Rattle.salt_promise.specs.declared.command.Setting.{Setting}
 use Rattle.std.proofs.Common.{ap, refl, subst, sym, ◌∙◌}
 use Rattle.std.proofs.lemmas.Bool.{eqb-true}
@@ -34,24 +34,29 @@ record IsNamed (said value : List ℕ) (g : Given) : Type 0 where
   name : said ≡ name_of setting
   same : given setting value ≡ g
 
-named-by : (said value : List ℕ) (g : Given) (s t : Bool) → (s ≡ true → said ≡ name_of Parts) → (t ≡ true → said ≡ name_of Folder) →
-    option_map (λ (setting : Setting). given setting value) (if s then Some Parts else if t then Some Folder else None) ≡ Some g → IsNamed said value g
-named-by said value g true t parts folder e =
+named-by : (said value : List ℕ) (g : Given) (s t u : Bool) → (s ≡ true → said ≡ name_of Parts) → (t ≡ true → said ≡ name_of Folder) → (u ≡ true → said ≡ name_of Place) →
+    option_map (λ (setting : Setting). given setting value) (if s then Some Parts else if t then Some Folder else if u then Some Place else None) ≡ Some g → IsNamed said value g
+named-by said value g true t u parts folder place e =
     let is : given Parts value ≡ g = cc in
     record { setting = Parts; name = parts refl; same = is }
-named-by said value g false true parts folder e =
+named-by said value g false true u parts folder place e =
     let is : given Folder value ≡ g = cc in
     record { setting = Folder; name = folder refl; same = is }
-named-by said value g false false parts folder e = absurd cc
+named-by said value g false false true parts folder place e =
+    let is : given Place value ≡ g = cc in
+    record { setting = Place; name = place refl; same = is }
+named-by said value g false false false parts folder place e = absurd cc
 
 named-as : (said value : List ℕ) (g : Given) → given_to said value ≡ Some g → IsNamed said value g
 named-as said value g e =
-    named-by said value g (bytes_eq said (name_of Parts)) (bytes_eq said (name_of Folder)) (bytes_eq-Decides said (name_of Parts)).0 (bytes_eq-Decides said (name_of Folder)).0 e
+    named-by said value g (bytes_eq said (name_of Parts)) (bytes_eq said (name_of Folder)) (bytes_eq said (name_of Place)) (bytes_eq-Decides said (name_of Parts)).0 (bytes_eq-Decides said (name_of Folder)).0
+    (bytes_eq-Decides said (name_of Place)).0 e
 
 joined : (setting : Setting) (value : List ℕ) → name_of setting ++ 61 ∷ value ≡ one_word setting value
 unfolding one_word
 joined Parts value = refl
 joined Folder value = refl
+joined Place value = refl
 
 -- it is a value, in one word
 record IsCut (word : List ℕ) (g : Given) : Type 0 where

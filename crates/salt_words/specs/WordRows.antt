@@ -1,5 +1,5 @@
 -- Words that say a command and words that say none, computed from the definitions.
-use Rattle.salt_place.specs.declared.placement.PlaceKind.TheVariants.{Remainder}
+use Rattle.salt_place.specs.declared.placement.PlaceKind.TheVariants.{Bands, Remainder}
 use Rattle.salt_promise.specs.Words.{all_given, command_said, folder_named}
 use Rattle.salt_promise.specs.declared.command.Command.TheVariants.{Load, Script}
 use Rattle.salt_promise.specs.declared.command.Command.{Command}
@@ -64,6 +64,14 @@ greatest_load : said (codes "load" ∷ codes "020000" ∷ []) ≡ (Some (Load 20
 unfolding all_given
 greatest_load = refl
 
+spread_by_bands : said (codes "run" ∷ codes "--place" ∷ codes "bands" ∷ codes "--parts=3" ∷ []) ≡ (Some (Script (record { parts = 3; kind = Bands }) false), None)
+unfolding all_given
+spread_by_bands = refl
+
+spread_by_remainders : said (codes "run" ∷ codes "--place=remainder" ∷ []) ≡ (Some (over 2), None)
+unfolding all_given
+spread_by_remainders = refl
+
 early_alone : said (codes "run" ∷ codes "--early" ∷ []) ≡ (Some (over_early 2), None)
 unfolding all_given
 early_alone = refl
@@ -73,6 +81,14 @@ unfolding all_given
 early_between = refl
 
 -- Words that say none.
+
+spread_otherwise : said (codes "run" ∷ codes "--place" ∷ codes "Bands" ∷ []) ≡ (None, None)
+unfolding all_given
+spread_otherwise = refl
+
+spread_twice : said (codes "run" ∷ codes "--place=bands" ∷ codes "--place=bands" ∷ []) ≡ (None, None)
+unfolding all_given
+spread_twice = refl
 
 early_twice : said (codes "run" ∷ codes "--early" ∷ codes "--early" ∷ []) ≡ (None, None)
 unfolding all_given
@@ -153,14 +169,6 @@ help = refl
 help_with_a_value : said (codes "run" ∷ codes "--help=2" ∷ []) ≡ (None, None)
 unfolding all_given
 help_with_a_value = refl
-
-place : said (codes "run" ∷ codes "--place=bands" ∷ []) ≡ (None, None)
-unfolding all_given
-place = refl
-
-place_apart : said (codes "run" ∷ codes "--place" ∷ codes "bands" ∷ []) ≡ (None, None)
-unfolding all_given
-place_apart = refl
 
 short_name : said (codes "run" ∷ codes "-p" ∷ codes "2" ∷ []) ≡ (None, None)
 unfolding all_given

@@ -6,7 +6,7 @@ ghost use Rattle.std.specs.Prelude.{◌≡◌};
 
 use crate::counts::count_in;
 use crate::settings::settings_in;
-use salt_place::{PlaceKind, Shape};
+use salt_place::Shape;
 use salt_promise::Command;
 use salt_values::limits::CALLS_MOST;
 
@@ -20,7 +20,7 @@ pub fn command_in(words: &[String]) -> Option<Command>
             Some(Command::Script {
                 shape: Shape {
                     parts: settings.parts,
-                    kind: PlaceKind::Remainder,
+                    kind: settings.kind,
                 },
                 early: settings.early,
             })

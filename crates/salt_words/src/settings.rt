@@ -1,12 +1,13 @@
 //! The settings of a run.
 
-ghost use Rattle.salt_promise.specs.Words.{all_given, begins_with_dash, given_by, given_in, given_to, parts_said, setting_named, settings_said, value_in};
+ghost use Rattle.salt_promise.specs.Words.{all_given, begins_with_dash, given_by, given_in, given_to, kind_called, kind_said, parts_said, setting_named, settings_said, value_in};
 ghost use Rattle.salt_promise.specs.Words as words;
 ghost use Rattle.salt_words.specs.Meanings.{first_meant, given_meant, settings_behind, settings_meant};
 ghost use Rattle.std.specs.Option.{option_copied};
 ghost use Rattle.std.specs.Prelude.{◌<◌, ◌≡◌, ◌∷◌, IfSome, List, MatchOption, None, Some, [], length, map, option_map, option_to_list, string_bytes};
 
 use crate::counts::count_in;
+use salt_place::PlaceKind;
 use salt_promise::Setting;
 use salt_values::limits::PARTITIONS_MOST;
 
@@ -17,6 +18,8 @@ fn setting_named(name: &str) -> Option<Setting>
         Some(Setting::Parts)
     } else if name.as_bytes() == b"--dir".as_slice() {
         Some(Setting::Folder)
+    } else if name.as_bytes() == b"--place".as_slice() {
+        Some(Setting::Place)
     } else {
         None
     }
@@ -125,6 +128,7 @@ fn first_given<'a>(words: &'a [String]) -> Option<First<'a>>
 struct Said<'a> {
     parts: Option<&'a str>,
     folder: Option<&'a str>,
+    place: Option<&'a str>,
     early: bool,
 }
 
@@ -133,15 +137,23 @@ fn said_of<'a>(said: Said<'a>, setting: Setting, value: &'a str) -> Option<Said<
     ensures { MatchOption result ((gs : List words.Given) → settings_behind said.entry (words.given setting value.now ∷ gs) ≡ None)
         (λ after. (gs : List words.Given) → settings_behind after gs ≡ settings_behind said.entry (words.given setting value.now ∷ gs)) }
 {
-    match (setting, said.parts, said.folder) {
-        (Setting::Parts, None, folder) => Some(Said {
+    match (setting, said.parts, said.folder, said.place) {
+        (Setting::Parts, None, folder, place) => Some(Said {
             parts: Some(value),
             folder,
+            place,
             early: said.early,
         }),
-        (Setting::Folder, parts, None) => Some(Said {
+        (Setting::Folder, parts, None, place) => Some(Said {
             parts,
             folder: Some(value),
+            place,
+            early: said.early,
+        }),
+        (Setting::Place, parts, folder, None) => Some(Said {
+            parts,
+            folder,
+            place: Some(value),
             early: said.early,
         }),
         _ => None,
@@ -171,6 +183,7 @@ fn said_in<'a>(words: &'a [String]) -> Option<Said<'a>>
     let mut said = Said {
         parts: None,
         folder: None,
+        place: None,
         early: false,
     };
     let mut rest = words;
@@ -195,6 +208,28 @@ fn parts_in(count: Option<&str>) -> Option<u8>
     }
 }
 
+fn kind_called(word: &str) -> Option<PlaceKind>
+    ensures { result ≡ kind_called word.now }
+{
+    if word.as_bytes() == b"remainder".as_slice() {
+        Some(PlaceKind::Remainder)
+    } else if word.as_bytes() == b"bands".as_slice() {
+        Some(PlaceKind::Bands)
+    } else {
+        None
+    }
+}
+
+/// How a run's rows are spread.
+fn kind_in(place: Option<&str>) -> Option<PlaceKind>
+    ensures { result ≡ kind_said (option_to_list (option_copied place.entry)) }
+{
+    match place {
+        Some(word) => kind_called(word),
+        None => Some(PlaceKind::Remainder),
+    }
+}
+
 /// The settings of a run.
 #[derive(Clone, Copy)]
 pub struct Settings<'a> {
@@ -202,6 +237,8 @@ pub struct Settings<'a> {
     pub parts: u8,
     /// The folder of their files, where one is named.
     pub folder: Option<&'a str>,
+    /// How rows are spread.
+    pub kind: PlaceKind,
     /// Whether openings end before accepted programs are finished.
     pub early: bool,
 }
@@ -212,11 +249,13 @@ pub fn settings_in<'a>(words: &'a [String]) -> Option<Settings<'a>>
 {
     let said = said_in(words)?;
     let parts = parts_in(said.parts)?;
+    let kind = kind_in(said.place)?;
     match said.folder {
         Some(path) if path.is_empty() => None,
         folder => Some(Settings {
             parts,
             folder,
+            kind,
             early: said.early,
         }),
     }
