@@ -31,8 +31,8 @@ use std::io;
 use std::process::ExitCode;
 use streams::{cut_scripts, longest_lines, most_bytes, reads_that_fail, writes_that_fail};
 use tables::{
-    EARLY, LATE, Table, Way, all_writes_fail, one_read_fails, one_stop, one_write_fails,
-    stop_at_first, two_stops,
+    EARLY, EARLY_BACK, LATE, Table, Way, all_writes_fail, one_read_fails, one_stop,
+    one_write_fails, stop_at_first, two_stops,
 };
 use words::{by_words, statuses};
 
@@ -89,7 +89,7 @@ enum Part {
     MostBytes,
 }
 
-const PARTS: [Part; 21] = [
+const PARTS: [Part; 23] = [
     Part::Stories,
     Part::Statuses,
     Part::Words,
@@ -102,6 +102,8 @@ const PARTS: [Part; 21] = [
     Part::Hostile(Hostile::AllWritesFail, LATE),
     Part::Hostile(Hostile::OneStop, EARLY),
     Part::Hostile(Hostile::TwoStops, EARLY),
+    Part::Hostile(Hostile::OneStop, EARLY_BACK),
+    Part::Hostile(Hostile::TwoStops, EARLY_BACK),
     Part::Hostile(Hostile::StopAtFirst, EARLY),
     Part::Hostile(Hostile::OneWriteFails, EARLY),
     Part::Hostile(Hostile::OneReadFails, EARLY),

@@ -29,6 +29,25 @@ const TRANSFER: &str = "@1 call transfer(1, 2, 30)
 go all
 ";
 
+/// Accounts of which one has room for no more, and a program that tries its second part twice.
+const FULL_ACCOUNTS: &str = "create table acct (id int key, bal int, check bal >= 0 and bal <= 1000)
+program transfer(a int, b int, amt int) base \\
+ part { update acct set bal = bal - :amt where key = :a } \\
+ part { update acct set bal = bal + :amt where key = :b } then end on failure retry 1 then go 3 \\
+ part { update acct set bal = bal + :amt where key = :a } on failure end end
+@1 insert into acct values (1, 100)
+@1 insert into acct values (2, 50)
+@1 insert into acct values (3, 990)
+";
+
+const TRANSFERS_BACK: &str = "@1 call transfer(1, 3, 30)
+@2 call transfer(2, 3, 10)
+go all
+go all
+go all
+@1 select sum(bal) from acct
+";
+
 const SUM: &str = "@1 select sum(bal) from acct\n";
 
 const ROWS: &str = "@1 select * from acct\n";
@@ -44,20 +63,67 @@ pub struct Way {
     pub name: &'static str,
     words: &'static [&'static str],
     last: &'static str,
+    stopped: Stopped,
 }
+
+/// What is stopped: lines before and behind the one that arms stops, the sum that is kept, and how many calls come behind that line.
+#[derive(Clone, Copy)]
+struct Stopped {
+    before: &'static str,
+    behind: &'static str,
+    sum: &'static [u8],
+    calls: u64,
+}
+
+/// Transfers that come to their ends.
+const THERE: Stopped = Stopped {
+    before: ACCOUNTS,
+    behind: TRANSFERS,
+    sum: SUM_KEPT,
+    calls: 36,
+};
+
+/// Transfers whose second part fails twice, so that the third gives back.
+const BACK: Stopped = Stopped {
+    before: FULL_ACCOUNTS,
+    behind: TRANSFERS_BACK,
+    sum: b"-> value 1140\n",
+    calls: 44,
+};
+
+/// Lines behind which programs have turns.
+const TURNS: &str = "show bases
+show bases
+show bases
+show bases
+show bases
+show bases
+show bases
+show bases
+";
 
 /// Openings finish what was accepted.
 pub const LATE: Way = Way {
     name: "",
     words: &["run"],
     last: "",
+    stopped: THERE,
 };
 
 /// Openings end early, and each line behind one gives a turn.
 pub const EARLY: Way = Way {
     name: "where openings end early: ",
     words: &["run", "--early"],
-    last: "show bases\nshow bases\nshow bases\nshow bases\n",
+    last: TURNS,
+    stopped: THERE,
+};
+
+/// The same, and programs try again and branch.
+pub const EARLY_BACK: Way = Way {
+    name: "where openings end early and programs branch: ",
+    words: &["run", "--early"],
+    last: TURNS,
+    stopped: BACK,
 };
 
 impl Way {
@@ -95,8 +161,8 @@ impl Table {
 }
 
 /// The run ends well, stops so often, and nothing of the accounts is lost.
-fn stops_well(outcome: &Outcome, stops: u64) -> bool {
-    outcome.is(Status::Done) && outcome.count(STOPPED) == stops && outcome.count(SUM_KEPT) == 1
+fn stops_well(outcome: &Outcome, stops: u64, sum: &[u8]) -> bool {
+    outcome.is(Status::Done) && outcome.count(STOPPED) == stops && outcome.count(sum) == 1
 }
 
 /// A script with transfers, in which a line arms this stop behind others.
@@ -108,10 +174,16 @@ fn ends_well(
     pick: u8,
     stops: u64,
 ) -> Result<bool, AllocError> {
-    let script = format!(in alloc; "{ACCOUNTS}crash {others}{call} {pick}\n{TRANSFERS}")?;
+    let Stopped {
+        before,
+        behind,
+        sum,
+        ..
+    } = way.stopped;
+    let script = format!(in alloc; "{before}crash {others}{call} {pick}\n{behind}")?;
     let mut devices = Devices::new(alloc)?;
     let outcome = way.run(alloc, &mut devices, script.as_str())?;
-    Ok(stops_well(&outcome, stops))
+    Ok(stops_well(&outcome, stops, sum))
 }
 
 /// A stop with each pick.
@@ -132,8 +204,9 @@ fn each_pick(
 /// A stop at each of the calls behind the line that arms it, and at one that does not come any more.
 pub fn one_stop(alloc: Global, way: Way) -> Result<Table, AllocError> {
     let mut table = Table::new();
-    for call in 1..38 {
-        let stops = if call < 37 { 1 } else { 0 };
+    let last = way.stopped.calls;
+    for call in 1..last.saturating_add(2) {
+        let stops = if call <= last { 1 } else { 0 };
         each_pick(alloc, way, &mut table, "", call, stops)?;
     }
     Ok(table)
