@@ -23,7 +23,7 @@ ghost use Rattle.salt_storage.specs.Writing.{OfBoot};
 ghost use Rattle.salt_storage.specs.declared.halt.Halt.TheVariants.{DeviceFull, Memory};
 ghost use Rattle.salt_storage.specs.declared.open.OpenErr.{OpenErr};
 ghost use Rattle.salt_place.specs.Placement.{GivesPlaceOf, TakesEachKey};
-ghost use Rattle.std.specs.Prelude.{Err, IfErr, IfOk, None, OnErr, OnOk, Some, ℕ, [], ◌++◌, ◌+◌, ◌<◌, ◌∷◌, ◌≡◌};
+ghost use Rattle.std.specs.Prelude.{Err, IfErr, IfOk, None, OnErr, OnOk, Some, ℕ, [], true, ◌++◌, ◌+◌, ◌<◌, ◌∷◌, ◌≡◌};
 
 use crate::onward::Onward;
 use crate::opening::Opening;
