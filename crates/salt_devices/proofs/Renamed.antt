@@ -20,14 +20,12 @@ use Rattle.salt_partition.specs.declared.partition.Partition.{Partition}
 use Rattle.salt_stands.proofs.Commits.{listed_same}
 use Rattle.salt_stands.specs.Commits.{each_tables, found_of, parts_of}
 use Rattle.salt_stands.specs.Coordinator.{Coordinator, decided_for, names_part, unit_of}
-use Rattle.salt_stands.specs.OpenConts.{move_on, moved}
 use Rattle.salt_stands.specs.Partition.{changes_if, decided_changes, part_tables}
 use Rattle.salt_stands.specs.Pieces.{PartView, is_prepared_in}
 use Rattle.salt_stands.specs.Placed.{IsPlaced}
 use Rattle.salt_stands.specs.Stands.{found_with}
 use Rattle.salt_stands.specs.Words.{has_bit}
 use Rattle.salt_values.specs.Id.{is_same_id}
-use Rattle.salt_values.specs.declared.cont.Cont.{Cont}
 use Rattle.salt_values.specs.declared.id.Id.{Id}
 use Rattle.salt_place.specs.declared.placement.Shape.{Shape}
 use Rattle.std.proofs.Common.{Bool, IsTrue, List, Option, Some, [], ap, arith, false, refl, slice_get, subst, sym, true, ℕ, ◌+◌, ◌++◌, ◌≡◌, ◌∙◌, ◌∷◌}
@@ -87,10 +85,6 @@ decided_for_renamed u p (d ∷ ds) = by (has_bit d.mask p) (decided_for_renamed 
         ≡ map (renamed u) (map unit_of (if b then d ∷ filter (names_part p) ds else filter (names_part p) ds))
     by true h = ap (λ us. renamed u d.unit ∷ us) h
     by false h = h
-
-moved_renamed : (u : Id) (format : ℕ) (o : Option (List Cont)) (ds : List Decision) → moved format o (map (decision_renamed u) ds) ≡ moved format o ds
-moved_renamed u format o [] = refl
-moved_renamed u format o (d ∷ ds) = moved_renamed u format (move_on format d o) ds
 
 -- ENTRIES
 
@@ -176,7 +170,6 @@ module _ (d : View) (mute : d.told ≡ false) (u : Id) where
           boot = is.decisions.holds.boot;
           decisions = is.decisions.holds.decisions;
           definitions = is.decisions.holds.definitions;
-          conts = λ rise cs e. is.decisions.holds.conts rise cs (sym (moved_renamed u c.log.header.format (Some c.log.header.conts) c.log.told.decided) ∙ e);
           parts = is.decisions.holds.parts;
         };
         counting = record {

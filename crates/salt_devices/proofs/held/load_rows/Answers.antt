@@ -35,10 +35,11 @@ returns-clause-is_new g c u new =
     new_again (g.D.Disks.view c.args.disks.now) (g.D.Disks.view c.load.new.disks) c.args.store.now c.load.new.self h.which h.c h.v h.is (c.in_ok-rows.ensures.stands h.which h.c h.v h.is) c.in_ok-rows.ensures.kept.shape u new
 
 pub returns-in_err-rows-clause-leaves : goal.returns-in_err-rows-clause-leaves
-returns-in_err-rows-clause-leaves g c shape k h =
+returns-in_err-rows-clause-leaves g c =
+    let p = err_from_is_err_and c.from_residual.result c.from_residual.ensures.1 in
     let keeps = c.in_err-rows.ensures.kept in
     let d = g.D.Disks.view c.args.disks.now in
-    leaves_on d (g.D.Disks.view c.load.new.disks) shape k k keeps.shape (λ dev. keeps.images dev (λ none. none)) (held_leaves d shape c.args.store.now k h k)
+    rw p.1 (λ shape k h. leaves_on d (g.D.Disks.view c.load.new.disks) shape k k keeps.shape (λ dev. keeps.images dev (λ none. none)) (held_leaves d shape c.args.store.now k h k))
 
 pub returns-in_err-rows-clause-full : goal.returns-in_err-rows-clause-full
 returns-in_err-rows-clause-full g c dev is =
