@@ -14,12 +14,21 @@ const TWO: &[&str] = &["--parts=2"];
 /// partitions.
 const SHORT: usize = 16_384;
 
+/// A word that a script is run by besides.
+#[derive(Clone, Copy)]
+enum Word {
+    /// `--early`
+    Early,
+    /// `--place=bands`
+    Bands,
+}
+
 /// A script, the word that it is run by besides, and the story that it is to tell.
 #[derive(Drop)]
 struct Case {
     script: Vec<u8>,
     story: Vec<u8>,
-    word: Option<&'static str>,
+    word: Option<Word>,
 }
 
 impl Case {
@@ -93,9 +102,13 @@ fn story_in(alloc: Global, outcome: &Outcome) -> Result<Vec<u8>, AllocError> {
 fn story_over(alloc: Global, case: &Case, parts: &str) -> Result<Vec<u8>, AllocError> {
     let room = case.story.len().saturating_add(ROOM);
     let mut devices = Devices::new(alloc)?;
+    let script = &case.script;
     let outcome = match case.word {
-        Some(word) => devices.run_within(alloc, room, &["run", parts, word], &case.script)?,
-        None => devices.run_within(alloc, room, &["run", parts], &case.script)?,
+        None => devices.run_within(alloc, room, &["run", parts], script)?,
+        Some(Word::Early) => devices.run_within(alloc, room, &["run", parts, "--early"], script)?,
+        Some(Word::Bands) => {
+            devices.run_within(alloc, room, &["run", parts, "--place=bands"], script)?
+        }
     };
     story_in(alloc, &outcome)
 }
@@ -147,11 +160,11 @@ impl Cases {
             [b'>', line @ ..] => add_line(&mut self.case.script, line),
             [b'<', line @ ..] => add_line(&mut self.case.story, line),
             b"+ early" => {
-                self.case.word = Some("--early");
+                self.case.word = Some(Word::Early);
                 Ok(())
             }
             b"+ bands" => {
-                self.case.word = Some("--place=bands");
+                self.case.word = Some(Word::Bands);
                 Ok(())
             }
             [] => self.end(),
