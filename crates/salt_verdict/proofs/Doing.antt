@@ -1,0 +1,103 @@
+-- Statements done one after another under a unit's own edits give what they give on tables that change.
+use Rattle.law_states.specs.Overlays.{AreInOrder, Edit, over, put_all, row_edited, with_edits}
+use Rattle.law_story.proofs.Places.{row_at-set}
+use Rattle.salt_ast.specs.declared.trees.Statement.{Statement}
+use Rattle.salt_ast.specs.declared.trees.TableDef.{TableDef}
+use Rattle.salt_audit.specs.Replaying.{done_under}
+use Rattle.salt_model.specs.Statements.{Run, has_failed, run_on, serial, with_done}
+use Rattle.salt_model.specs.Tables.{Edits, Tables, changed_at, make_change, no_edits, place_cmp, place_total, put_changes, row_at, with_changes}
+use Rattle.salt_model.specs.declared.events.Answer.{Answer}
+use Rattle.salt_model.specs.declared.locks.Reach.{Reach}
+use Rattle.salt_model.specs.declared.places.Place.{Place}
+use Rattle.salt_model.specs.declared.vars.Binding.{Binding}
+use Rattle.salt_units.specs.Acting.{HasDone}
+use Rattle.salt_values.specs.declared.change.Change.{Change}
+use Rattle.salt_verdict.specs.Again.{Outcome, outcome_of_run, outcome_on}
+use Rattle.std.proofs.Common.{arith, get_or, length, subst, ◌<◌, ◌≤◌, Bool, List, Some, [], ap, cond, false, if◌then◌else◌, refl, sym, true, ◌++◌, ◌∙◌, ◌∷◌, ◌≡◌}
+use Rattle.std.specs.FinMap.Entries.{find, find-put, is_sorted-put, put}
+use Rattle.std.specs.Ordering.{is_eq}
+
+pub record OfEdits : Type 0 where
+  pub rows : (ds : List Edit) (es : Tables) (q : Place) → AreInOrder ds → row_at q (with_edits ds es) ≡ row_edited ds es q
+  pub made : (ds : List Edit) (es now : Tables) → AreInOrder ds → ((q : Place) → row_at q now ≡ row_edited ds es q) → now ≡ with_edits ds es
+
+abbrev pub made : List Answer → List Binding → List Edit → Outcome
+made as_ vars edits = record { answers = as_; vars = vars; edits = edits }
+
+-- WHERE THEY END
+
+module _ (es : Tables) where
+  pub ended_gives : (schema : List TableDef) (as_ : List Answer) (ds : List Edit) (vars : List Binding) (sts : List Statement) → length sts < 1 →
+      made as_ vars ds ≡ outcome_on schema es as_ ds vars sts
+  ended_gives schema as_ ds vars [] few = refl
+  ended_gives schema as_ ds vars (st ∷ sts) few = absurd (omega (arith, few))
+
+  -- a statement that fails is the last
+  pub failed_gives : (schema : List TableDef) (as_ : List Answer) (ds : List Edit) (vars : List Binding) (st : Statement) (sts : List Statement) (answer : Answer)
+      (after : List Edit) (vs : List Binding) → HasDone (done_under schema es ds vars st) answer ds after vs → has_failed answer ≡ true →
+      made (as_ ++ answer ∷ []) vs after ≡ outcome_on schema es as_ ds vars (st ∷ sts)
+  failed_gives schema as_ ds vars st sts answer after vs h failed =
+      let d = done_under schema es ds vars st in
+      (λ i. made (as_ ++ h.answers i ∷ []) (h.variables i) (h.edits i))
+      ∙ sym (ap (λ (b : Bool). if b then made (as_ ++ d.answer ∷ []) d.vars (put_all d.changes ds) else outcome_on schema es (as_ ++ d.answer ∷ []) (put_all d.changes ds) d.vars sts)
+      (ap has_failed (sym h.answers) ∙ failed))
+
+  pub failed_first : (schema : List TableDef) (as_ : List Answer) (ds : List Edit) (vars : List Binding) (l : List Statement) (st : Statement) (answer : Answer)
+      (after : List Edit) (vs : List Binding) → 1 ≤ length l → st ≡ get_or l 0 st → HasDone (done_under schema es ds vars st) answer ds after vs → has_failed answer ≡ true →
+      made (as_ ++ answer ∷ []) vs after ≡ outcome_on schema es as_ ds vars l
+  failed_first schema as_ ds vars [] st answer after vs some is h failed = absurd (omega (arith, some))
+  failed_first schema as_ ds vars (x ∷ xs) st answer after vs some is h failed =
+      failed_gives schema as_ ds vars x xs answer after vs (subst (λ (z : Statement). HasDone (done_under schema es ds vars z) answer ds after vs) is h) failed
+
+-- ALL OF THEM
+
+module _ (laws : OfEdits) (es : Tables) where
+  make_one : (c : Change) (ds : List Edit) → AreInOrder ds → make_change c (with_edits ds es) ≡ with_edits (put place_cmp (changed_at c) c.row ds) es
+  make_one c ds ordered =
+      laws.made (put place_cmp (changed_at c) c.row ds) es (make_change c (with_edits ds es)) (is_sorted-put place_cmp place_total (changed_at c) c.row ds ordered)
+      (λ q. row_at-set q (changed_at c) c.row (with_edits ds es) ∙ by q (is_eq (place_cmp q (changed_at c)))
+      ∙ sym (ap (λ o. over o (row_at q es)) (find-put place_cmp place_total q (changed_at c) c.row ds)))
+    where
+      by : (q : Place) (b : Bool) → cond b c.row (row_at q (with_edits ds es)) ≡ over (cond b (Some c.row) (find place_cmp q ds)) (row_at q es)
+      by q true = refl
+      by q false = laws.rows ds es q ordered
+
+  make_all : (cs : List Change) (ds : List Edit) → AreInOrder ds → with_changes cs (with_edits ds es) ≡ with_edits (put_all cs ds) es
+  unfolding with_changes
+  make_all [] ds ordered = refl
+  make_all (c ∷ cs) ds ordered =
+      ap (with_changes cs) (make_one c ds ordered)
+      ∙ make_all cs (put place_cmp (changed_at c) c.row ds) (is_sorted-put place_cmp place_total (changed_at c) c.row ds ordered)
+
+  put_same : (cs : List Change) (ds : Edits) → (put_changes cs ds).list ≡ put_all cs ds.list
+  put_same [] ds = refl
+  put_same (c ∷ cs) ds = put_same cs (record { list = put place_cmp (changed_at c) c.row ds.list; sorted = is_sorted-put place_cmp place_total (changed_at c) c.row ds.list ds.sorted })
+
+  abbrev at_tables : List Answer → List Binding → Edits → List Reach → Tables → Run
+  at_tables as_ vars changes reaches tables = record { answers = as_; tables = tables; vars = vars; changes = changes; reaches = reaches }
+
+  outcomes_are : (schema : List TableDef) (sts : List Statement) (as_ : List Answer) (vars : List Binding) (ds : Edits) (reaches : List Reach) →
+      outcome_on schema es as_ ds.list vars sts ≡ outcome_of_run (run_on schema sts (at_tables as_ vars ds reaches (with_edits ds.list es)))
+  outcomes_are schema [] as_ vars ds reaches = refl
+  outcomes_are schema (st ∷ sts) as_ vars ds reaches =
+      let d = done_under schema es ds.list vars st in
+      let after = with_done schema (at_tables as_ vars ds reaches (with_edits ds.list es)) st in
+      by (has_failed d.answer)
+      (ap (λ (l : List Edit). outcome_on schema es (as_ ++ d.answer ∷ []) l d.vars sts) (sym (put_same d.changes ds))
+      ∙ outcomes_are schema sts (as_ ++ d.answer ∷ []) d.vars (put_changes d.changes ds) after.reaches
+      ∙ ap (λ (t : Tables). outcome_of_run (run_on schema sts (at_tables (as_ ++ d.answer ∷ []) d.vars (put_changes d.changes ds) after.reaches t)))
+      (ap (λ (l : List Edit). with_edits l es) (put_same d.changes ds) ∙ sym (make_all d.changes ds.list ds.sorted)))
+    where
+      at_once : List Edit → Outcome
+      at_once l = let d = done_under schema es ds.list vars st in record { answers = as_ ++ d.answer ∷ []; vars = d.vars; edits = l }
+
+      by : (b : Bool) → let d = done_under schema es ds.list vars st in let after = with_done schema (at_tables as_ vars ds reaches (with_edits ds.list es)) st in
+          outcome_on schema es (as_ ++ d.answer ∷ []) (put_all d.changes ds.list) d.vars sts ≡ outcome_of_run (run_on schema sts after) →
+          (if b then at_once (put_all d.changes ds.list) else outcome_on schema es (as_ ++ d.answer ∷ []) (put_all d.changes ds.list) d.vars sts)
+          ≡ outcome_of_run (if b then after else run_on schema sts after)
+      by true more = ap at_once (sym (put_same (done_under schema es ds.list vars st).changes ds))
+      by false more = more
+
+  pub serial_outcome : (schema : List TableDef) (vars : List Binding) (sts : List Statement) →
+      outcome_on schema es [] [] vars sts ≡ outcome_of_run (serial schema es vars sts)
+  serial_outcome schema vars sts = outcomes_are schema sts [] vars no_edits []

@@ -1,0 +1,94 @@
+//! Which units are not honest.
+
+ghost use Rattle.salt_verdict.specs.Ledger.{amiss_by, amiss_of, is_unfaithful, replays_by, unfaithful_in};
+ghost use Rattle.salt_audit.specs.Standing.{begun_in, is_open_unit};
+ghost use Rattle.std.specs.Prelude.{IfOk, OnOk, [], if◌then◌else◌, ◌++◌, ◌∷◌, ◌≡◌};
+
+use crate::acts::{act_of, copy_vars};
+use crate::answers::are_same_answers;
+use crate::ledger::Ledger;
+use salt_audit::{begun, is_amiss};
+use salt_eval::ViewErr;
+use salt_model::Event;
+use salt_values::{Id, Ids};
+use sqlite_items::Items;
+use std::alloc::{AllocError, Global};
+
+/// Whether a unit's answers are those of doing its statements again.
+fn replays(alloc: Global, ledger: &Ledger, unit: Id) -> Result<bool, ViewErr>
+    ensures { IfOk result (λ same. same ≡ replays_by ledger.now unit) }
+{
+    let Some(act) = act_of(&ledger.acts, unit) else {
+        return Ok(true);
+    };
+    let vars = copy_vars(alloc, act.vars.as_slice())?;
+    let schema = &ledger.state.schema;
+    let done = act.done.as_slice();
+    let again = ledger.rows.do_again(alloc, schema, vars, done)?;
+    Ok(are_same_answers(act.answers.as_slice(), again.answers.as_slice()))
+}
+
+fn is_open(ledger: &Ledger, unit: Id) -> bool
+    ensures { result ≡ is_open_unit (begun_in unit ledger.now.state.units) }
+{
+    match begun(&ledger.state.units, unit) {
+        Some(note) => note.is_open,
+        None => false,
+    }
+}
+
+/// Whether a unit is open, and a replay does not give its answers.
+fn is_unfaithful(alloc: Global, ledger: &Ledger, unit: Id) -> Result<bool, ViewErr>
+    ensures { IfOk result (λ is. is ≡ is_unfaithful ledger.now unit) }
+{
+    if is_open(ledger, unit) {
+        return Ok(!replays(alloc, ledger, unit)?);
+    }
+    Ok(false)
+}
+
+fn add_if(ids: &mut Ids, unit: Id, is: bool) -> Result<(), AllocError>
+    ensures { OnOk result (ids.new ≡ ids.old ++ (if is then unit ∷ [] else [])) }
+{
+    if is {
+        ids.push(unit)?;
+    }
+    Ok(())
+}
+
+/// The open units whose answers a replay does not give.
+pub fn unfaithful(alloc: Global, ledger: &Ledger) -> Result<Ids, ViewErr>
+    ensures { IfOk result (λ ids. ids ≡ unfaithful_in ledger.now) }
+{
+    let mut ids = Items::new(alloc);
+    for unit in ledger.order.as_slice() {
+        let is = is_unfaithful(alloc, ledger, *unit)?;
+        add_if(&mut ids, *unit, is)?;
+    }
+    Ok(ids)
+}
+
+fn amiss_of(ledger: &Ledger, unit: Id, event: &Event) -> bool
+    ensures { amiss_of ledger.now unit event.now ≡ (if result then unit ∷ [] else []) }
+{
+    match act_of(&ledger.acts, unit) {
+        Some(act) => is_amiss(event, act.answers.as_slice()),
+        None => is_amiss(event, &[]),
+    }
+}
+
+/// The unit of the event, where it is amiss behind the unit's answers.
+pub fn amiss(alloc: Global, ledger: &Ledger, event: &Event) -> Result<Ids, AllocError>
+    ensures { IfOk result (λ ids. ids ≡ amiss_by ledger.now event.now) }
+{
+    let mut ids = Items::new(alloc);
+    let unit = match event {
+        Event::Did { unit, .. } => *unit,
+        Event::Ended { unit, .. } => *unit,
+        _ => return Ok(ids),
+    };
+    if amiss_of(ledger, unit, event) {
+        ids.push(unit)?;
+    }
+    Ok(ids)
+}

@@ -1,0 +1,17 @@
+//! The verdict on a transcript: the laws, judged event by event.
+#![tactic(auto)]
+
+mod acts;
+mod again;
+mod answers;
+mod honest;
+mod keys;
+mod laws;
+mod ledger;
+mod rows;
+
+pub use again::{Again, do_again};
+pub use honest::{amiss, unfaithful};
+pub use laws::honest_is_exact;
+pub use ledger::{Act, Acts, Ledger};
+pub use rows::Rows;

@@ -1,0 +1,63 @@
+//! The rows that commits have made.
+
+ghost use Rattle.law_states.specs.Overlays.{AreInOrder, edits_of};
+ghost use Rattle.salt_units.specs.Acting.{HaveTheirKeys};
+ghost use Rattle.std.specs.Prelude.{◌≡◌};
+
+use crate::again::{Again, do_again};
+use salt_ast::Statement;
+use salt_eval::{MapView, Tables, ViewErr};
+use salt_model::Vars;
+use salt_schema::Schema;
+use salt_units::{Overlay, rows_stay_at_their_keys};
+use salt_values::Change;
+use std::alloc::Global;
+use std::collections::BTreeMap;
+
+/// The rows that commits have made: what they changed of no rows, one a place, in order of their places. Each row that a change
+/// puts has the change's key.
+#[derive(Drop)]
+pub struct Rows {
+    pub changes: Vec<Change>,
+    ghost in_order: { AreInOrder (edits_of changes.items) },
+    ghost have_keys: { HaveTheirKeys (edits_of changes.items) },
+}
+
+impl Rows {
+    ghost use Rattle.law_states.specs.Overlays.{with_edits};
+    ghost use Rattle.salt_model.specs.Statements.{serial};
+    ghost use Rattle.salt_model.specs.Tables.{no_rows};
+    ghost use Rattle.salt_verdict.specs.Again.{Gives};
+    ghost use Rattle.salt_verdict.specs.Made.{tables_made};
+    ghost use Rattle.std.specs.Prelude.{IfOk};
+
+    /// No rows.
+    pub fn none(alloc: Global) -> Rows
+        ensures { tables_made result ≡ no_rows }
+    {
+        Rows {
+            changes: Vec::new(alloc),
+        }
+    }
+
+    /// What doing statements again on these rows gives.
+    pub fn do_again(
+        &self,
+        alloc: Global,
+        schema: &Schema,
+        vars: Vars,
+        done: &[Statement],
+    ) -> Result<Again, ViewErr>
+        ensures { IfOk result (λ again. Gives again (serial schema.now (tables_made self.now) vars done.now)) }
+    {
+        rows_stay_at_their_keys();
+        let none: Tables = BTreeMap::new(alloc);
+        let mut view = MapView::new(alloc, &none);
+        let mut overlay = Overlay {
+            alloc,
+            view: &mut view,
+            changes: self.changes.as_slice(),
+        };
+        do_again(alloc, schema, &mut overlay, vars, done)
+    }
+}
