@@ -1,5 +1,5 @@
 -- Statements done one after another under a unit's own edits give what they give on tables that change.
-use Rattle.law_states.specs.Overlays.{AreInOrder, Edit, over, put_all, row_edited, with_edits}
+use Rattle.law_states.specs.Overlays.{AreInOrder, Edit, edit_of, edits_of, over, put_all, row_edited, with_edits}
 use Rattle.law_story.proofs.Places.{row_at-set}
 use Rattle.salt_ast.specs.declared.trees.Statement.{Statement}
 use Rattle.salt_ast.specs.declared.trees.TableDef.{TableDef}
@@ -10,10 +10,17 @@ use Rattle.salt_model.specs.declared.events.Answer.{Answer}
 use Rattle.salt_model.specs.declared.locks.Reach.{Reach}
 use Rattle.salt_model.specs.declared.places.Place.{Place}
 use Rattle.salt_model.specs.declared.vars.Binding.{Binding}
-use Rattle.salt_units.specs.Acting.{HasDone}
+use Rattle.salt_units.specs.Acting.{HasDone, HaveTheirKeys}
+use Rattle.salt_units.specs.Edited.{HasItsKey}
+use Rattle.salt_model.specs.Words.{Every}
+use Rattle.salt_values.specs.Value.{key_of}
+use Rattle.salt_values.specs.declared.value.Value.{Value}
+use Rattle.std.specs.Option.{ForSome}
 use Rattle.salt_values.specs.declared.change.Change.{Change}
 use Rattle.salt_verdict.specs.Again.{Outcome, outcome_of_run, outcome_on}
-use Rattle.std.proofs.Common.{arith, get_or, length, subst, ◌<◌, ◌≤◌, Bool, List, Some, [], ap, cond, false, if◌then◌else◌, refl, sym, true, ◌++◌, ◌∙◌, ◌∷◌, ◌≡◌}
+use Rattle.std.specs.declared.alloc.AllocError.{AllocError}
+use Rattle.std.specs.Prelude.{OnErr, OnOk}
+use Rattle.std.proofs.Common.{Err, IfSome, None, Ok, Result, Option, arith, suc, get_or, length, subst, ◌<◌, ◌≤◌, Bool, List, Some, [], ap, cond, false, if◌then◌else◌, refl, sym, true, ◌++◌, ◌∙◌, ◌∷◌, ◌≡◌}
 use Rattle.std.specs.FinMap.Entries.{find, find-put, is_sorted-put, put}
 use Rattle.std.specs.Ordering.{is_eq}
 
@@ -23,6 +30,35 @@ pub record OfEdits : Type 0 where
 
 abbrev pub made : List Answer → List Binding → List Edit → Outcome
 made as_ vars edits = record { answers = as_; vars = vars; edits = edits }
+
+-- CHANGES AS EDITS
+
+pub changed_as : (cs : List Change) (es : Tables) → with_changes cs es ≡ with_edits (edits_of cs) es
+unfolding with_changes
+changed_as [] es = refl
+changed_as (c ∷ cs) es = changed_as cs (make_change c es)
+
+pub put_in_order : (cs : List Change) (ds : List Edit) → AreInOrder ds → AreInOrder (put_all cs ds)
+put_in_order [] ds ordered = ordered
+put_in_order (c ∷ cs) ds ordered = put_in_order cs (put place_cmp (changed_at c) c.row ds) (is_sorted-put place_cmp place_total (changed_at c) c.row ds ordered)
+
+pub keys_each : (cs : List Change) → HaveTheirKeys (edits_of cs) → Every HasItsKey cs
+keys_each [] h = tt
+keys_each (c ∷ cs) h = (one c.row (h 0 (edit_of c) refl), keys_each cs (λ k. h (suc k)))
+  where
+    one : (o : Option (List Value)) → ForSome o (λ row. key_of row ≡ c.key) → IfSome o (λ row. key_of row ≡ c.key)
+    one None x = tt
+    one (Some row) x = x row refl
+
+-- changes that are put, or not, leave changes in order that have their keys
+pub kept_after : (r : Result (Unit {0}) AllocError) (cs old new : List Change) → OnOk r (edits_of new ≡ put_all cs (edits_of old)) → OnErr r (new ≡ old) →
+    AreInOrder (edits_of old) → HaveTheirKeys (edits_of old) → HaveTheirKeys (put_all cs (edits_of old)) → AreInOrder (edits_of new) × HaveTheirKeys (edits_of new)
+kept_after (Ok x) cs old new put err ordered keys more = (subst AreInOrder (sym put) (put_in_order cs (edits_of old) ordered), subst HaveTheirKeys (sym put) more)
+kept_after (Err e) cs old new put err ordered keys more = (subst (λ (l : List Change). AreInOrder (edits_of l)) (sym err) ordered, subst (λ (l : List Change). HaveTheirKeys (edits_of l)) (sym err) keys)
+
+pub on_ok : (r : Result (Unit {0}) AllocError) (P Q : Type 0) → (P → Q) → OnOk r P → OnOk r Q
+on_ok (Ok x) P Q f h = f h
+on_ok (Err e) P Q f h = tt
 
 -- WHERE THEY END
 
@@ -62,7 +98,7 @@ module _ (laws : OfEdits) (es : Tables) where
       by q true = refl
       by q false = laws.rows ds es q ordered
 
-  make_all : (cs : List Change) (ds : List Edit) → AreInOrder ds → with_changes cs (with_edits ds es) ≡ with_edits (put_all cs ds) es
+  pub make_all : (cs : List Change) (ds : List Edit) → AreInOrder ds → with_changes cs (with_edits ds es) ≡ with_edits (put_all cs ds) es
   unfolding with_changes
   make_all [] ds ordered = refl
   make_all (c ∷ cs) ds ordered =

@@ -1,2 +1,4 @@
 mod Doing
 mod Faithful
+mod Going
+mod Named

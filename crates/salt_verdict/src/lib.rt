@@ -10,8 +10,9 @@ mod laws;
 mod ledger;
 mod rows;
 
+pub use acts::{begin, note};
 pub use again::{Again, do_again};
 pub use honest::{amiss, unfaithful};
-pub use laws::honest_is_exact;
+pub use laws::{holding_goes_on, honest_is_exact};
 pub use ledger::{Act, Acts, Ledger};
 pub use rows::Rows;

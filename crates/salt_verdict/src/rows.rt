@@ -5,13 +5,15 @@ ghost use Rattle.salt_units.specs.Acting.{HaveTheirKeys};
 ghost use Rattle.std.specs.Prelude.{◌≡◌};
 
 use crate::again::{Again, do_again};
+use law_states::edits_make_the_tables;
 use salt_ast::Statement;
 use salt_eval::{MapView, Tables, ViewErr};
 use salt_model::Vars;
 use salt_schema::Schema;
-use salt_units::{Overlay, rows_stay_at_their_keys};
+use salt_units::{Overlay, put_changes, rows_stay_at_their_keys};
 use salt_values::Change;
-use std::alloc::Global;
+use sqlite_items::Items;
+use std::alloc::{AllocError, Global};
 use std::collections::BTreeMap;
 
 /// The rows that commits have made: what they changed of no rows, one a place, in order of their places. Each row that a change
@@ -29,7 +31,7 @@ impl Rows {
     ghost use Rattle.salt_model.specs.Tables.{no_rows};
     ghost use Rattle.salt_verdict.specs.Again.{Gives};
     ghost use Rattle.salt_verdict.specs.Made.{tables_made};
-    ghost use Rattle.std.specs.Prelude.{IfOk};
+    ghost use Rattle.std.specs.Prelude.{IfOk, OnOk};
 
     /// No rows.
     pub fn none(alloc: Global) -> Rows
@@ -38,6 +40,16 @@ impl Rows {
         Rows {
             changes: Vec::new(alloc),
         }
+    }
+
+    /// Makes the changes of a unit that commits, in their order. An `AllocError` leaves the rows as they were.
+    pub fn commit(&mut self, alloc: Global, changes: Vec<Change>) -> Result<(), AllocError>
+        requires { HaveTheirKeys (edits_of changes.items) }
+        ensures { OnOk result (tables_made self.new ≡ with_edits (edits_of changes.items) (tables_made self.old)) }
+    {
+        rows_stay_at_their_keys();
+        edits_make_the_tables();
+        put_changes(alloc, &mut self.changes, Items::from_vec(changes))
     }
 
     /// What doing statements again on these rows gives.
