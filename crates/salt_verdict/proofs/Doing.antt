@@ -137,3 +137,25 @@ module _ (laws : OfEdits) (es : Tables) where
   pub serial_outcome : (schema : List TableDef) (vars : List Binding) (sts : List Statement) →
       outcome_on schema es [] [] vars sts ≡ outcome_of_run (serial schema es vars sts)
   serial_outcome schema vars sts = outcomes_are schema sts [] vars no_edits []
+
+  tables_are : (schema : List TableDef) (sts : List Statement) (as_ : List Answer) (vars : List Binding) (ds : Edits) (reaches : List Reach) →
+      let run = run_on schema sts (at_tables as_ vars ds reaches (with_edits ds.list es)) in run.tables ≡ with_edits run.changes.list es
+  tables_are schema [] as_ vars ds reaches = refl
+  tables_are schema (st ∷ sts) as_ vars ds reaches =
+      let d = done_under schema es ds.list vars st in
+      let after = with_done schema (at_tables as_ vars ds reaches (with_edits ds.list es)) st in
+      let here : after.tables ≡ with_edits after.changes.list es = make_all d.changes ds.list ds.sorted ∙ ap (λ (l : List Edit). with_edits l es) (sym (put_same d.changes ds)) in
+      by (has_failed d.answer) here
+      (subst (λ (t : Tables). let run = run_on schema sts (at_tables (as_ ++ d.answer ∷ []) d.vars (put_changes d.changes ds) after.reaches t) in run.tables ≡ with_edits run.changes.list es)
+      (sym here) (tables_are schema sts (as_ ++ d.answer ∷ []) d.vars (put_changes d.changes ds) after.reaches))
+    where
+      by : (b : Bool) → let after = with_done schema (at_tables as_ vars ds reaches (with_edits ds.list es)) st in
+          after.tables ≡ with_edits after.changes.list es →
+          (run_on schema sts after).tables ≡ with_edits (run_on schema sts after).changes.list es →
+          (if b then after else run_on schema sts after).tables ≡ with_edits (if b then after else run_on schema sts after).changes.list es
+      by true here more = here
+      by false here more = more
+
+  pub serial_tables : (schema : List TableDef) (vars : List Binding) (sts : List Statement) →
+      (serial schema es vars sts).tables ≡ with_edits (serial schema es vars sts).changes.list es
+  serial_tables schema vars sts = tables_are schema sts [] vars no_edits []

@@ -13,6 +13,6 @@ mod rows;
 pub use acts::{begin, note};
 pub use again::{Again, do_again};
 pub use honest::{amiss, unfaithful};
-pub use laws::{holding_goes_on, honest_is_exact};
+pub use laws::{conts_may_be_exact, holding_goes_on, honest_is_exact, runs_make_the_tables};
 pub use ledger::{Act, Acts, Ledger};
 pub use rows::Rows;
