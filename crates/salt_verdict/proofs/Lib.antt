@@ -2,3 +2,4 @@ mod Doing
 mod Faithful
 mod Going
 mod Named
+mod Putting

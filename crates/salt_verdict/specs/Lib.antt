@@ -1,4 +1,6 @@
 pub mod After
 pub mod Again
+pub mod Goings
 pub mod Ledger
 pub mod Made
+pub mod Variables

@@ -4,11 +4,13 @@
 mod acts;
 mod again;
 mod answers;
+mod goings;
 mod honest;
 mod keys;
 mod laws;
 mod ledger;
 mod rows;
+mod variables;
 
 pub use acts::{begin, note};
 pub use again::{Again, do_again};
