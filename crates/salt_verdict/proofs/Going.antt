@@ -1,14 +1,20 @@
 -- What is known goes on.
-use Rattle.salt_audit.specs.Knowing.{Knows, TellsUnit}
+use Rattle.salt_ast.specs.ProgramJudgement.{program_named}
+use Rattle.salt_ast.specs.declared.programs.ProgramDef.{ProgramDef}
+use Rattle.salt_audit.specs.Knowing.{Knows, TellsUnit, stand_of}
 use Rattle.salt_audit.specs.Retelling.{told}
-use Rattle.salt_audit.specs.Standing.{begun_in}
+use Rattle.salt_audit.specs.Standing.{begun_in, cont_named}
+use Rattle.salt_audit.specs.Telling.{branched_by, conts_by, conts_ended, moved_by, program_by, tries_of, way_behind}
 use Rattle.salt_audit.specs.declared.state.Begun.{Begun}
+use Rattle.salt_ast.specs.Paths.{next_on_commit, next_on_failure}
 use Rattle.salt_ast.specs.declared.trees.Statement.{Statement}
+use Rattle.salt_books.proofs.Found.{cont_in-find}
 use Rattle.salt_model.specs.After.{conts_at, branched, kept, run_of, tables_after, vars_of}
 use Rattle.salt_model.specs.Statements.{Run, serial}
 use Rattle.salt_model.specs.Trace.{Trace}
 use Rattle.salt_model.specs.Units.{answers_of, done_of, kind_of, units_begun}
 use Rattle.salt_model.specs.declared.events.Answer.{Answer}
+use Rattle.salt_model.specs.declared.events.Cause.{Cause}
 use Rattle.salt_model.specs.declared.events.End.TheVariants as end
 use Rattle.salt_model.specs.declared.events.End.{End}
 use Rattle.salt_model.specs.declared.events.Event.TheVariants as event
@@ -17,17 +23,67 @@ use Rattle.salt_model.specs.declared.events.UnitKind.{UnitKind}
 use Rattle.salt_values.specs.Id.{is_same_id}
 use Rattle.salt_values.specs.declared.id.Id.{Id}
 use Rattle.salt_audit.proofs.Amiss.{id_is}
-use Rattle.salt_model.specs.Kept.{vars_of_kind}
-use Rattle.salt_verdict.specs.After.{IsAfter, act_by, conts_after, fresh, kind_noted, one_more, order_by, rows_by}
+use Rattle.salt_audit.specs.declared.state.State.{State}
+use Rattle.salt_model.specs.Kept.{begun_cont, conts_branched, conts_committed, cont_in, cont_of, moved, parts_of, programs_of, tries_left, values_kept, vars_at_call, vars_at_cont, vars_of_kind}
+use Rattle.salt_model.specs.declared.events.UnitKind.TheVariants.{Acid, Call, First, Later}
+use Rattle.salt_model.specs.declared.vars.Binding.{Binding}
+use Rattle.salt_values.specs.declared.cont.Cont.{Cont}
+use Rattle.salt_values.specs.declared.value.Value.{Value}
+use Rattle.salt_verdict.specs.After.{IsAfter, act_by, conts_after, fresh, one_more, order_by, rows_by}
+use Rattle.salt_verdict.specs.Goings.{begun_with, conts_kept, conts_noted, moved_with}
+use Rattle.salt_verdict.specs.Variables.{vars_begun, vars_called, vars_going, vars_placed}
 use Rattle.salt_verdict.specs.declared.ledger.Act.{Act}
 use Rattle.salt_verdict.specs.Ledger.{Holds, act_in, answers_in, done_in, run_by, vars_in}
 use Rattle.salt_verdict.specs.Made.{tables_made}
 use Rattle.salt_verdict.specs.declared.ledger.Ledger.{Ledger}
-use Rattle.std.proofs.Common.{Bool, List, None, Option, Some, [], ap, false, if◌then◌else◌, refl, sym, true, ◌++◌, ◌∙◌, ◌∷◌, ◌≡◌}
+use Rattle.std.proofs.Common.{Bool, List, None, Option, Some, [], ap, false, if◌then◌else◌, map, option_and_then, option_map, refl, sym, true, ℕ, ◌++◌, ◌∙◌, ◌∷◌, ◌≡◌}
+
+abbrev pub kind_noted : Option Begun → Option UnitKind
+kind_noted o = option_map (λ (n : Begun). n.kind) o
 
 kind_same : (trace : Trace) (u : Id) (o : Option Begun) → TellsUnit trace u o → kind_of u trace ≡ kind_noted o
 kind_same trace u None t = t.there
 kind_same trace u (Some n) t = t.kind
+
+-- WHAT IS READ OFF WHERE PROGRAMS GO ON
+
+called_same : (args : List Value) (o : Option ProgramDef) →
+    (elim o as (λ _. List Binding) [ None ↦ [] | Some p ↦ vars_at_call p args ]) ≡ vars_called args o
+called_same args None = refl
+called_same args (Some p) = refl
+
+placed_same : (c : Cont) (o : Option ProgramDef) → (elim o as (λ _. List Binding) [ None ↦ [] | Some p ↦ vars_at_cont p c ]) ≡ vars_placed c o
+placed_same c None = refl
+placed_same c (Some p) = refl
+
+going_same : (catalogue : List ProgramDef) (o : Option Cont) →
+    (elim o as (λ _. List Binding) [ None ↦ [] | Some c ↦ elim (program_named catalogue c.program) as (λ _. List Binding) [ None ↦ [] | Some p ↦ vars_at_cont p c ] ])
+    ≡ vars_going catalogue o
+going_same catalogue None = refl
+going_same catalogue (Some c) = placed_same c (program_named catalogue c.program)
+
+begun_same : (b : Id) (n : ℕ) (args : List Value) (vars : List Binding) (o : Option ProgramDef) (cs : List Cont) →
+    (elim o as (λ _. List Cont) [ None ↦ cs | Some p ↦ begun_cont b n p args vars (next_on_commit (parts_of p) 1) cs ]) ≡ begun_with b n args vars o cs
+begun_same b n args vars None cs = refl
+begun_same b n args vars (Some p) cs = refl
+
+moved_same : (b : Id) (part : ℕ) (vars : List Binding) (o : Option ProgramDef) (cs : List Cont) →
+    (elim o as (λ _. List Cont) [ None ↦ cs | Some p ↦ moved b (next_on_commit (parts_of p) part) (λ (c : Cont). record c { vars = values_kept p vars }) cs ])
+    ≡ moved_with b part vars o cs
+moved_same b part vars None cs = refl
+moved_same b part vars (Some p) cs = refl
+
+tries_same : (o : Option Cont) → (elim o as (λ _. ℕ) [ None ↦ 0 | Some c ↦ c.tries ]) ≡ tries_of o
+tries_same None = refl
+tries_same (Some c) = refl
+
+failed_same : (b : Id) (part : ℕ) (o : Option ProgramDef) (tries : ℕ) (cs : List Cont) →
+    (elim o as (λ _. List Cont) [ None ↦ cs | Some p ↦ moved b (next_on_failure (parts_of p) part tries) (λ (c : Cont). c) cs ])
+    ≡ moved_by b (way_behind true part tries) o cs
+failed_same b part None tries cs = refl
+failed_same b part (Some p) tries cs = refl
+
+-- WHAT A UNIT HAS DONE
 
 record Tells (u : Id) (t : Trace) (o : Option Act) : Type 0 where
   vars : vars_of u t ≡ vars_in o
@@ -54,13 +110,63 @@ module _ (l : Ledger) (trace : Trace) (h : Holds l trace) where
   rows_end u end.RolledBack = h.tables
   rows_end u end.Victim = h.tables
 
-  conts_end : (u : Id) (e : End) → (kept (told trace (event.Ended u e))).conts ≡ conts_after (event.Ended u e) l (kept trace)
-  conts_end u (end.Committed n) = λ i. conts_at (kept trace) n (kind_is u i) (run_same u i).vars
-  conts_end u (end.Failed c) = refl
-  conts_end u (end.Branched n c) = ap (λ (o : Option UnitKind). (branched (kept trace) n o).conts) (kind_is u)
-  conts_end u end.Cut = refl
-  conts_end u end.RolledBack = refl
-  conts_end u end.Victim = refl
+  abbrev defined_in : List ProgramDef → Option Cont → Option ProgramDef
+  defined_in catalogue o = option_and_then (λ (c : Cont). program_named catalogue c.program) o
+
+  -- the program of a continuation, and its tries
+  program_same : (b : Id) → defined_in (programs_of (kept trace)) (cont_of b (kept trace)) ≡ program_by l.state.catalogue l.state.conts b
+  program_same b = (λ i. defined_in (h.knows.programs i) (cont_in b (h.conts i))) ∙ ap (defined_in l.state.catalogue) (sym (cont_in-find b l.state.conts))
+
+  left_same : (b : Id) → tries_left b (kept trace) ≡ tries_of (cont_named b l.state.conts)
+  left_same b = tries_same (cont_of b (kept trace)) ∙ (λ i. tries_of (cont_in b (h.conts i))) ∙ ap tries_of (sym (cont_in-find b l.state.conts))
+
+  vars_same : (kind : UnitKind) → vars_of_kind (kept trace) kind ≡ vars_begun l.state.catalogue l.state.conts kind
+  vars_same (Acid session) = refl
+  vars_same (Call session n args) =
+      called_same args (program_named (programs_of (kept trace)) n) ∙ ap (λ (ps : List ProgramDef). vars_called args (program_named ps n)) h.knows.programs
+  vars_same (First session b n args) =
+      called_same args (program_named (programs_of (kept trace)) n) ∙ ap (λ (ps : List ProgramDef). vars_called args (program_named ps n)) h.knows.programs
+  vars_same (Later b part) =
+      going_same (programs_of (kept trace)) (cont_of b (kept trace))
+      ∙ (λ i. vars_going (h.knows.programs i) (cont_in b (h.conts i)))
+      ∙ ap (vars_going l.state.catalogue) (sym (cont_in-find b l.state.conts))
+
+  kept_same : (n : ℕ) (vars : List Binding) (kind : UnitKind) → conts_committed (kept trace) n kind vars ≡ conts_kept l.state.catalogue n vars kind l.state.conts
+  kept_same n vars (Acid session) = h.conts
+  kept_same n vars (Call session name args) = h.conts
+  kept_same n vars (First session b name args) =
+      begun_same b n args vars (program_named (programs_of (kept trace)) name) (kept trace).conts
+      ∙ (λ i. begun_with b n args vars (program_named (h.knows.programs i) name) (h.conts i))
+  kept_same n vars (Later b part) =
+      moved_same b part vars (defined_in (programs_of (kept trace)) (cont_of b (kept trace))) (kept trace).conts
+      ∙ (λ i. moved_with b part vars (program_same b i) (h.conts i))
+
+  noted_same : (n : ℕ) (vars : List Binding) (o : Option Begun) → conts_at (kept trace) n (kind_noted o) vars ≡ conts_noted l.state.catalogue n vars o l.state.conts
+  noted_same n vars None = h.conts
+  noted_same n vars (Some unit) = kept_same n vars unit.kind
+
+  branched_same : (kind : UnitKind) → conts_branched (kept trace) kind ≡ branched_by l.state.catalogue kind l.state.conts
+  branched_same (Acid session) = h.conts
+  branched_same (Call session name args) = h.conts
+  branched_same (First session b name args) = h.conts
+  branched_same (Later b part) =
+      failed_same b part (defined_in (programs_of (kept trace)) (cont_of b (kept trace))) (tries_left b (kept trace)) (kept trace).conts
+      ∙ (λ i. moved_by b (way_behind true part (left_same b i)) (program_same b i) (h.conts i))
+
+  failed_noted : (n : ℕ) (c : Cause) (o : Option Begun) →
+      (branched (kept trace) n (kind_noted o)).conts ≡ conts_ended l.state.catalogue (end.Branched n c) o l.state.conts
+  failed_noted n c None = h.conts
+  failed_noted n c (Some unit) = branched_same unit.kind
+
+  conts_end : (u : Id) (e : End) → (kept (told trace (event.Ended u e))).conts ≡ conts_after (event.Ended u e) l
+  conts_end u (end.Committed n) =
+      (λ i. conts_at (kept trace) n (kind_is u i) (run_same u i).vars) ∙ noted_same n (run_by l u).vars (begun_in u l.state.units)
+  conts_end u (end.Failed c) = h.conts
+  conts_end u (end.Branched n c) =
+      ap (λ (o : Option UnitKind). (branched (kept trace) n o).conts) (kind_is u) ∙ failed_noted n c (begun_in u l.state.units)
+  conts_end u end.Cut = h.conts
+  conts_end u end.RolledBack = h.conts
+  conts_end u end.Victim = h.conts
 
   rows_on : (e : Event) → tables_after (told trace e) ≡ rows_by e l
   rows_on (event.Ended u e) = rows_end u e
@@ -79,22 +185,22 @@ module _ (l : Ledger) (trace : Trace) (h : Holds l trace) where
   rows_on (event.Armed pairs) = h.tables
   rows_on (event.Shown items) = h.tables
 
-  conts_on : (e : Event) → (kept (told trace e)).conts ≡ conts_after e l (kept trace)
+  conts_on : (e : Event) → (kept (told trace e)).conts ≡ conts_after e l
   conts_on (event.Ended u e) = conts_end u e
-  conts_on (event.Began u k) = refl
-  conts_on (event.Did u st a) = refl
-  conts_on (event.Waits u os) = refl
-  conts_on (event.Accepted b) = refl
-  conts_on (event.Finished b) = refl
-  conts_on (event.Released bs) = refl
-  conts_on (event.Early bs) = refl
-  conts_on (event.Down w) = refl
-  conts_on (event.Opened boot n) = refl
-  conts_on event.Ready = refl
-  conts_on (event.Defined n text) = refl
-  conts_on (event.Refused r) = refl
-  conts_on (event.Armed pairs) = refl
-  conts_on (event.Shown items) = refl
+  conts_on (event.Began u k) = h.conts
+  conts_on (event.Did u st a) = h.conts
+  conts_on (event.Waits u os) = h.conts
+  conts_on (event.Accepted b) = h.conts
+  conts_on (event.Finished b) = h.conts
+  conts_on (event.Released bs) = h.conts
+  conts_on (event.Early bs) = h.conts
+  conts_on (event.Down w) = h.conts
+  conts_on (event.Opened boot n) = h.conts
+  conts_on event.Ready = h.conts
+  conts_on (event.Defined n text) = h.conts
+  conts_on (event.Refused r) = h.conts
+  conts_on (event.Armed pairs) = h.conts
+  conts_on (event.Shown items) = h.conts
 
   order_on : (e : Event) → units_begun (told trace e) ≡ order_by e l.order
   order_on (event.Began u k) = ap (λ (us : List Id). us ++ u ∷ []) h.order
@@ -118,8 +224,8 @@ module _ (l : Ledger) (trace : Trace) (h : Holds l trace) where
   still u t vars done answers = record { vars = vars ∙ h.vars u; done = done ∙ h.done u; answers = answers ∙ h.answers u }
 
   begins : (u v : Id) (kind : UnitKind) (t : Bool) → is_same_id u v ≡ t →
-      Tells u (told trace (event.Began v kind)) (if t then Some (fresh (vars_of_kind (kept trace) kind)) else act_in u l.acts)
-  begins u v kind true same = record { vars = rw same refl; done = rw same refl; answers = rw same refl }
+      Tells u (told trace (event.Began v kind)) (if t then Some (fresh (vars_begun l.state.catalogue l.state.conts kind)) else act_in u l.acts)
+  begins u v kind true same = record { vars = rw same (vars_same kind); done = rw same refl; answers = rw same refl }
   begins u v kind false other = record { vars = rw other (h.vars u); done = rw other (h.done u); answers = rw other (h.answers u) }
 
   does : (u v : Id) (st : Statement) (a : Answer) (t : Bool) → is_same_id u v ≡ t →
@@ -133,7 +239,7 @@ module _ (l : Ledger) (trace : Trace) (h : Holds l trace) where
       }
   does u v st a false other = record { vars = h.vars u; done = rw other (h.done u); answers = rw other (h.answers u) }
 
-  acts_on : (e : Event) (u : Id) → Tells u (told trace e) (act_by e l (kept trace) u)
+  acts_on : (e : Event) (u : Id) → Tells u (told trace e) (act_by e l.state l.acts u)
   acts_on (event.Began v kind) u = begins u v kind (is_same_id u v) refl
   acts_on (event.Did v st a) u = does u v st a (is_same_id u v) refl
   acts_on (event.Ended v e) u = still u (told trace (event.Ended v e)) refl refl refl
@@ -150,13 +256,28 @@ module _ (l : Ledger) (trace : Trace) (h : Holds l trace) where
   acts_on (event.Armed pairs) u = still u (told trace (event.Armed pairs)) refl refl refl
   acts_on (event.Shown items) u = still u (told trace (event.Shown items)) refl refl refl
 
-  pub holds_on : (m : Ledger) (e : Event) → Knows m.state (told trace e) → IsAfter l m e (kept trace) → Holds m (told trace e)
-  holds_on m e knows after = record {
-    knows = knows;
-    tables = rows_on e ∙ sym after.rows;
-    conts = conts_on e ∙ sym after.conts;
-    vars = λ u. (acts_on e u).vars ∙ ap vars_in (sym (after.acts u));
-    done = λ u. (acts_on e u).done ∙ ap done_in (sym (after.acts u));
-    answers = λ u. (acts_on e u).answers ∙ ap answers_in (sym (after.acts u));
-    order = order_on e ∙ sym after.order;
+  -- the state knows where programs go on exactly
+  knows_on : (t : State) (e : Event) (cs : List Cont) → Knows (record t { conts = cs }) (told trace e) → (kept (told trace e)).conts ≡ t.conts → Knows t (told trace e)
+  knows_on t e cs k is = record {
+    opened = k.opened;
+    schema = k.schema;
+    programs = k.programs;
+    conts = ap (map stand_of) is;
+    units = k.units;
+    bases = k.bases;
+    accepted = k.accepted;
+    finished = k.finished;
   }
+
+  pub holds_on : (m : Ledger) (e : Event) → Knows (record m.state { conts = conts_by e l.state }) (told trace e) → IsAfter l m e → Holds m (told trace e)
+  holds_on m e knows after =
+      let conts : (kept (told trace e)).conts ≡ m.state.conts = conts_on e ∙ sym after.conts in
+      record {
+        knows = knows_on m.state e (conts_by e l.state) knows conts;
+        tables = rows_on e ∙ sym after.rows;
+        conts = conts;
+        vars = λ u. (acts_on e u).vars ∙ ap vars_in (sym (after.acts u));
+        done = λ u. (acts_on e u).done ∙ ap done_in (sym (after.acts u));
+        answers = λ u. (acts_on e u).answers ∙ ap answers_in (sym (after.acts u));
+        order = order_on e ∙ sym after.order;
+      }

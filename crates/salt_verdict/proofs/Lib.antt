@@ -1,3 +1,4 @@
+mod Commits
 mod Doing
 mod Faithful
 mod Going

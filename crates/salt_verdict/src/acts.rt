@@ -86,3 +86,17 @@ pub fn copy_vars(alloc: Global, vars: &[Binding]) -> Result<Vars, AllocError>
     }
     Ok(made)
 }
+
+/// An answer, copied.
+pub fn copy_answer(alloc: Global, answer: &Answer) -> Result<Answer, AllocError>
+    ensures { IfOk result (λ made. made ≡ answer.now) }
+{
+    match answer {
+        Answer::Count(count) => Ok(Answer::Count(*count)),
+        Answer::Rows(rows) => Ok(Answer::Rows(rows.copy(alloc)?)),
+        Answer::Cell(value) => Ok(Answer::Cell(value.copy(alloc)?)),
+        Answer::Stored(value) => Ok(Answer::Stored(value.copy(alloc)?)),
+        Answer::Held => Ok(Answer::Held),
+        Answer::Failed(cause) => Ok(Answer::Failed(*cause)),
+    }
+}

@@ -1,25 +1,23 @@
 //! What is known judges each law as the trace does.
 
+ghost use Rattle.salt_audit.specs.Formed.{is_formed_by};
 ghost use Rattle.salt_audit.specs.Laws.{dishonest};
 ghost use Rattle.salt_audit.specs.Retelling.{told};
 ghost use Rattle.salt_model.specs.Trace.{Trace};
 ghost use Rattle.salt_model.specs.declared.events.Event.{Event};
-ghost use Rattle.salt_audit.specs.Knowing.{Knows};
-ghost use Rattle.salt_model.specs.After.{kept};
 ghost use Rattle.salt_verdict.specs.After.{IsAfter};
 ghost use Rattle.salt_verdict.specs.Ledger.{Holds, dishonest_by};
 ghost use Rattle.salt_verdict.specs.declared.ledger.Ledger.{Ledger};
 ghost use Rattle.law_states.specs.Overlays.{with_edits};
 ghost use Rattle.salt_ast.specs.declared.trees.Statement.{Statement};
 ghost use Rattle.salt_ast.specs.declared.trees.TableDef.{TableDef};
-ghost use Rattle.salt_audit.specs.declared.state.State.{State};
 ghost use Rattle.salt_model.specs.Statements.{serial};
 ghost use Rattle.salt_model.specs.Tables.{Tables};
 ghost use Rattle.salt_model.specs.declared.vars.Binding.{Binding};
-ghost use Rattle.salt_values.specs.declared.cont.Cont.{Cont};
-ghost use Rattle.std.specs.Prelude.{List, ◌≡◌};
+ghost use Rattle.std.specs.Prelude.{List, true, ◌≡◌};
 
 use law_states::edits_make_the_tables;
+use salt_audit::knowledge_goes_on;
 
 /// The units that break honest by what is known before an event and behind it are those that break it in the trace.
 pub fn honest_is_exact()
@@ -28,13 +26,10 @@ pub fn honest_is_exact()
 
 /// What is known behind an event is what the trace with it tells, where what was known before it is what the trace told.
 pub fn holding_goes_on()
-    ensures { (l m : Ledger) (trace : Trace) (e : Event) → Holds l trace → Knows m.state (told trace e) → IsAfter l m e (kept trace) → Holds m (told trace e) }
-{}
-
-/// A state goes on to know a trace where its programs that go on are put in exactly, with their arguments and variables.
-pub fn conts_may_be_exact()
-    ensures { (s : State) (trace : Trace) (cs : List Cont) → Knows s trace → (kept trace).conts ≡ cs → Knows (record s { conts = cs }) trace }
-{}
+    ensures { (l m : Ledger) (trace : Trace) (e : Event) → Holds l trace → is_formed_by trace e ≡ true → IsAfter l m e → Holds m (told trace e) }
+{
+    knowledge_goes_on();
+}
 
 /// A serial run makes its edits in the tables.
 pub fn runs_make_the_tables()

@@ -10,11 +10,14 @@ mod keys;
 mod laws;
 mod ledger;
 mod rows;
+mod start;
+mod steps;
 mod variables;
 
-pub use acts::{begin, note};
 pub use again::{Again, do_again};
 pub use honest::{amiss, unfaithful};
-pub use laws::{conts_may_be_exact, holding_goes_on, honest_is_exact, runs_make_the_tables};
+pub use laws::{holding_goes_on, honest_is_exact, runs_make_the_tables};
 pub use ledger::{Act, Acts, Ledger};
 pub use rows::Rows;
+pub use start::nothing_told;
+pub use steps::{run_again, take_event};
