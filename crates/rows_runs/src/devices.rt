@@ -10,7 +10,7 @@ use std::alloc::{AllocError, Global};
 use std::marker::Model;
 
 /// How many devices a run has.
-const DEVICES: u32 = 26;
+pub const DEVICES: u32 = 26;
 
 const LIMIT: u64 = 67_108_864;
 

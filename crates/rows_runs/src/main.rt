@@ -15,20 +15,24 @@
 //! another, or streams are cut: of each table how many of its runs end as they must.
 #![tactic(auto)]
 
+mod bytes_turned;
 mod cases;
 mod devices;
 mod others;
 mod outcome;
+mod stops_behind;
 mod streams;
 mod tables;
 mod words;
 
+use bytes_turned::{cut_devices, turned_bytes};
 use cases::Cases;
 use others::by_devices;
 use salt_io::{LineErr, Lines, Next, Source, StdSink, StdSource, write_whole};
 use std::alloc::{AllocError, Global};
 use std::io;
 use std::process::ExitCode;
+use stops_behind::{retries_fail, retries_fail_on, stop_in_retries, stops_in_boots, three_stops};
 use streams::{cut_scripts, longest_lines, most_bytes, reads_that_fail, writes_that_fail};
 use tables::{
     EARLY, EARLY_BACK, LATE, Table, Way, all_writes_fail, one_read_fails, one_stop,
@@ -74,6 +78,38 @@ impl Hostile {
     }
 }
 
+/// The tables of stops behind each other, and of scripts that retry.
+#[derive(Clone, Copy)]
+enum Behind {
+    StopsInBoots,
+    ThreeStops,
+    StopInRetries,
+    RetriesFail,
+    RetriesFailOn,
+}
+
+impl Behind {
+    fn name(self) -> &'static str {
+        match self {
+            Behind::StopsInBoots => "a stop, and another in the boot behind it",
+            Behind::ThreeStops => "a stop, and two in the boots behind it",
+            Behind::StopInRetries => "a stop in a script that retries",
+            Behind::RetriesFail => "a write that fails in a script that retries",
+            Behind::RetriesFailOn => "writes that fail from one on in a script that retries",
+        }
+    }
+
+    fn table(self, alloc: Global) -> Result<Table, AllocError> {
+        match self {
+            Behind::StopsInBoots => stops_in_boots(alloc),
+            Behind::ThreeStops => three_stops(alloc),
+            Behind::StopInRetries => stop_in_retries(alloc),
+            Behind::RetriesFail => retries_fail(alloc),
+            Behind::RetriesFailOn => retries_fail_on(alloc),
+        }
+    }
+}
+
 /// What is told.
 #[derive(Clone, Copy)]
 enum Part {
@@ -81,7 +117,10 @@ enum Part {
     Statuses,
     Words,
     Devices,
+    TurnedBytes,
+    CutDevices,
     Hostile(Hostile, Way),
+    Behind(Behind),
     CutScripts,
     ReadsThatFail,
     WritesThatFail,
@@ -89,11 +128,18 @@ enum Part {
     MostBytes,
 }
 
-const PARTS: [Part; 23] = [
+const PARTS: [Part; 30] = [
     Part::Stories,
     Part::Statuses,
     Part::Words,
     Part::Devices,
+    Part::TurnedBytes,
+    Part::CutDevices,
+    Part::Behind(Behind::StopsInBoots),
+    Part::Behind(Behind::ThreeStops),
+    Part::Behind(Behind::StopInRetries),
+    Part::Behind(Behind::RetriesFail),
+    Part::Behind(Behind::RetriesFailOn),
     Part::Hostile(Hostile::OneStop, LATE),
     Part::Hostile(Hostile::TwoStops, LATE),
     Part::Hostile(Hostile::StopAtFirst, LATE),
@@ -159,6 +205,9 @@ fn lines_of(rt: &HostRuntime, part: Part) -> Result<Vec<u8>, AllocError> {
         Part::Statuses => statuses(alloc),
         Part::Words => by_words(alloc),
         Part::Devices => by_devices(alloc),
+        Part::TurnedBytes => turned_bytes(alloc),
+        Part::CutDevices => cut_devices(alloc),
+        Part::Behind(behind) => line_of(alloc, "", behind.name(), behind.table(alloc)),
         Part::Hostile(hostile, way) => line_of(
             alloc,
             way.name,

@@ -239,7 +239,7 @@ fn with_no_room(alloc: Global) -> Result<Devices, AllocError> {
 }
 
 /// The devices of a database with a row.
-fn with_row(alloc: Global) -> Result<Devices, AllocError> {
+pub fn with_row(alloc: Global) -> Result<Devices, AllocError> {
     let mut devices = Devices::new(alloc)?;
     let _outcome = devices.run(alloc, ROWS.as_bytes())?;
     Ok(devices)

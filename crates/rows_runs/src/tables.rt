@@ -50,7 +50,7 @@ go all
 
 const SUM: &str = "@1 select sum(bal) from acct\n";
 
-const ROWS: &str = "@1 select * from acct\n";
+pub const ROWS: &str = "@1 select * from acct\n";
 
 const SUM_KEPT: &[u8] = b"-> value 150\n";
 
@@ -61,18 +61,18 @@ const STOPPED: &[u8] = b"down stopped\n";
 pub struct Way {
     /// In front of a table's name.
     pub name: &'static str,
-    words: &'static [&'static str],
-    last: &'static str,
-    stopped: Stopped,
+    pub words: &'static [&'static str],
+    pub last: &'static str,
+    pub stopped: Stopped,
 }
 
 /// What is stopped: lines before and behind the one that arms stops, the sum that is kept, and how many calls come behind that line.
 #[derive(Clone, Copy)]
-struct Stopped {
-    before: &'static str,
-    behind: &'static str,
-    sum: &'static [u8],
-    calls: u64,
+pub struct Stopped {
+    pub before: &'static str,
+    pub behind: &'static str,
+    pub sum: &'static [u8],
+    pub calls: u64,
 }
 
 /// Transfers that come to their ends.
@@ -166,12 +166,12 @@ fn stops_well(outcome: &Outcome, stops: u64, sum: &[u8]) -> bool {
 }
 
 /// A script with transfers, in which a line arms this stop behind others.
-fn ends_well(
+pub fn ends_well(
     alloc: Global,
     way: Way,
     others: &str,
     call: u64,
-    pick: u8,
+    pick: u64,
     stops: u64,
 ) -> Result<bool, AllocError> {
     let Stopped {
@@ -187,7 +187,7 @@ fn ends_well(
 }
 
 /// A stop with each pick.
-fn each_pick(
+pub fn each_pick(
     alloc: Global,
     way: Way,
     table: &mut Table,
@@ -261,7 +261,12 @@ fn rows_of(outcome: &Outcome) -> &[u8] {
 
 /// A call fails: the run ends well or fails in an opening. Where it ends well, a second run over its devices gives the rows that the first
 /// has given.
-fn fails_well(alloc: Global, way: Way, script: &str, failing: Failing) -> Result<bool, AllocError> {
+pub fn fails_well(
+    alloc: Global,
+    way: Way,
+    script: &str,
+    failing: Failing,
+) -> Result<bool, AllocError> {
     let mut devices = failing_devices(alloc, failing)?;
     let first = way.run(alloc, &mut devices, script)?;
     if first.is(Status::DiskFault) {
@@ -292,12 +297,17 @@ pub fn one_read_fails(alloc: Global, way: Way) -> Result<Table, AllocError> {
 }
 
 /// All writes fail from one on: what was told to be accepted is finished by a second run.
-fn keeps_accepted(alloc: Global, way: Way, script: &str, call: u64) -> Result<bool, AllocError> {
+pub fn keeps_accepted(
+    alloc: Global,
+    way: Way,
+    script: &str,
+    call: u64,
+) -> Result<bool, AllocError> {
     let mut devices = failing_devices(alloc, Failing::From(call))?;
     let first = way.run(alloc, &mut devices, script)?;
     let second = way.run(alloc, &mut devices.copied(alloc)?, SUM)?;
     let may_end = first.is(Status::Done) || first.is(Status::DiskFault);
-    let is_kept = first.count(b"b1.1 accepted\n") == 0 || second.count(SUM_KEPT) == 1;
+    let is_kept = first.count(b"b1.1 accepted\n") == 0 || second.count(way.stopped.sum) == 1;
     Ok(may_end && second.is(Status::Done) && is_kept)
 }
 
