@@ -7,8 +7,9 @@ ghost use Rattle.salt_io.specs.declared.buffer.TheConstants.{ROOM};
 use crate::{IoFailed, Sink, write_whole};
 use std::marker::Model;
 
-/// How many bytes are collected at most before they are written.
-const ROOM: usize = 4096;
+/// How many bytes are collected at most before they are written. A buffer is made, and filled with zeros, for each line that tells
+/// something, so it is no wider than most lines need.
+const ROOM: usize = 1024;
 
 /// Bytes that wait to be written to a sink, in an array of their own: no call takes memory. Contracts see these bytes. Each call is
 /// given the sink, which is the one of the calls before while bytes wait.

@@ -144,7 +144,7 @@ fn print_events<K: Sink>(out: &mut Printer<'_, K>, schema: &Schema, events: &[Ev
     out.flush();
 }
 
-/// Appends an event's text to what the sink holds, in one write for each 4,096 bytes where each takes
+/// Appends an event's text to what the sink holds, in one write for each 1,024 bytes where each takes
 /// all that it is given; the schema names the tables of locks. It takes no memory. `IoFailed` where a write failed: the sink has counted the fault, and some first part of
 /// the text was written, with at least one byte left out.
 pub fn print<K: Sink>(sink: &mut K, event: &Event, schema: &Schema) -> Result<(), IoFailed>
@@ -159,7 +159,7 @@ pub fn print<K: Sink>(sink: &mut K, event: &Event, schema: &Schema) -> Result<()
     out.outcome
 }
 
-/// Appends the texts of events, one after another, to what the sink holds, in one write for each 4,096 bytes where each takes
+/// Appends the texts of events, one after another, to what the sink holds, in one write for each 1,024 bytes where each takes
 /// all that it is given; the schema names the tables of locks. It takes no memory. `IoFailed` where a write failed: the sink has counted the
 /// fault, and some first part of the texts was written, with at least one byte left out.
 pub fn print_story<K: Sink>(sink: &mut K, events: &[Event], schema: &Schema) -> Result<(), IoFailed>

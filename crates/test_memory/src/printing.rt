@@ -89,16 +89,16 @@ fn writes_of(alloc: Global, length: usize) -> Result<usize, Fail> {
     Ok(sink.writes)
 }
 
-// One write for each 4,096 bytes of what is printed by one call.
+// One write for each 1,024 bytes of what is printed by one call.
 #[test]
 fn writes_of_events(rt: HostRuntime) -> Result<(), Fail> {
     for (length, writes) in [
-        (2037, 3),
-        (2038, 4),
-        (4085, 4),
-        (4086, 7),
-        (12_277, 12),
-        (12_278, 15),
+        (501, 3),
+        (502, 4),
+        (1013, 4),
+        (1014, 7),
+        (3061, 12),
+        (3062, 15),
     ] {
         assert_eq!(rt; writes_of(rt.alloc(), length)?, writes);
     }
