@@ -26,7 +26,7 @@ use crate::store::Store;
 use salt_codec::told_changes;
 use salt_disk::Disks;
 use salt_place::{PlaceKind, Placement};
-use salt_values::{Changes, Id, Key};
+use salt_values::{Change, Id, Key};
 
 impl Store {
     /// Commits a unit, and gives the number of its decision: its changes are prepared in each partition that has some, in order
@@ -38,7 +38,7 @@ impl Store {
         disks: &mut D,
         place: &Placement<F>,
         unit: Id,
-        changes: &Changes,
+        changes: &[Change],
         mv: &[u8],
     ) -> Result<u64, StoreErr>
         requires callable { TakesEachKey (F.pre place.now.place) }
@@ -63,9 +63,9 @@ impl Store {
         ensures full { FullWhere (CommitPassesLimit (D.view disks.old).limit self.old unit changes.now mv.now) (result_err result) }
         ensures untouched { (n : ℕ) → result ≡ Err (Full n) → IsUnchanged (D.view disks.old) (D.view disks.new) n }
     {
-        told_changes(changes.as_slice());
+        told_changes(changes);
         let shape = self.decisions.shape();
-        let shares = shares_of(self.alloc, place, shape, changes.as_slice())?;
+        let shares = shares_of(self.alloc, place, shape, changes)?;
         let mask = mask_of(&shares);
         prepare_all(disks, &mut self.parts, unit, &shares)?;
         let number = self.decisions.decide(self.alloc, disks, unit, mask, mv)?;

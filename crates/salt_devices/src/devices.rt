@@ -15,7 +15,7 @@ use salt_model::Reach;
 use salt_place::{PlaceKind, Placement, Shape};
 use salt_schema::Schema;
 use salt_storage::{Found, Halt, Numbers, OpenErr, Storage};
-use salt_values::{Changes, Id, Key};
+use salt_values::{Change, Id, Key};
 use std::alloc::{AllocError, Global};
 
 /// A database over devices, in the shape that is asked for: a store that stands on them, once it is opened. Behind an error the
@@ -173,7 +173,7 @@ impl Storage for Devices {
         disks: &mut D,
         place: &Placement<F>,
         unit: Id,
-        changes: &Changes,
+        changes: &[Change],
         made: &Move,
     ) -> Result<u64, Halt> {
         let Some(store) = &mut self.store else {

@@ -35,7 +35,7 @@ use salt_model::Reach;
 use salt_place::{PlaceKind, Placement, Shape};
 use salt_schema::Schema;
 use salt_storage::Halt;
-use salt_values::{Changes, Id, Key};
+use salt_values::{Change, Id, Key};
 use std::alloc::Global;
 
 /// The rows of a reach, each of which meets its table. Nothing is written.
@@ -114,7 +114,7 @@ pub fn decide_unit<D: Disks, F: Fn(PlaceKind, &Key, u32) -> u32>(
     disks: &mut D,
     place: &Placement<F>,
     unit: Id,
-    changes: &Changes,
+    changes: &[Change],
     made: &Move,
 ) -> Result<u64, Halt>
     requires callable { TakesEachKey (F.pre place.now.place) }
@@ -138,7 +138,7 @@ pub fn decide_unit<D: Disks, F: Fn(PlaceKind, &Key, u32) -> u32>(
     typed_changes_are_sound();
     moves_are_read();
     told_move(made);
-    told_keys(changes.as_slice());
+    told_keys(changes);
     let spelled = spelled_move(alloc, FORMAT, made)?;
     let number = store.commit(disks, place, unit, changes, &spelled)?;
     Ok(number)

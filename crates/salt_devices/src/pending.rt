@@ -6,7 +6,7 @@ ghost use Rattle.salt_storage.specs.declared.open.OpenErr.TheVariants.{Halted};
 ghost use Rattle.std.specs.Prelude.{IsTrue, ◌↔◌, ◌≡◌, ◌≢◌, ◌⊎◌};
 
 use salt_storage::{Halt, OpenErr};
-use salt_values::{Changes, TryCopy};
+use salt_values::{Change, Changes, copies};
 use std::alloc::Global;
 
 /// What may stand on the devices beside what was kept before, where the last call was broken off.
@@ -50,13 +50,13 @@ pub fn pending_opening(e: OpenErr) -> Pending
 }
 
 /// What is pending behind this error of a unit's commit.
-pub fn pending_unit(alloc: Global, e: Halt, changes: &Changes) -> Pending
+pub fn pending_unit(alloc: Global, e: Halt, changes: &[Change]) -> Pending
     ensures { (result ≡ Lost) ⊎ ((result ≡ Decision changes.now) × (e ≢ Memory)) }
 {
     if matches!(e, Halt::Memory) {
         return Pending::Lost;
     }
-    match changes.copy(alloc) {
+    match copies(alloc, changes) {
         Ok(changes) => Pending::Decision(changes),
         Err(_) => Pending::Lost,
     }

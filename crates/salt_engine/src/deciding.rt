@@ -25,9 +25,8 @@ use salt_disk::Disks;
 use salt_eval::Tables;
 use salt_place::{PlaceKind, Placement};
 use salt_storage::{Halt, Storage};
-use salt_values::{Changes, Id, Key, copies};
-use sqlite_items::Items;
-use std::alloc::{AllocError, Global};
+use salt_values::{Change, Id, Key};
+use std::alloc::Global;
 
 /// The rows in the reach of the statement that a unit is to do; none where it reaches nothing.
 pub(crate) fn load<S: Storage, D: Disks, F: Fn(PlaceKind, &Key, u32) -> u32>(
@@ -64,18 +63,17 @@ pub(crate) fn load<S: Storage, D: Disks, F: Fn(PlaceKind, &Key, u32) -> u32>(
 }
 
 /// The changes of an open unit.
-fn changes_of(alloc: Global, books: &Books, unit: Id) -> Result<Changes, AllocError>
-    ensures { IfOk result (λ changes. (s : UnitState) (o : OpenUnit) → AreBooks books.now s → unit_named unit s.units ≡ Some o → changes ≡ map change_at o.changes) }
+fn changes_of(books: &Books, unit: Id) -> &[Change]
+    ensures { (s : UnitState) (o : OpenUnit) → AreBooks books.now s → unit_named unit s.units ≡ Some o → result.now ≡ map change_at o.changes }
 {
     match books.unit_named(unit) {
-        Some(held) => copies(alloc, held.open.changes()),
-        None => Ok(Items::new(alloc)),
+        Some(held) => held.open.changes(),
+        None => &[],
     }
 }
 
 /// Decides the commit of a unit. The move of its program.
 pub(crate) fn decide_commit<S: Storage, D: Disks, F: Fn(PlaceKind, &Key, u32) -> u32>(
-    alloc: Global,
     storage: &mut S,
     disks: &mut D,
     place: &Placement<F>,
@@ -95,14 +93,13 @@ pub(crate) fn decide_commit<S: Storage, D: Disks, F: Fn(PlaceKind, &Key, u32) ->
     decided_ends_may_be_kept();
     storage.stands(disks);
     let made = books.move_of_commit(unit)?;
-    let changes = changes_of(alloc, books, unit)?;
-    let _number = storage.commit(disks, place, unit, &changes, &made)?;
+    let changes = changes_of(books, unit);
+    let _number = storage.commit(disks, place, unit, changes, &made)?;
     Ok(made)
 }
 
 /// Decides the branch of a unit of a later part, which has failed by this cause. The move of its program.
 pub(crate) fn decide_branch<S: Storage, D: Disks, F: Fn(PlaceKind, &Key, u32) -> u32>(
-    alloc: Global,
     storage: &mut S,
     disks: &mut D,
     place: &Placement<F>,
@@ -122,7 +119,6 @@ pub(crate) fn decide_branch<S: Storage, D: Disks, F: Fn(PlaceKind, &Key, u32) ->
     decided_ends_may_be_kept();
     storage.stands(disks);
     let made = books.move_of_branch(unit)?;
-    let changes = Items::new(alloc);
-    let _number = storage.commit(disks, place, unit, &changes, &made)?;
+    let _number = storage.commit(disks, place, unit, &[], &made)?;
     Ok(made)
 }

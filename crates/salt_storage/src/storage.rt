@@ -28,7 +28,7 @@ use salt_eval::Tables;
 use salt_model::Reach;
 use salt_place::{PlaceKind, Placement};
 use salt_schema::Schema;
-use salt_values::{Changes, Id, Key};
+use salt_values::{Change, Id, Key};
 use std::alloc::AllocError;
 
 /// What a database stands on. After an error of a call it is opened anew before it is used. Contracts see the devices by their
@@ -151,7 +151,7 @@ pub trait Storage {
         disks: &mut D,
         place: &Placement<F>,
         unit: Id,
-        changes: &Changes,
+        changes: &[Change],
         made: &Move,
     ) -> Result<u64, Halt>
         requires callable { TakesEachKey (F.pre place.now.place) }

@@ -14,12 +14,9 @@ use Rattle.salt_devices.proofs.Within.{commit_within, nothing_within}
 use Rattle.salt_devices.proofs.held.decide_unit.Goals as goal
 use Rattle.salt_disk.specs.Disks.{KeepsBut}
 use Rattle.salt_model.specs.Kept.{Definition}
-use Rattle.salt_model.specs.Words.{Every}
 use Rattle.salt_stands.specs.Coordinator.{Coordinator}
 use Rattle.salt_storage.specs.Storing.{decided}
 use Rattle.law_types.specs.Typed.{AreChangesOf}
-use Rattle.salt_values.specs.Value.{IsValue}
-use Rattle.salt_values.specs.declared.change.Change.{Change}
 use Rattle.std.proofs.Common.{Err, None, Some, ap, refl, subst, true, ◌≡◌, ◌∙◌}
 use Rattle.std.proofs.lemmas.Result.{err_from_is_err_and}
 use Rattle.std.specs.List.{list_all}
@@ -48,7 +45,7 @@ returns-clause-holds g c shape k conts h may =
     let reads : move_in 3 (spell_move 3 made) ≡ Some made = c.moves_are_read.ensures 3 made c.told_move.ensures in
     let sound : (co : Coordinator Definition) → AreChangesOf (tables_of co.definitions) c.args.changes.now → list_all (fits_its_part reading co) c.args.changes.now ≡ true = λ co fits. c.typed_changes_are_sound.ensures.all definition_in co c.args.changes.now fits in
     let spells : c.deref.result.now ≡ spell_move 3 made = c.deref.ensures.value ∙ c.in_ok-spelled.ensures in
-    let keys = subst (Every (λ (ch : Change). IsValue ch.key)) c.as_slice.ensures c.told_keys.ensures in
+    let keys = c.told_keys.ensures in
     unit_holds (g.D.Disks.view c.args.disks.now) shape c.args.store.now k h c.args.unit c.args.changes.now made conts may c.requires.new reads sound c.deref.result.now spells
     (g.D.Disks.view c.commit.new.disks) c.commit.new.self c.in_ok-number.ensures.others.shape keys c.in_ok-number.ensures.ok
 
@@ -59,7 +56,7 @@ returns-clause-is_new g c u other new =
     let reads : move_in 3 (spell_move 3 made) ≡ Some made = c.moves_are_read.ensures 3 made c.told_move.ensures in
     let sound : (co : Coordinator Definition) → AreChangesOf (tables_of co.definitions) c.args.changes.now → list_all (fits_its_part reading co) c.args.changes.now ≡ true = λ co fits. c.typed_changes_are_sound.ensures.all definition_in co c.args.changes.now fits in
     let spells : c.deref.result.now ≡ spell_move 3 made = c.deref.ensures.value ∙ c.in_ok-spelled.ensures in
-    let keys = subst (Every (λ (ch : Change). IsValue ch.key)) c.as_slice.ensures c.told_keys.ensures in
+    let keys = c.told_keys.ensures in
     others_stay_new (g.D.Disks.view c.args.disks.now) r.0 c.args.store.now r.1 r.2 c.args.unit c.args.changes.now made r.3.0 r.3.1 c.requires.new reads sound c.deref.result.now spells
     (g.D.Disks.view c.commit.new.disks) c.commit.new.self c.in_ok-number.ensures.others.shape keys c.in_ok-number.ensures.ok u other new
 
@@ -69,7 +66,7 @@ returns-clause-leaves g c shape k conts h may =
     let reads : move_in 3 (spell_move 3 made) ≡ Some made = c.moves_are_read.ensures 3 made c.told_move.ensures in
     let sound : (co : Coordinator Definition) → AreChangesOf (tables_of co.definitions) c.args.changes.now → list_all (fits_its_part reading co) c.args.changes.now ≡ true = λ co fits. c.typed_changes_are_sound.ensures.all definition_in co c.args.changes.now fits in
     let spells : c.deref.result.now ≡ spell_move 3 made = c.deref.ensures.value ∙ c.in_ok-spelled.ensures in
-    let keys = subst (Every (λ (ch : Change). IsValue ch.key)) c.as_slice.ensures c.told_keys.ensures in
+    let keys = c.told_keys.ensures in
     unit_leaves_either (g.D.Disks.view c.args.disks.now) shape c.args.store.now k h c.args.unit c.args.changes.now made conts may c.requires.new reads sound c.deref.result.now spells
     (g.D.Disks.view c.commit.new.disks) c.commit.new.self c.in_ok-number.ensures.others.shape keys c.in_ok-number.ensures.images c.in_ok-number.ensures.pages
 
@@ -79,7 +76,7 @@ returns-in_err-number-clause-leaves g c shape k conts h may =
     let reads : move_in 3 (spell_move 3 made) ≡ Some made = c.moves_are_read.ensures 3 made c.told_move.ensures in
     let sound : (co : Coordinator Definition) → AreChangesOf (tables_of co.definitions) c.args.changes.now → list_all (fits_its_part reading co) c.args.changes.now ≡ true = λ co fits. c.typed_changes_are_sound.ensures.all definition_in co c.args.changes.now fits in
     let spells : c.deref.result.now ≡ spell_move 3 made = c.deref.ensures.value ∙ c.in_ok-spelled.ensures in
-    let keys = subst (Every (λ (ch : Change). IsValue ch.key)) c.as_slice.ensures c.told_keys.ensures in
+    let keys = c.told_keys.ensures in
     unit_leaves_either (g.D.Disks.view c.args.disks.now) shape c.args.store.now k h c.args.unit c.args.changes.now made conts may c.requires.new reads sound c.deref.result.now spells
     (g.D.Disks.view c.commit.new.disks) c.commit.new.self c.in_err-number.ensures.others.shape keys c.in_err-number.ensures.images c.in_err-number.ensures.pages
 

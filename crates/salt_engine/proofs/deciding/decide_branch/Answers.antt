@@ -6,7 +6,7 @@ use Rattle.salt_engine.proofs.Performed.{have-unit}
 use Rattle.salt_engine.proofs.deciding.decide_branch.Goals as goal
 use Rattle.salt_model.specs.Kept.{conts_branched}
 use Rattle.salt_storage.proofs.Staying.{stays-same}
-use Rattle.std.proofs.Common.{ap}
+use Rattle.std.proofs.Common.{[], ap, refl}
 use Rattle.std.specs.Prelude.{Err}
 
 pub move_of_branch-requires : goal.move_of_branch-requires
@@ -27,7 +27,7 @@ commit-requires-clause-may g c =
       b.stored.holding,
       (
         conts_branched s.kept later.unit.kind,
-        branch-may holds is_new x s later.unit c.args.unit c.stands.ensures.sound later.named cause b c.decided_ends_may_be_kept.ensures.branch c.new-changes.result c.new-changes.ensures c.in_ok-made.made moves,
+        branch-may holds is_new x s later.unit c.args.unit c.stands.ensures.sound later.named cause b c.decided_ends_may_be_kept.ensures.branch [] refl c.in_ok-made.made moves,
       ),
     )
 
@@ -42,7 +42,7 @@ commit-requires-clause-new g c =
     let later = c.requires.ready.4 in
     let b = own-branch holds is_new x s c.args.unit c.requires.ready.1 cause c.requires.ready.3 later in
     let moves = branch-moves holds is_new x s later.unit c.args.unit c.stands.ensures.sound later.named cause b c.in_ok-made.made c.in_ok-made.ensures in
-    branch-new holds is_new x s later.unit c.args.unit c.stands.ensures.sound later.named cause b c.decided_ends_may_be_kept.ensures.branch c.new-changes.result c.new-changes.ensures c.in_ok-made.made moves
+    branch-new holds is_new x s later.unit c.args.unit c.stands.ensures.sound later.named cause b c.decided_ends_may_be_kept.ensures.branch [] refl c.in_ok-made.made moves
 
 pub returns-in_err-made-clause-undone : goal.returns-in_err-made-clause-undone
 returns-in_err-made-clause-undone g c =
@@ -56,8 +56,8 @@ returns-clause-branched g c = λ s base cause b0 later.
     let x = c.args.books.now in
     let b = own-branch holds is_new x s c.args.unit base cause b0 later in
     let moves = branch-moves holds is_new x s later.unit c.args.unit c.stands.ensures.sound later.named cause b c.in_ok-made.made c.in_ok-made.ensures in
-    let may = branch-may holds is_new x s later.unit c.args.unit c.stands.ensures.sound later.named cause b c.decided_ends_may_be_kept.ensures.branch c.new-changes.result c.new-changes.ensures c.in_ok-made.made moves in
-    branch-done holds is_new x s later.unit c.args.unit c.stands.ensures.sound later.named cause b c.decided_ends_may_be_kept.ensures.branch c.new-changes.result c.new-changes.ensures c.in_ok-made.made moves _ _
+    let may = branch-may holds is_new x s later.unit c.args.unit c.stands.ensures.sound later.named cause b c.decided_ends_may_be_kept.ensures.branch [] refl c.in_ok-made.made moves in
+    branch-done holds is_new x s later.unit c.args.unit c.stands.ensures.sound later.named cause b c.decided_ends_may_be_kept.ensures.branch [] refl c.in_ok-made.made moves _ _
     (c.in_ok-_number.ensures.holds s.kept (conts_branched s.kept later.unit.kind) b.stored.holding may) c.in_ok-_number.ensures.is_new
 
 pub returns-in_err-_number-clause-undone : goal.returns-in_err-_number-clause-undone
@@ -72,9 +72,9 @@ returns-in_err-_number-clause-undone g c =
     let sound = c.stands.ensures.sound in
     let b = own-branch holds is_new x s c.args.unit base cause b0 later in
     let moves = branch-moves holds is_new x s o c.args.unit sound later.named cause b c.in_ok-made.made c.in_ok-made.ensures in
-    let may = branch-may holds is_new x s o c.args.unit sound later.named cause b law c.new-changes.result c.new-changes.ensures c.in_ok-made.made moves in
+    let may = branch-may holds is_new x s o c.args.unit sound later.named cause b law [] refl c.in_ok-made.made moves in
     own-undone _ _ _ s c.args.unit base cause later
-    (branch-undone holds is_new x s o c.args.unit sound later.named cause b law c.new-changes.result c.new-changes.ensures c.in_ok-made.made moves _ _ _
+    (branch-undone holds is_new x s o c.args.unit sound later.named cause b law [] refl c.in_ok-made.made moves _ _ _
     (c.in_err-_number.ensures.leaves s.kept (conts_branched s.kept o.kind) b.stored.holding may)
     (λ dev is. c.in_err-_number.ensures.full dev (ap Err is))))
 

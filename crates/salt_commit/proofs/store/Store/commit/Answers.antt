@@ -4,7 +4,6 @@ use Rattle.salt_commit.proofs.Standing.{unchanged_images}
 use Rattle.salt_commit.proofs.Undecided.{IsInHand}
 use Rattle.salt_commit.proofs.store.Store.commit.Goals as goal
 use Rattle.salt_bytes.specs.Coordinator.{Decides, spell_entry}
-use Rattle.salt_bytes.specs.Spellable.{Every}
 use Rattle.salt_commit.specs.Commits.{shares_in}
 use Rattle.salt_commit.specs.Shares.{mask_of, next_decision, shares_of}
 use Rattle.salt_commit.specs.Prepares.{AreSharesLast, applied_with_shares}
@@ -17,10 +16,8 @@ use Rattle.salt_decisions.specs.Decisions.{IsBeforeOrWith, IsDecisions, decided}
 use Rattle.salt_disk.proofs.CallAfterCall.{cause_on}
 use Rattle.salt_disk.specs.Disks.{EachImage, FullExactly, OnlyFails}
 use Rattle.salt_disk.specs.declared.disks.DiskErr.TheVariants.{Full, Memory}
-use Rattle.salt_codec.specs.Entries.{IsTold}
 use Rattle.salt_stands.specs.Commits.{found_after, found_of}
 use Rattle.salt_stands.specs.Coordinator.{device_of}
-use Rattle.salt_values.specs.declared.change.Change.{Change}
 use Rattle.std.proofs.Common.{Err, List, None, Some, ap, arith, inl, length, refl, subst, sym, ℕ, ◌+◌, ◌<◌, ◌^◌, ◌≡◌, ◌∙◌}
 use Rattle.std.proofs.lemmas.Result.{err_from_is_err_and}
 use Rattle.std.specs.Result.{result_err}
@@ -34,7 +31,7 @@ mask_of-mask-requires g c =
     let x = c.args.self.now in
     let d = g.D.Disks.view c.args.disks.now in
     let cs = c.args.changes.now in
-    let shared : c.deref.result.now ≡ shares_in x cs = c.deref.ensures.value ∙ c.in_ok-shares.ensures ∙ ap (λ s. shares_of s c.as_slice-2.result.now) c.shape-shape.ensures ∙ ap (shares_of (decisions.shape_of x.decisions)) c.as_slice-2.ensures in
+    let shared : c.deref.result.now ≡ shares_in x cs = c.deref.ensures.value ∙ c.in_ok-shares.ensures ∙ ap (λ s. shares_of s cs) c.shape-shape.ensures in
     let s = c.requires.stands in
     few_shares reading d x s.which s.c s.v s.is c.args.unit cs c.args.mv.now s.m s.conts s.may c.deref.result.now shared
 
@@ -43,7 +40,7 @@ prepare_all-requires-clause-size g c =
     let x = c.args.self.now in
     let d = g.D.Disks.view c.args.disks.now in
     let cs = c.args.changes.now in
-    let shared : c.deref-2.result.now ≡ shares_in x cs = c.deref-2.ensures.value ∙ c.in_ok-shares.ensures ∙ ap (λ s. shares_of s c.as_slice-2.result.now) c.shape-shape.ensures ∙ ap (shares_of (decisions.shape_of x.decisions)) c.as_slice-2.ensures in
+    let shared : c.deref-2.result.now ≡ shares_in x cs = c.deref-2.ensures.value ∙ c.in_ok-shares.ensures ∙ ap (λ s. shares_of s cs) c.shape-shape.ensures in
     let s = c.requires.stands in
     share_each reading d x s.which s.c s.v s.is c.args.unit cs c.args.mv.now s.m s.conts s.may c.deref-2.result.now shared
 
@@ -52,7 +49,7 @@ prepare_all-requires-clause-stand g c =
     let x = c.args.self.now in
     let d = g.D.Disks.view c.args.disks.now in
     let cs = c.args.changes.now in
-    let shared : c.deref-2.result.now ≡ shares_in x cs = c.deref-2.ensures.value ∙ c.in_ok-shares.ensures ∙ ap (λ s. shares_of s c.as_slice-2.result.now) c.shape-shape.ensures ∙ ap (shares_of (decisions.shape_of x.decisions)) c.as_slice-2.ensures in
+    let shared : c.deref-2.result.now ≡ shares_in x cs = c.deref-2.ensures.value ∙ c.in_ok-shares.ensures ∙ ap (λ s. shares_of s cs) c.shape-shape.ensures in
     let s = c.requires.stands in
     may_begin reading d x s.which s.c s.v s.is c.args.unit cs c.args.mv.now s.m s.conts s.may c.deref-2.result.now shared
 
@@ -61,8 +58,8 @@ returns-in_err-prepare_all-clause-images g c which co v m conts is may told aske
     let x = c.args.self.now in
     let d = g.D.Disks.view c.args.disks.now in
     let cs = c.args.changes.now in
-    let shared : c.deref-2.result.now ≡ shares_in x cs = c.deref-2.ensures.value ∙ c.in_ok-shares.ensures ∙ ap (λ s. shares_of s c.as_slice-2.result.now) c.shape-shape.ensures ∙ ap (shares_of (decisions.shape_of x.decisions)) c.as_slice-2.ensures in
-    let hand : IsInHand c.args.unit cs c.args.mv.now = record { unit = record { boot = omega arith; seq = omega arith }; count = omega (arith, ap (λ (l : List Change). length l) c.as_slice.ensures); move = omega arith; changes = subst (Every IsTold) c.as_slice.ensures c.told_changes.ensures } in
+    let shared : c.deref-2.result.now ≡ shares_in x cs = c.deref-2.ensures.value ∙ c.in_ok-shares.ensures ∙ ap (λ s. shares_of s cs) c.shape-shape.ensures in
+    let hand : IsInHand c.args.unit cs c.args.mv.now = record { unit = record { boot = omega arith; seq = omega arith }; count = omega arith; move = omega arith; changes = c.told_changes.ensures } in
     let below : last_decision x + 1 < 2 ^ 64 = omega (arith, c.requires.below) in
     inl (undecided_image reading d x which co v is c.args.unit cs c.args.mv.now m conts may c.deref-2.result.now shared hand below told (g.D.Disks.view c.prepare_all.new.disks) (result_err c.prepare_all.result) c.prepare_all.ensures.others c.prepare_all.ensures.images asked image left)
 
@@ -71,7 +68,7 @@ returns-in_err-prepare_all-clause-others g c =
     let x = c.args.self.now in
     let d = g.D.Disks.view c.args.disks.now in
     let cs = c.args.changes.now in
-    let shared : c.deref-2.result.now ≡ shares_in x cs = c.deref-2.ensures.value ∙ c.in_ok-shares.ensures ∙ ap (λ s. shares_of s c.as_slice-2.result.now) c.shape-shape.ensures ∙ ap (shares_of (decisions.shape_of x.decisions)) c.as_slice-2.ensures in
+    let shared : c.deref-2.result.now ≡ shares_in x cs = c.deref-2.ensures.value ∙ c.in_ok-shares.ensures ∙ ap (λ s. shares_of s cs) c.shape-shape.ensures in
     let p = err_from_is_err_and c.from_residual-in_err-prepare_all.result c.from_residual-in_err-prepare_all.ensures.1 in
     rw (answer_is c.from_residual-in_err-prepare_all.result p.0 c.in_err-prepare_all.field-0.0 p.1 p.2) (wider_shares x cs c.deref-2.result.now shared d (g.D.Disks.view c.prepare_all.new.disks) (Some c.in_err-prepare_all.field-0.0) c.in_err-prepare_all.ensures.others)
 
@@ -80,8 +77,8 @@ decide-requires-clause-log g c =
     let x = c.args.self.now in
     let d = g.D.Disks.view c.args.disks.now in
     let cs = c.args.changes.now in
-    let shared : c.deref-2.result.now ≡ shares_in x cs = c.deref-2.ensures.value ∙ c.in_ok-shares.ensures ∙ ap (λ s. shares_of s c.as_slice-2.result.now) c.shape-shape.ensures ∙ ap (shares_of (decisions.shape_of x.decisions)) c.as_slice-2.ensures in
-    let hand : IsInHand c.args.unit cs c.args.mv.now = record { unit = record { boot = omega arith; seq = omega arith }; count = omega (arith, ap (λ (l : List Change). length l) c.as_slice.ensures); move = omega arith; changes = subst (Every IsTold) c.as_slice.ensures c.told_changes.ensures } in
+    let shared : c.deref-2.result.now ≡ shares_in x cs = c.deref-2.ensures.value ∙ c.in_ok-shares.ensures ∙ ap (λ s. shares_of s cs) c.shape-shape.ensures in
+    let hand : IsInHand c.args.unit cs c.args.mv.now = record { unit = record { boot = omega arith; seq = omega arith }; count = omega arith; move = omega arith; changes = c.told_changes.ensures } in
     let below : last_decision x + 1 < 2 ^ 64 = omega (arith, c.requires.below) in
     let s = c.requires.stands in
     let b = g.D.Disks.view c.prepare_all.new.disks in
@@ -94,7 +91,7 @@ decide-requires-clause-bits g c =
     let x = c.args.self.now in
     let d = g.D.Disks.view c.args.disks.now in
     let cs = c.args.changes.now in
-    let shared : c.deref.result.now ≡ shares_in x cs = c.deref.ensures.value ∙ c.in_ok-shares.ensures ∙ ap (λ s. shares_of s c.as_slice-2.result.now) c.shape-shape.ensures ∙ ap (shares_of (decisions.shape_of x.decisions)) c.as_slice-2.ensures in
+    let shared : c.deref.result.now ≡ shares_in x cs = c.deref.ensures.value ∙ c.in_ok-shares.ensures ∙ ap (λ s. shares_of s cs) c.shape-shape.ensures in
     let s = c.requires.stands in
     ap (λ n. Rattle.std.specs.Prelude.nat_lt n (2 ^ (decisions.shape_of x.decisions).parts)) c.mask_of-mask.ensures.mask ∙ mask_within reading d x s.which s.c s.v s.is c.args.unit cs c.args.mv.now s.m s.conts s.may c.deref.result.now shared
 
@@ -103,8 +100,8 @@ returns-in_err-number-clause-images g c which co v m conts is may told asked ima
     let x = c.args.self.now in
     let d = g.D.Disks.view c.args.disks.now in
     let cs = c.args.changes.now in
-    let shared : c.deref-2.result.now ≡ shares_in x cs = c.deref-2.ensures.value ∙ c.in_ok-shares.ensures ∙ ap (λ s. shares_of s c.as_slice-2.result.now) c.shape-shape.ensures ∙ ap (shares_of (decisions.shape_of x.decisions)) c.as_slice-2.ensures in
-    let hand : IsInHand c.args.unit cs c.args.mv.now = record { unit = record { boot = omega arith; seq = omega arith }; count = omega (arith, ap (λ (l : List Change). length l) c.as_slice.ensures); move = omega arith; changes = subst (Every IsTold) c.as_slice.ensures c.told_changes.ensures } in
+    let shared : c.deref-2.result.now ≡ shares_in x cs = c.deref-2.ensures.value ∙ c.in_ok-shares.ensures ∙ ap (λ s. shares_of s cs) c.shape-shape.ensures in
+    let hand : IsInHand c.args.unit cs c.args.mv.now = record { unit = record { boot = omega arith; seq = omega arith }; count = omega arith; move = omega arith; changes = c.told_changes.ensures } in
     let below : last_decision x + 1 < 2 ^ 64 = omega (arith, c.requires.below) in
     let b = g.D.Disks.view c.prepare_all.new.disks in
     let y : Store = record { alloc = x.alloc; decisions = x.decisions; parts = c.prepare_all.new.parts } in
@@ -122,7 +119,7 @@ returns-in_err-number-clause-others g c =
     let x = c.args.self.now in
     let d = g.D.Disks.view c.args.disks.now in
     let cs = c.args.changes.now in
-    let shared : c.deref-2.result.now ≡ shares_in x cs = c.deref-2.ensures.value ∙ c.in_ok-shares.ensures ∙ ap (λ s. shares_of s c.as_slice-2.result.now) c.shape-shape.ensures ∙ ap (shares_of (decisions.shape_of x.decisions)) c.as_slice-2.ensures in
+    let shared : c.deref-2.result.now ≡ shares_in x cs = c.deref-2.ensures.value ∙ c.in_ok-shares.ensures ∙ ap (λ s. shares_of s cs) c.shape-shape.ensures in
     let p = err_from_is_err_and c.from_residual-in_err-number.result c.from_residual-in_err-number.ensures.1 in
     rw (answer_is c.from_residual-in_err-number.result p.0 c.in_err-number.field-0.0 p.1 p.2) (wider_decision x cs c.deref-2.result.now shared d (g.D.Disks.view c.prepare_all.new.disks) (g.D.Disks.view c.decide.new.disks) (Some c.in_err-number.field-0.0) c.in_ok-prepare_all.ensures.others c.in_err-number.ensures.others)
 
@@ -131,7 +128,7 @@ apply_all-requires-clause-size g c =
     let x = c.args.self.now in
     let d = g.D.Disks.view c.args.disks.now in
     let cs = c.args.changes.now in
-    let shared : c.deref-3.result.now ≡ shares_in x cs = c.deref-3.ensures.value ∙ c.in_ok-shares.ensures ∙ ap (λ s. shares_of s c.as_slice-2.result.now) c.shape-shape.ensures ∙ ap (shares_of (decisions.shape_of x.decisions)) c.as_slice-2.ensures in
+    let shared : c.deref-3.result.now ≡ shares_in x cs = c.deref-3.ensures.value ∙ c.in_ok-shares.ensures ∙ ap (λ s. shares_of s cs) c.shape-shape.ensures in
     let s = c.requires.stands in
     share_each reading d x s.which s.c s.v s.is c.args.unit cs c.args.mv.now s.m s.conts s.may c.deref-3.result.now shared ∙ sym c.in_ok-prepare_all.ensures.size
 
@@ -140,8 +137,8 @@ apply_all-requires-clause-stand g c =
     let x = c.args.self.now in
     let d = g.D.Disks.view c.args.disks.now in
     let cs = c.args.changes.now in
-    let shared : c.deref-2.result.now ≡ shares_in x cs = c.deref-2.ensures.value ∙ c.in_ok-shares.ensures ∙ ap (λ s. shares_of s c.as_slice-2.result.now) c.shape-shape.ensures ∙ ap (shares_of (decisions.shape_of x.decisions)) c.as_slice-2.ensures in
-    let hand : IsInHand c.args.unit cs c.args.mv.now = record { unit = record { boot = omega arith; seq = omega arith }; count = omega (arith, ap (λ (l : List Change). length l) c.as_slice.ensures); move = omega arith; changes = subst (Every IsTold) c.as_slice.ensures c.told_changes.ensures } in
+    let shared : c.deref-2.result.now ≡ shares_in x cs = c.deref-2.ensures.value ∙ c.in_ok-shares.ensures ∙ ap (λ s. shares_of s cs) c.shape-shape.ensures in
+    let hand : IsInHand c.args.unit cs c.args.mv.now = record { unit = record { boot = omega arith; seq = omega arith }; count = omega arith; move = omega arith; changes = c.told_changes.ensures } in
     let below : last_decision x + 1 < 2 ^ 64 = omega (arith, c.requires.below) in
     let s = c.requires.stands in
     let b = g.D.Disks.view c.prepare_all.new.disks in
@@ -155,8 +152,8 @@ returns-in_err-apply_all-clause-images g c which co v m conts is may told asked 
     let x = c.args.self.now in
     let d = g.D.Disks.view c.args.disks.now in
     let cs = c.args.changes.now in
-    let shared : c.deref-2.result.now ≡ shares_in x cs = c.deref-2.ensures.value ∙ c.in_ok-shares.ensures ∙ ap (λ s. shares_of s c.as_slice-2.result.now) c.shape-shape.ensures ∙ ap (shares_of (decisions.shape_of x.decisions)) c.as_slice-2.ensures in
-    let hand : IsInHand c.args.unit cs c.args.mv.now = record { unit = record { boot = omega arith; seq = omega arith }; count = omega (arith, ap (λ (l : List Change). length l) c.as_slice.ensures); move = omega arith; changes = subst (Every IsTold) c.as_slice.ensures c.told_changes.ensures } in
+    let shared : c.deref-2.result.now ≡ shares_in x cs = c.deref-2.ensures.value ∙ c.in_ok-shares.ensures ∙ ap (λ s. shares_of s cs) c.shape-shape.ensures in
+    let hand : IsInHand c.args.unit cs c.args.mv.now = record { unit = record { boot = omega arith; seq = omega arith }; count = omega arith; move = omega arith; changes = c.told_changes.ensures } in
     let below : last_decision x + 1 < 2 ^ 64 = omega (arith, c.requires.below) in
     let b = g.D.Disks.view c.prepare_all.new.disks in
     let y : Store = record { alloc = x.alloc; decisions = x.decisions; parts = c.prepare_all.new.parts } in
@@ -175,7 +172,7 @@ returns-in_err-apply_all-clause-others g c =
     let x = c.args.self.now in
     let d = g.D.Disks.view c.args.disks.now in
     let cs = c.args.changes.now in
-    let shared : c.deref-2.result.now ≡ shares_in x cs = c.deref-2.ensures.value ∙ c.in_ok-shares.ensures ∙ ap (λ s. shares_of s c.as_slice-2.result.now) c.shape-shape.ensures ∙ ap (shares_of (decisions.shape_of x.decisions)) c.as_slice-2.ensures in
+    let shared : c.deref-2.result.now ≡ shares_in x cs = c.deref-2.ensures.value ∙ c.in_ok-shares.ensures ∙ ap (λ s. shares_of s cs) c.shape-shape.ensures in
     let p = err_from_is_err_and c.from_residual-in_err-apply_all.result c.from_residual-in_err-apply_all.ensures.1 in
     rw (answer_is c.from_residual-in_err-apply_all.result p.0 c.in_err-apply_all.field-0.0 p.1 p.2) (wider_apply x cs c.deref-2.result.now shared d (g.D.Disks.view c.prepare_all.new.disks) (g.D.Disks.view c.decide.new.disks) (g.D.Disks.view c.apply_all.new.disks) (Some c.in_err-apply_all.field-0.0) c.in_ok-prepare_all.ensures.others c.in_ok-number.ensures.others c.in_err-apply_all.ensures.kept)
 
@@ -184,7 +181,7 @@ returns-clause-others g c =
     let x = c.args.self.now in
     let d = g.D.Disks.view c.args.disks.now in
     let cs = c.args.changes.now in
-    let shared : c.deref-2.result.now ≡ shares_in x cs = c.deref-2.ensures.value ∙ c.in_ok-shares.ensures ∙ ap (λ s. shares_of s c.as_slice-2.result.now) c.shape-shape.ensures ∙ ap (shares_of (decisions.shape_of x.decisions)) c.as_slice-2.ensures in
+    let shared : c.deref-2.result.now ≡ shares_in x cs = c.deref-2.ensures.value ∙ c.in_ok-shares.ensures ∙ ap (λ s. shares_of s cs) c.shape-shape.ensures in
     wider_apply x cs c.deref-2.result.now shared d (g.D.Disks.view c.prepare_all.new.disks) (g.D.Disks.view c.decide.new.disks) (g.D.Disks.view c.apply_all.new.disks) None c.in_ok-prepare_all.ensures.others c.in_ok-number.ensures.others c.in_ok-apply_all.ensures.kept
 
 pub returns-clause-ok : goal.returns-clause-ok
@@ -192,8 +189,8 @@ returns-clause-ok g c which co v m conts is may =
     let x = c.args.self.now in
     let d = g.D.Disks.view c.args.disks.now in
     let cs = c.args.changes.now in
-    let shared : c.deref-2.result.now ≡ shares_in x cs = c.deref-2.ensures.value ∙ c.in_ok-shares.ensures ∙ ap (λ s. shares_of s c.as_slice-2.result.now) c.shape-shape.ensures ∙ ap (shares_of (decisions.shape_of x.decisions)) c.as_slice-2.ensures in
-    let hand : IsInHand c.args.unit cs c.args.mv.now = record { unit = record { boot = omega arith; seq = omega arith }; count = omega (arith, ap (λ (l : List Change). length l) c.as_slice.ensures); move = omega arith; changes = subst (Every IsTold) c.as_slice.ensures c.told_changes.ensures } in
+    let shared : c.deref-2.result.now ≡ shares_in x cs = c.deref-2.ensures.value ∙ c.in_ok-shares.ensures ∙ ap (λ s. shares_of s cs) c.shape-shape.ensures in
+    let hand : IsInHand c.args.unit cs c.args.mv.now = record { unit = record { boot = omega arith; seq = omega arith }; count = omega arith; move = omega arith; changes = c.told_changes.ensures } in
     let below : last_decision x + 1 < 2 ^ 64 = omega (arith, c.requires.below) in
     let b = g.D.Disks.view c.prepare_all.new.disks in
     let y : Store = record { alloc = x.alloc; decisions = x.decisions; parts = c.prepare_all.new.parts } in
@@ -214,8 +211,8 @@ returns-clause-images g c which co v m conts is may told asked image left =
     let x = c.args.self.now in
     let d = g.D.Disks.view c.args.disks.now in
     let cs = c.args.changes.now in
-    let shared : c.deref-2.result.now ≡ shares_in x cs = c.deref-2.ensures.value ∙ c.in_ok-shares.ensures ∙ ap (λ s. shares_of s c.as_slice-2.result.now) c.shape-shape.ensures ∙ ap (shares_of (decisions.shape_of x.decisions)) c.as_slice-2.ensures in
-    let hand : IsInHand c.args.unit cs c.args.mv.now = record { unit = record { boot = omega arith; seq = omega arith }; count = omega (arith, ap (λ (l : List Change). length l) c.as_slice.ensures); move = omega arith; changes = subst (Every IsTold) c.as_slice.ensures c.told_changes.ensures } in
+    let shared : c.deref-2.result.now ≡ shares_in x cs = c.deref-2.ensures.value ∙ c.in_ok-shares.ensures ∙ ap (λ s. shares_of s cs) c.shape-shape.ensures in
+    let hand : IsInHand c.args.unit cs c.args.mv.now = record { unit = record { boot = omega arith; seq = omega arith }; count = omega arith; move = omega arith; changes = c.told_changes.ensures } in
     let below : last_decision x + 1 < 2 ^ 64 = omega (arith, c.requires.below) in
     let b = g.D.Disks.view c.prepare_all.new.disks in
     let y : Store = record { alloc = x.alloc; decisions = x.decisions; parts = c.prepare_all.new.parts } in
@@ -238,8 +235,8 @@ returns-in_err-prepare_all-clause-pages g c which co v m conts is may told image
     let x = c.args.self.now in
     let d = g.D.Disks.view c.args.disks.now in
     let cs = c.args.changes.now in
-    let shared : c.deref-2.result.now ≡ shares_in x cs = c.deref-2.ensures.value ∙ c.in_ok-shares.ensures ∙ ap (λ s. shares_of s c.as_slice-2.result.now) c.shape-shape.ensures ∙ ap (shares_of (decisions.shape_of x.decisions)) c.as_slice-2.ensures in
-    let hand : IsInHand c.args.unit cs c.args.mv.now = record { unit = record { boot = omega arith; seq = omega arith }; count = omega (arith, ap (λ (l : List Change). length l) c.as_slice.ensures); move = omega arith; changes = subst (Every IsTold) c.as_slice.ensures c.told_changes.ensures } in
+    let shared : c.deref-2.result.now ≡ shares_in x cs = c.deref-2.ensures.value ∙ c.in_ok-shares.ensures ∙ ap (λ s. shares_of s cs) c.shape-shape.ensures in
+    let hand : IsInHand c.args.unit cs c.args.mv.now = record { unit = record { boot = omega arith; seq = omega arith }; count = omega arith; move = omega arith; changes = c.told_changes.ensures } in
     let below : last_decision x + 1 < 2 ^ 64 = omega (arith, c.requires.below) in
     unnamed reading d x which co v is c.args.unit cs c.args.mv.now m conts may c.deref-2.result.now shared hand below told (g.D.Disks.view c.prepare_all.new.disks) (g.D.Disks.view c.prepare_all.new.disks) (result_err c.prepare_all.result) c.prepare_all.ensures.others c.prepare_all.ensures.images
     c.prepare_all.ensures.others.shape.count (λ k past b there. there) image left p dev low names
@@ -249,8 +246,8 @@ returns-in_err-number-clause-pages g c which co v m conts is may told image left
     let x = c.args.self.now in
     let d = g.D.Disks.view c.args.disks.now in
     let cs = c.args.changes.now in
-    let shared : c.deref-2.result.now ≡ shares_in x cs = c.deref-2.ensures.value ∙ c.in_ok-shares.ensures ∙ ap (λ s. shares_of s c.as_slice-2.result.now) c.shape-shape.ensures ∙ ap (shares_of (decisions.shape_of x.decisions)) c.as_slice-2.ensures in
-    let hand : IsInHand c.args.unit cs c.args.mv.now = record { unit = record { boot = omega arith; seq = omega arith }; count = omega (arith, ap (λ (l : List Change). length l) c.as_slice.ensures); move = omega arith; changes = subst (Every IsTold) c.as_slice.ensures c.told_changes.ensures } in
+    let shared : c.deref-2.result.now ≡ shares_in x cs = c.deref-2.ensures.value ∙ c.in_ok-shares.ensures ∙ ap (λ s. shares_of s cs) c.shape-shape.ensures in
+    let hand : IsInHand c.args.unit cs c.args.mv.now = record { unit = record { boot = omega arith; seq = omega arith }; count = omega arith; move = omega arith; changes = c.told_changes.ensures } in
     let below : last_decision x + 1 < 2 ^ 64 = omega (arith, c.requires.below) in
     unnamed reading d x which co v is c.args.unit cs c.args.mv.now m conts may c.deref-2.result.now shared hand below told (g.D.Disks.view c.prepare_all.new.disks) (g.D.Disks.view c.decide.new.disks) (result_err c.prepare_all.result) c.prepare_all.ensures.others c.prepare_all.ensures.images
     (c.decide.ensures.others.shape.count ∙ c.prepare_all.ensures.others.shape.count) (λ k past. c.decide.ensures.others.images k (past_decisions which k _ is.decisions.counting.device past)) image left p dev low names
@@ -260,8 +257,8 @@ returns-in_err-apply_all-clause-pages g c which co v m conts is may told image l
     let x = c.args.self.now in
     let d = g.D.Disks.view c.args.disks.now in
     let cs = c.args.changes.now in
-    let shared : c.deref-2.result.now ≡ shares_in x cs = c.deref-2.ensures.value ∙ c.in_ok-shares.ensures ∙ ap (λ s. shares_of s c.as_slice-2.result.now) c.shape-shape.ensures ∙ ap (shares_of (decisions.shape_of x.decisions)) c.as_slice-2.ensures in
-    let hand : IsInHand c.args.unit cs c.args.mv.now = record { unit = record { boot = omega arith; seq = omega arith }; count = omega (arith, ap (λ (l : List Change). length l) c.as_slice.ensures); move = omega arith; changes = subst (Every IsTold) c.as_slice.ensures c.told_changes.ensures } in
+    let shared : c.deref-2.result.now ≡ shares_in x cs = c.deref-2.ensures.value ∙ c.in_ok-shares.ensures ∙ ap (λ s. shares_of s cs) c.shape-shape.ensures in
+    let hand : IsInHand c.args.unit cs c.args.mv.now = record { unit = record { boot = omega arith; seq = omega arith }; count = omega arith; move = omega arith; changes = c.told_changes.ensures } in
     let below : last_decision x + 1 < 2 ^ 64 = omega (arith, c.requires.below) in
     unnamed reading d x which co v is c.args.unit cs c.args.mv.now m conts may c.deref-2.result.now shared hand below told (g.D.Disks.view c.prepare_all.new.disks) (g.D.Disks.view c.apply_all.new.disks) (result_err c.prepare_all.result) c.prepare_all.ensures.others c.prepare_all.ensures.images
     (c.apply_all.ensures.kept.shape.count ∙ c.decide.ensures.others.shape.count ∙ c.prepare_all.ensures.others.shape.count) (λ k past b there. c.decide.ensures.others.images k (past_decisions which k _ is.decisions.counting.device past) b (c.apply_all.ensures.kept.images k (λ none. none) b there)) image left p dev low names
@@ -271,8 +268,8 @@ returns-clause-pages g c which co v m conts is may told image left p dev low nam
     let x = c.args.self.now in
     let d = g.D.Disks.view c.args.disks.now in
     let cs = c.args.changes.now in
-    let shared : c.deref-2.result.now ≡ shares_in x cs = c.deref-2.ensures.value ∙ c.in_ok-shares.ensures ∙ ap (λ s. shares_of s c.as_slice-2.result.now) c.shape-shape.ensures ∙ ap (shares_of (decisions.shape_of x.decisions)) c.as_slice-2.ensures in
-    let hand : IsInHand c.args.unit cs c.args.mv.now = record { unit = record { boot = omega arith; seq = omega arith }; count = omega (arith, ap (λ (l : List Change). length l) c.as_slice.ensures); move = omega arith; changes = subst (Every IsTold) c.as_slice.ensures c.told_changes.ensures } in
+    let shared : c.deref-2.result.now ≡ shares_in x cs = c.deref-2.ensures.value ∙ c.in_ok-shares.ensures ∙ ap (λ s. shares_of s cs) c.shape-shape.ensures in
+    let hand : IsInHand c.args.unit cs c.args.mv.now = record { unit = record { boot = omega arith; seq = omega arith }; count = omega arith; move = omega arith; changes = c.told_changes.ensures } in
     let below : last_decision x + 1 < 2 ^ 64 = omega (arith, c.requires.below) in
     unnamed reading d x which co v is c.args.unit cs c.args.mv.now m conts may c.deref-2.result.now shared hand below told (g.D.Disks.view c.prepare_all.new.disks) (g.D.Disks.view c.apply_all.new.disks) (result_err c.prepare_all.result) c.prepare_all.ensures.others c.prepare_all.ensures.images
     (c.apply_all.ensures.kept.shape.count ∙ c.decide.ensures.others.shape.count ∙ c.prepare_all.ensures.others.shape.count) (λ k past b there. c.decide.ensures.others.images k (past_decisions which k _ is.decisions.counting.device past) b (c.apply_all.ensures.kept.images k (λ none. none) b there)) image left p dev low names
