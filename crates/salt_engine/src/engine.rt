@@ -20,6 +20,7 @@ use salt_schema::Schema;
 use salt_storage::Numbers;
 use sqlite_items::Items;
 use std::alloc::{AllocError, Global};
+use std::mem;
 
 /// An engine over a storage, that serves lines: a half of it chooses in memory what comes next, and what is decided or read is asked
 /// of the storage. It is made behind an opening, in which the programs that were accepted have been finished, or named. After a halt it is
@@ -140,7 +141,13 @@ impl<S: Drop> Engine<S> {
     pub fn flight(self) -> Option<Flight>
         ensures { result ≡ flight_of self.in_flight }
     {
-        let Engine { in_flight, .. } = self;
+        let Engine {
+            in_flight,
+            storage,
+            ..
+        } = self;
+        // a run ends so, and its process: the rows in memory need not be let go one by one
+        mem::forget(storage);
         flight_of(in_flight)
     }
 }
