@@ -67,17 +67,28 @@ fn one_spot(alloc: Global, lock: &Lock) -> Result<Vec<Spot>, AllocError>
     Ok(spots)
 }
 
+/// The spots behind those that are listed; the list itself where there is none yet.
+fn behind(listed: Option<Vec<Spot>>, mut spots: Vec<Spot>) -> Result<Vec<Spot>, AllocError>
+    ensures { IfOk result (λ all. all.items ≡ spots_in listed ++ spots.items) }
+{
+    match listed {
+        Some(mut listed) => {
+            listed.append(&mut spots)?;
+            Ok(listed)
+        }
+        None => Ok(spots),
+    }
+}
+
 /// Lists more spots at a name, behind those that are listed there.
 fn list_more(
-    alloc: Global,
     lists: &mut BTreeMap<Id, Vec<Spot>>,
     name: Id,
-    mut spots: Vec<Spot>,
+    spots: Vec<Spot>,
 ) -> Result<(), AllocError>
     ensures { OnOk result ((b : Id) → spots_in (get id_cmp lists.new b) ≡ (if is_same_id b name then spots_in (get id_cmp lists.old b) ++ spots.items else spots_in (get id_cmp lists.old b))) }
 {
-    let mut listed = unless_none(alloc, lists.remove(&name));
-    listed.append(&mut spots)?;
+    let listed = behind(lists.remove(&name), spots)?;
     lists.insert(name, listed)?;
     Ok(())
 }
@@ -118,8 +129,8 @@ impl Spots {
     {
         let spots = one_spot(self.alloc, lock)?;
         match lock.owner {
-            Owner::Unit(unit) => list_more(self.alloc, &mut self.units, unit, spots),
-            Owner::Base(base) => list_more(self.alloc, &mut self.bases, base, spots),
+            Owner::Unit(unit) => list_more(&mut self.units, unit, spots),
+            Owner::Base(base) => list_more(&mut self.bases, base, spots),
         }
     }
 
@@ -157,7 +168,7 @@ impl Spots {
         ensures { (ls : List Lock) → AreSpotted self.old ls → AreSpotted self.new (map (salted_lock unit base) ls) }
     {
         let spots = self.take(Owner::Unit(unit));
-        match list_more(self.alloc, &mut self.bases, base, spots) {
+        match list_more(&mut self.bases, base, spots) {
             Ok(_) => {}
             Err(_) => self.whole = false,
         }
