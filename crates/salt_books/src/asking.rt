@@ -1,6 +1,7 @@
 //! What an open unit asks for.
 
 ghost use Rattle.law_states.specs.OpenUnits.{UnitState};
+ghost use Rattle.std.specs.Option.{option_copied};
 ghost use Rattle.std.specs.Prelude.{IfOk, ◌≡◌};
 
 use crate::books::Books;
@@ -9,7 +10,7 @@ use salt_ast::{Line, Statement};
 use salt_model::{Family, Reach};
 use salt_values::{Id, TryCopy};
 use sqlite_items::Boxed;
-use std::alloc::AllocError;
+use std::alloc::{AllocError, Global};
 
 /// An open unit's next statement, and what that would reach.
 #[derive(Drop)]
@@ -19,7 +20,37 @@ pub struct Asking {
     pub base: Option<Id>,
     pub family: Family,
     pub statement: Boxed<Statement>,
-    pub reach: Option<Reach>,
+    pub reach: Option<Boxed<Reach>>,
+}
+
+/// A reach in a box, since what is asked is moved from hand to hand.
+fn boxed(alloc: Global, reach: Option<Reach>) -> Result<Option<Boxed<Reach>>, AllocError>
+    ensures { IfOk result (λ made. made ≡ reach) }
+{
+    match reach {
+        Some(reach) => Ok(Some(Boxed::new(alloc, reach)?)),
+        None => Ok(None),
+    }
+}
+
+/// A reach out of its box.
+pub fn unboxed(reach: Option<Boxed<Reach>>) -> Option<Reach>
+    ensures { result ≡ reach }
+{
+    match reach {
+        Some(reach) => Some(reach.into_inner()),
+        None => None,
+    }
+}
+
+/// A reach in its box.
+pub fn lent(reach: &Option<Boxed<Reach>>) -> Option<&Reach>
+    ensures { option_copied result ≡ reach.now }
+{
+    match reach {
+        Some(reach) => Some(reach.get()),
+        None => None,
+    }
 }
 
 impl Books {
@@ -41,7 +72,7 @@ impl Books {
             base: program_of(&held.kind),
             family: family_of(&held.kind),
             statement: Boxed::new(self.alloc, statement.copy(self.alloc)?)?,
-            reach: self.reach(held, statement)?,
+            reach: boxed(self.alloc, self.reach(held, statement)?)?,
         }))
     }
 }

@@ -22,7 +22,7 @@ mod tables;
 mod texts;
 mod turns;
 
-pub use asking::Asking;
+pub use asking::{Asking, lent, unboxed};
 pub use bindings::{values_kept, vars_at_call, vars_at_cont};
 pub use books::Books;
 pub use called::CalledNames;

@@ -53,7 +53,7 @@ pub(crate) fn load<S: Storage, D: Disks, F: Fn(PlaceKind, &Key, u32) -> u32>(
     storage.stands(disks);
     match &asking.reach {
         Some(reach) => {
-            let rows = storage.load(disks, place, books.known().schema(), reach)?;
+            let rows = storage.load(disks, place, books.known().schema(), reach.get())?;
             // For the proof alone: the count's contract says that the keys of rows rise.
             let _count = rows.len();
             Ok(rows)

@@ -20,7 +20,7 @@ use crate::follow::{Follow, opens_alone};
 use crate::kinds::{copy_kind, copy_statement, is_statement_line};
 use crate::scheduler::Scheduler;
 use salt_ast::Line;
-use salt_books::{Asking, Coming, cause_of};
+use salt_books::{Asking, Coming, cause_of, lent, unboxed};
 use salt_conflicts::Waiter;
 use salt_eval::Tables;
 use salt_model::{Event, Owners, UnitKind};
@@ -62,7 +62,7 @@ impl Scheduler {
             reach,
         } = asking;
         let answer = self.books.act(unit, rows, &statement)?;
-        let more = self.watch.did(unit, base, family, reach.as_ref())?;
+        let more = self.watch.did(unit, base, family, lent(&reach))?;
         self.calm = is_calm_behind(self.calm, !more, &self.watch);
         self.follow = Follow::Done {
             unit,
@@ -94,7 +94,7 @@ impl Scheduler {
             unit,
             base,
             family,
-            reach,
+            reach: unboxed(reach),
         })?;
         self.follow = Follow::Nothing;
         Ok(Event::Waits { unit, owners })
@@ -109,7 +109,7 @@ impl Scheduler {
         let Some(asking) = self.books.asking(line, unit)? else {
             return Ok(Coming::Nothing);
         };
-        let reach = asking.reach.as_ref();
+        let reach = lent(&asking.reach);
         if self.watch.holds(unit, asking.family, reach) {
             return Ok(Coming::Act(asking));
         }

@@ -5,25 +5,25 @@ use Rattle.salt_engine.proofs.Loading.{may-load, rows-keyed, rows-loaded, unload
 use Rattle.salt_engine.proofs.deciding.load.Goals as goal
 use Rattle.salt_books.specs.declared.known.Known.{Known}
 use Rattle.salt_storage.proofs.Staying.{stays-same}
-use Rattle.std.proofs.Common.{ap, ◌∙◌}
-use Rattle.std.specs.Prelude.{Err}
+use Rattle.std.proofs.Common.{ap, sym, ◌∙◌}
+use Rattle.std.specs.Prelude.{Err, Some}
 
 pub load-requires-clause-reach : goal.load-requires-clause-reach
 load-requires-clause-reach g c =
     let view = g.D.Disks.view c.args.disks.now in
-    may-load (g.S.Storage.holds view c.args.storage.now) (g.S.Storage.is_new view c.args.storage.now) c.args.books.now c.args.asking.now c.requires.ready.0 c.requires.ready.1 c.in-Some.reach
-    c.requires.ready.2 c.requires.ready.3 c.in-Some.is c.schema.result.now (c.schema.ensures ∙ ap (λ (x : Known). x.schema) c.known.ensures)
+    may-load (g.S.Storage.holds view c.args.storage.now) (g.S.Storage.is_new view c.args.storage.now) c.args.books.now c.args.asking.now c.requires.ready.0 c.requires.ready.1 c.get.result.now
+    c.requires.ready.2 c.requires.ready.3 (c.in-Some.is ∙ ap Some (sym c.get.ensures)) c.schema.result.now (c.schema.ensures ∙ ap (λ (x : Known). x.schema) c.known.ensures)
 
 pub returns-in_ok-rows-in-Some-clause-rows : goal.returns-in_ok-rows-in-Some-clause-rows
 returns-in_ok-rows-in-Some-clause-rows g c = λ s stored.
-    rows-loaded c.args.asking.now.reach c.in-Some.reach c.in_ok-rows-in-Some.rows s.kept.tables c.in-Some.is c.len-count.ensures.ordered
+    rows-loaded c.args.asking.now.reach c.get.result.now c.in_ok-rows-in-Some.rows s.kept.tables (c.in-Some.is ∙ ap Some (sym c.get.ensures)) c.len-count.ensures.ordered
     (c.in_ok-rows-in-Some.ensures.rows s.kept stored.holding)
 
 pub returns-in_ok-rows-in-Some-clause-keyed : goal.returns-in_ok-rows-in-Some-clause-keyed
 returns-in_ok-rows-in-Some-clause-keyed g c =
     let k = c.requires.ready.0.kept in
     let holding = c.requires.ready.2.stored.holding in
-    rows-keyed k c.in-Some.reach c.in_ok-rows-in-Some.rows (c.stands.ensures.sound k holding) c.len-count.ensures.ordered (c.in_ok-rows-in-Some.ensures.rows k holding)
+    rows-keyed k c.get.result.now c.in_ok-rows-in-Some.rows (c.stands.ensures.sound k holding) c.len-count.ensures.ordered (c.in_ok-rows-in-Some.ensures.rows k holding)
 
 pub returns-in_ok-rows-in-Some-clause-stored : goal.returns-in_ok-rows-in-Some-clause-stored
 returns-in_ok-rows-in-Some-clause-stored g c = λ s stored.
@@ -33,7 +33,7 @@ pub returns-in_err-rows-in-Some-clause-undone : goal.returns-in_err-rows-in-Some
 returns-in_err-rows-in-Some-clause-undone g c =
     let view = g.D.Disks.view c.args.disks.now in
     by-err _ c.from_residual.result _ c.from_residual.ensures.1 (λ s o b asked.
-    unloaded (g.S.Storage.holds view c.args.storage.now) (g.S.Storage.is_new view c.args.storage.now) c.args.books.now c.args.asking.now s o c.in-Some.reach b asked c.in-Some.is
+    unloaded (g.S.Storage.holds view c.args.storage.now) (g.S.Storage.is_new view c.args.storage.now) c.args.books.now c.args.asking.now s o c.get.result.now b asked (c.in-Some.is ∙ ap Some (sym c.get.ensures))
     _ _ _ (c.in_err-rows-in-Some.ensures.leaves s.kept b.stored.holding) (λ dev is. c.in_err-rows-in-Some.ensures.full dev (ap Err is)))
 
 pub returns-in_ok-rows-in-Some-clause-within : goal.returns-in_ok-rows-in-Some-clause-within

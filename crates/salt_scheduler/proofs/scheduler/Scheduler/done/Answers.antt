@@ -16,7 +16,7 @@ returns c = λ s o stands sound asked loaded.
     let rises = rising s sound in
     let within = subst (λ (r : Option Reach). AreLoaded r (tables_of c.args.rows.now.entries) s.units.kept.tables) asked.reach loaded in
     let base = did-base s.units c.args.asking c.in_ok-answer.answer o asked in
-    let reach = did-reach s.units c.args.asking c.in_ok-answer.answer o asked ∙ sym c.as_ref.ensures.value in
+    let reach = did-reach s.units c.args.asking c.in_ok-answer.answer o asked ∙ sym c.lent.ensures in
     let facts = facts_in s.units (Did c.args.asking.unit c.args.asking.statement c.in_ok-answer.answer) in
     act-gives c.args.self.now _ c.args.asking c.in_ok-answer.answer (not c.in_ok-more.more) s o _ stands asked refl
     (c.in_ok-answer.ensures.answer s.units o stands.books rises asked.named within)

@@ -21,7 +21,7 @@ returns-then-holds c = λ s r stands serves.
     let a = c.in-Some.asking in
     let asked = asked-at s.units c.args.unit c.in_ok-asking.field-0 a c.in-Some.is (c.in_ok-asking.ensures s.units stands.books serves.line) in
     let none = none-clash s (Unit c.args.unit) a.family _ serves.sound (λ is. never-saline (Some (asked.1.0).kind) (sym asked.1.1.family ∙ is)) (c.holds.ensures c.if-holds.true s.watch stands.watch) in
-    let clash = clashes-told s c.args.unit a asked.1.0 [] _ (asked-name s.units c.args.unit a asked) asked.1.1 c.as_ref-reach.ensures.value none in
+    let clash = clashes-told s c.args.unit a asked.1.0 [] _ (asked-name s.units c.args.unit a asked) asked.1.1 c.lent-reach.ensures none in
     act-brings c.args.self.now s a asked.1.0 _ stands asked.1.1
     (turn-asked s.units (clash_by s) c.args.unit asked.1.0 a.statement [] (asked-name s.units c.args.unit a asked) asked.1.1.asks clash
     ∙ ap Some (asks-does s.units asked.1.0 a.statement [] refl))
@@ -30,7 +30,7 @@ pub returns-then-is_empty : goal.returns-then-is_empty
 returns-then-is_empty c = λ s r stands serves.
     let a = c.in-Some.asking in
     let asked = asked-at s.units c.args.unit c.in_ok-asking.field-0 a c.in-Some.is (c.in_ok-asking.ensures s.units stands.books serves.line) in
-    let clash = clashes-told s c.args.unit a asked.1.0 c.in_ok-owners.owners _ (asked-name s.units c.args.unit a asked) asked.1.1 c.as_ref-reach.ensures.value (c.in_ok-owners.ensures s.watch stands.watch) in
+    let clash = clashes-told s c.args.unit a asked.1.0 c.in_ok-owners.owners _ (asked-name s.units c.args.unit a asked) asked.1.1 c.lent-reach.ensures (c.in_ok-owners.ensures s.watch stands.watch) in
     act-brings c.args.self.now s a asked.1.0 _ stands asked.1.1
     (turn-asked s.units (clash_by s) c.args.unit asked.1.0 a.statement c.in_ok-owners.owners (asked-name s.units c.args.unit a asked) asked.1.1.asks clash
     ∙ ap Some (asks-does s.units asked.1.0 a.statement c.in_ok-owners.owners (c.if-is_empty.ensures.0 refl)))
@@ -39,7 +39,7 @@ pub returns-in_ok-wait : goal.returns-in_ok-wait
 returns-in_ok-wait c = λ s r stands serves.
     let a = c.in-Some.asking in
     let asked = asked-at s.units c.args.unit c.in_ok-asking.field-0 a c.in-Some.is (c.in_ok-asking.ensures s.units stands.books serves.line) in
-    let clash = clashes-told s c.args.unit a asked.1.0 c.in_ok-owners.owners _ (asked-name s.units c.args.unit a asked) asked.1.1 c.as_ref-reach.ensures.value (c.in_ok-owners.ensures s.watch stands.watch) in
+    let clash = clashes-told s c.args.unit a asked.1.0 c.in_ok-owners.owners _ (asked-name s.units c.args.unit a asked) asked.1.1 c.lent-reach.ensures (c.in_ok-owners.ensures s.watch stands.watch) in
     brings-same s _ _ _ _
     (turn-asked s.units (clash_by s) c.args.unit asked.1.0 a.statement c.in_ok-owners.owners (asked-name s.units c.args.unit a asked) asked.1.1.asks clash
     ∙ ap Some (asks-waits s.units a.unit asked.1.0 a.statement c.in_ok-owners.owners asked.1.1.named (λ none. never-true (c.if-is_empty.ensures.1 none))))
