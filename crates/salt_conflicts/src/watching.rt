@@ -39,6 +39,7 @@ use salt_model::{Family, Items, Owner, Owners, Reach};
 use salt_values::{Change, Id, Ids, next_number};
 use salt_waits::victim;
 use std::alloc::{AllocError, Global};
+use std::collections::VecDeque;
 
 /// The locks that are held and how many were taken, the waiting units, the longest first, the accepted programs that are not
 /// released, in order of their names, and who wrote, read and has finished. A call that wants memory may leave it anywhere.
@@ -86,10 +87,11 @@ fn hand_over(locks: &mut LockTable, unit: Id, base: Option<Id>)
 }
 
 /// A unit of the program, or an ACID one, that commits has changed these places.
-fn wrote(deps: &mut Deps, base: Option<Id>, changes: &[Change]) -> Result<(), AllocError>
-    ensures { OnOk result (WroteAll base (map place_of changes.now) (dependencies deps.old) (dependencies deps.new)) }
+fn wrote(deps: &mut Deps, base: Option<Id>, changes: &VecDeque<Change>) -> Result<(), AllocError>
+    ensures { OnOk result (WroteAll base (map place_of changes.now.items) (dependencies deps.old) (dependencies deps.new)) }
 {
-    for change in changes {
+    for at in 0..changes.len() {
+        let change = &changes[at];
         deps.wrote(base, change.table, &change.key)?;
     }
     Ok(())
@@ -211,10 +213,10 @@ impl Watching {
         &mut self,
         unit: Id,
         base: Option<Id>,
-        changes: &[Change],
+        changes: &VecDeque<Change>,
     ) -> Result<(), AllocError>
         ensures { OnOk result ((w : Watch) (f : UnitFacts) (n : ℕ) → IsWatch self.old w → base_by f ≡ base →
-            map (λ e. e.0) f.changes ≡ map place_of changes.now → GoesBy f (Ended unit (Committed n)) w self.new) }
+            map (λ e. e.0) f.changes ≡ map place_of changes.now.items → GoesBy f (Ended unit (Committed n)) w self.new) }
     {
         leave(&mut self.waits, unit);
         hand_over(&mut self.locks, unit, base);

@@ -15,6 +15,7 @@ ghost use Rattle.salt_storage.specs.Answers.{disk_err};
 ghost use Rattle.salt_storage.specs.Staying.{StaysWithin};
 ghost use Rattle.salt_place.specs.Placement.{GivesPlaceOf, TakesEachKey};
 ghost use Rattle.salt_values.specs.declared.id.Id.{Id};
+ghost use Rattle.std.specs.Cow.{cow_slice_items};
 ghost use Rattle.std.specs.Prelude.{IfErr, IfOk, OnOk, Some, map, ◌≡◌};
 ghost use Rattle.salt_stands.specs.Turning.{change_at};
 
@@ -26,7 +27,8 @@ use salt_eval::Tables;
 use salt_place::{PlaceKind, Placement};
 use salt_storage::{Halt, Storage};
 use salt_values::{Change, Id, Key};
-use std::alloc::Global;
+use std::alloc::{AllocError, Global};
+use std::borrow::CowSlice;
 
 /// The rows in the reach of the statement that a unit is to do; none where it reaches nothing.
 pub(crate) fn load<S: Storage, D: Disks, F: Fn(PlaceKind, &Key, u32) -> u32>(
@@ -62,18 +64,23 @@ pub(crate) fn load<S: Storage, D: Disks, F: Fn(PlaceKind, &Key, u32) -> u32>(
     }
 }
 
-/// The changes of an open unit.
-fn changes_of(books: &Books, unit: Id) -> &[Change]
-    ensures { (s : UnitState) (o : OpenUnit) → AreBooks books.now s → unit_named unit s.units ≡ Some o → result.now ≡ map change_at o.changes }
+/// The changes of an open unit, lent where they stand in one piece.
+fn changes_of(
+    alloc: Global,
+    books: &Books,
+    unit: Id,
+) -> Result<CowSlice<'_, Change, Global>, AllocError>
+    ensures { IfOk result (λ changes. (s : UnitState) (o : OpenUnit) → AreBooks books.now s → unit_named unit s.units ≡ Some o → cow_slice_items changes ≡ map change_at o.changes) }
 {
     match books.unit_named(unit) {
-        Some(held) => held.open.changes(),
-        None => &[],
+        Some(held) => held.open.lent_changes(alloc),
+        None => Ok(CowSlice::Borrowed(&[])),
     }
 }
 
 /// Decides the commit of a unit. The move of its program.
 pub(crate) fn decide_commit<S: Storage, D: Disks, F: Fn(PlaceKind, &Key, u32) -> u32>(
+    alloc: Global,
     storage: &mut S,
     disks: &mut D,
     place: &Placement<F>,
@@ -93,8 +100,8 @@ pub(crate) fn decide_commit<S: Storage, D: Disks, F: Fn(PlaceKind, &Key, u32) ->
     decided_ends_may_be_kept();
     storage.stands(disks);
     let made = books.move_of_commit(unit)?;
-    let changes = changes_of(books, unit);
-    let _number = storage.commit(disks, place, unit, changes, &made)?;
+    let changes = changes_of(alloc, books, unit)?;
+    let _number = storage.commit(disks, place, unit, changes.as_slice(), &made)?;
     Ok(made)
 }
 

@@ -79,7 +79,7 @@ pub fn provide<S: Storage, D: Disks, F: Fn(PlaceKind, &Key, u32) -> u32>(
         }
         Coming::Commit(unit) => {
             *in_flight = Some(InFlight::Commit(unit));
-            let made = decide_commit(storage, disks, place, books, unit)?;
+            let made = decide_commit(alloc, storage, disks, place, books, unit)?;
             Ok(Given::Committed { unit, made })
         }
         Coming::Branch { unit, base, cause } => {

@@ -15,6 +15,7 @@ use salt_model::{Answer, Vars};
 use salt_schema::Schema;
 use salt_values::{Change, Changes};
 use std::alloc::Global;
+use std::collections::VecDeque;
 
 fn execute_over<V: RowView>(
     alloc: Global,
@@ -23,8 +24,8 @@ fn execute_over<V: RowView>(
     vars: &Vars,
     statement: &Statement,
 ) -> Result<(Answer, Changes), ViewErr>
-    requires { IsKeyed (with_edits (edits_of overlay.old.changes.now) (V.tables overlay.old.view.now)) }
-    ensures done { IfOk result (λ effect. IsEffect effect (outcome_of schema.now (with_edits (edits_of overlay.old.changes.now) (V.tables overlay.old.view.now)) vars.now statement.now)) }
+    requires { IsKeyed (with_edits (edits_of overlay.old.changes.now.items) (V.tables overlay.old.view.now)) }
+    ensures done { IfOk result (λ effect. IsEffect effect (outcome_of schema.now (with_edits (edits_of overlay.old.changes.now.items) (V.tables overlay.old.view.now)) vars.now statement.now)) }
     ensures same_reference { overlay.new.view.ghost_name ≡ overlay.old.view.ghost_name }
     ensures kept { V.tables overlay.new.view.now ≡ V.tables overlay.old.view.now }
     ensures source { V.shown_from overlay.new.view.now ≡ V.shown_from overlay.old.view.now }
@@ -37,15 +38,15 @@ fn execute_over<V: RowView>(
 pub fn execute_under<V: RowView>(
     alloc: Global,
     view: &mut V,
-    changes: &[Change],
+    changes: &VecDeque<Change>,
     schema: &Schema,
     vars: &Vars,
     statement: &Statement,
 ) -> Result<(Answer, Changes), ViewErr>
-    requires in_order { AreInOrder (edits_of changes.now) }
-    requires have_keys { HaveTheirKeys (edits_of changes.now) }
+    requires in_order { AreInOrder (edits_of changes.now.items) }
+    requires have_keys { HaveTheirKeys (edits_of changes.now.items) }
     requires keyed { IsKeyed (V.tables view.old) }
-    ensures done { IfOk result (λ effect. IsEffect effect (outcome_of schema.now (with_edits (edits_of changes.now) (V.tables view.old)) vars.now statement.now)) }
+    ensures done { IfOk result (λ effect. IsEffect effect (outcome_of schema.now (with_edits (edits_of changes.now.items) (V.tables view.old)) vars.now statement.now)) }
     ensures kept { V.tables view.new ≡ V.tables view.old }
     ensures source { V.shown_from view.new ≡ V.shown_from view.old }
     ensures faults { CountsFaults (V.faults view.old) (V.faults view.new) result }

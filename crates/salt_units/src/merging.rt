@@ -11,6 +11,7 @@ use salt_eval::{RowView, ViewErr};
 use salt_ranges::KeyRange;
 use salt_values::{Change, Key, Row, TryCopy};
 use std::alloc::{AllocError, Global};
+use std::collections::VecDeque;
 
 fn copy_key(alloc: Global, key: Option<&Key>) -> Result<Option<Key>, AllocError>
     ensures { IfOk result (λ made. made ≡ option_copied key.entry) }
@@ -27,14 +28,14 @@ fn copy_key(alloc: Global, key: Option<&Key>) -> Result<Option<Key>, AllocError>
 pub fn next_under<V: RowView>(
     alloc: Global,
     view: &mut V,
-    changes: &[Change],
+    changes: &VecDeque<Change>,
     table: u16,
     range: &KeyRange,
     after: Option<&Key>,
 ) -> Result<Option<Row>, ViewErr>
-    requires in_order { AreInOrder (edits_of changes.now) }
+    requires in_order { AreInOrder (edits_of changes.now.items) }
     requires keyed { IsKeyed (V.tables view.old) }
-    ensures row { IfOk result (λ row. row ≡ next_row table range.now (option_copied after.entry) (with_edits (edits_of changes.now) (V.tables view.old))) }
+    ensures row { IfOk result (λ row. row ≡ next_row table range.now (option_copied after.entry) (with_edits (edits_of changes.now.items) (V.tables view.old))) }
     ensures kept { V.tables view.new ≡ V.tables view.old }
     ensures source { V.shown_from view.new ≡ V.shown_from view.old }
     ensures faults { CountsFaults (V.faults view.old) (V.faults view.new) result }

@@ -14,6 +14,7 @@ use salt_eval::{RowView, ViewErr};
 use salt_ranges::KeyRange;
 use salt_values::{Change, Key, Row};
 use std::alloc::Global;
+use std::collections::VecDeque;
 
 /// Shows the rows of a view with changes made in them. The changes are in order of their places, one a place, and each row of
 /// the view stands at the place of its key. It has the faults of the view.
@@ -21,13 +22,13 @@ use std::alloc::Global;
 pub struct Overlay<'a, 'b, V: RowView> {
     pub alloc: Global,
     pub view: &'a mut V,
-    pub changes: &'b [Change],
-    ghost in_order: { AreInOrder (edits_of changes.now) },
+    pub changes: &'b VecDeque<Change>,
+    ghost in_order: { AreInOrder (edits_of changes.now.items) },
     ghost keyed: { (p : Place) → ForSome (row_at p (V.tables view.now)) (λ row. key_of row ≡ p.key) },
 }
 
 impl<'a, 'b, V: RowView> RowView for Overlay<'a, 'b, V> {
-    ghost tables = { λ o. with_edits (edits_of o.changes.now) (V.tables o.view.now) };
+    ghost tables = { λ o. with_edits (edits_of o.changes.now.items) (V.tables o.view.now) };
 
     ghost Source = { GName × Tables × V.Source };
 

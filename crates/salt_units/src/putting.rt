@@ -1,22 +1,24 @@
 //! Changes put into changes that are in order of their places.
 
-ghost use Rattle.std.specs.Prelude.{◌≡◌, ◌<◌, ◌≤◌, ◌+◌, IfOk, IsOk, OnErr, OnOk, length, reverse, vec_capacity, vec_len};
+ghost use Rattle.std.specs.Prelude.{◌≡◌, ◌<◌, ◌≤◌, ◌+◌, IfOk, IsOk, OnErr, OnOk, length, reverse, vec_len};
 ghost use Rattle.law_states.specs.Overlays.{AreInOrder, edits_of, put_all};
+ghost use Rattle.std.specs.VecDeque.{deque_capacity, deque_len};
 ghost use Rattle.salt_units.specs.Putting.{put_change, put_each};
 
 use crate::edits::{count_before, is_change_at};
 use salt_values::{Change, Changes};
 use std::alloc::{AllocError, Global};
+use std::collections::VecDeque;
 
 /// Puts a change in its place, and in the place of one that is there. With room it succeeds; an error leaves the changes.
-fn put_change(changes: &mut Vec<Change>, change: Change) -> Result<(), AllocError>
+fn put_change(changes: &mut VecDeque<Change>, change: Change) -> Result<(), AllocError>
     requires { AreInOrder (edits_of changes.old.items) }
     ensures put { OnOk result (changes.new.items ≡ put_change change changes.old.items) }
     ensures in_order { OnOk result (AreInOrder (edits_of changes.new.items)) }
     ensures err { OnErr result (changes.new.items ≡ changes.old.items) }
-    ensures room { vec_len changes.old < vec_capacity changes.old → IsOk result }
-    ensures capacity { vec_capacity changes.old ≤ vec_capacity changes.new }
-    ensures len { vec_len changes.new ≤ vec_len changes.old + 1 }
+    ensures room { deque_len changes.old < deque_capacity changes.old → IsOk result }
+    ensures capacity { deque_capacity changes.old ≤ deque_capacity changes.new }
+    ensures len { deque_len changes.new ≤ deque_len changes.old + 1 }
 {
     let at = count_before(changes, change.table, &change.key);
     if at < changes.len() && is_change_at(&changes[at], change.table, &change.key) {
@@ -39,9 +41,9 @@ fn reversed(alloc: Global, mut changes: Changes) -> Result<Vec<Change>, AllocErr
 }
 
 /// Puts changes that wait from the last to the first. There has to be room for each.
-fn put_waiting(changes: &mut Vec<Change>, mut waiting: Vec<Change>)
+fn put_waiting(changes: &mut VecDeque<Change>, mut waiting: Vec<Change>)
     requires in_order { AreInOrder (edits_of changes.old.items) }
-    requires room { vec_len changes.old + vec_len waiting ≤ vec_capacity changes.old }
+    requires room { deque_len changes.old + vec_len waiting ≤ deque_capacity changes.old }
     ensures { changes.new.items ≡ put_each (reverse waiting.items) changes.old.items }
 {
     while let Some(change) = waiting.pop() {
@@ -52,7 +54,7 @@ fn put_waiting(changes: &mut Vec<Change>, mut waiting: Vec<Change>)
 }
 
 /// Puts one change, or none. An error leaves those that there are.
-fn put_one(changes: &mut Vec<Change>, mut new: Changes) -> Result<(), AllocError>
+fn put_one(changes: &mut VecDeque<Change>, mut new: Changes) -> Result<(), AllocError>
     requires in_order { AreInOrder (edits_of changes.old.items) }
     requires few { length new < 2 }
     ensures put { OnOk result (edits_of changes.new.items ≡ put_all new (edits_of changes.old.items)) }
@@ -66,7 +68,11 @@ fn put_one(changes: &mut Vec<Change>, mut new: Changes) -> Result<(), AllocError
 
 /// Puts changes into changes in order, one after another; those put may be in any order, and repeat places. An error leaves
 /// those that there are.
-pub fn put_changes(alloc: Global, changes: &mut Vec<Change>, new: Changes) -> Result<(), AllocError>
+pub fn put_changes(
+    alloc: Global,
+    changes: &mut VecDeque<Change>,
+    new: Changes,
+) -> Result<(), AllocError>
     requires { AreInOrder (edits_of changes.old.items) }
     ensures put { OnOk result (edits_of changes.new.items ≡ put_all new (edits_of changes.old.items)) }
     ensures err { OnErr result (changes.new.items ≡ changes.old.items) }

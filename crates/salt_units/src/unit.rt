@@ -1,5 +1,6 @@
 //! An open unit.
 
+ghost use Rattle.std.specs.Cow.{cow_slice_items};
 ghost use Rattle.std.specs.Prelude.{◌≡◌, [], IfOk, OnErr, true};
 ghost use Rattle.salt_eval.specs.Scans.{IsKeyed};
 ghost use Rattle.salt_eval.specs.Views.{CountsFaults};
@@ -9,6 +10,7 @@ ghost use Rattle.salt_model.specs.Statements.{outcome_of};
 ghost use Rattle.salt_units.specs.Acting.{HasDone, HaveTheirKeys, leaves_keys};
 
 use crate::acting::execute_under;
+use crate::edits::in_one_piece;
 use crate::putting::put_changes;
 use crate::storing::{store, stored_by};
 use salt_ast::Statement;
@@ -17,6 +19,8 @@ use salt_model::{Answer, Reach, Vars};
 use salt_schema::Schema;
 use salt_values::{Change, Id};
 use std::alloc::{AllocError, Global};
+use std::borrow::CowSlice;
+use std::collections::VecDeque;
 
 /// A unit that runs or waits: its name, its variables, and its changes, one a place, in order of their places. Each row that
 /// a change puts has the change's key.
@@ -24,7 +28,7 @@ use std::alloc::{AllocError, Global};
 pub struct OpenUnit {
     pub unit: Id,
     pub vars: Vars,
-    pub changes: Vec<Change>,
+    pub changes: VecDeque<Change>,
     ghost in_order: { AreInOrder (edits_of changes.items) },
     ghost have_keys: { HaveTheirKeys (edits_of changes.items) },
 }
@@ -39,7 +43,7 @@ impl OpenUnit {
         OpenUnit {
             unit,
             vars,
-            changes: Vec::new(alloc),
+            changes: VecDeque::new(alloc),
         }
     }
 
@@ -58,16 +62,23 @@ impl OpenUnit {
     }
 
     /// Its changes, one a place, in order of their places.
-    pub fn changes(&self) -> &[Change]
-        ensures changes { result.now ≡ self.now.changes.items }
-        ensures in_order { AreInOrder (edits_of result.now) }
-        ensures have_keys { HaveTheirKeys (edits_of result.now) }
+    pub fn changes(&self) -> &VecDeque<Change>
+        ensures changes { result.now.items ≡ self.now.changes.items }
+        ensures in_order { AreInOrder (edits_of result.now.items) }
+        ensures have_keys { HaveTheirKeys (edits_of result.now.items) }
     {
-        self.changes.as_slice()
+        &self.changes
+    }
+
+    /// Its changes, lent where they stand in one piece.
+    pub fn lent_changes(&self, alloc: Global) -> Result<CowSlice<'_, Change, Global>, AllocError>
+        ensures { IfOk result (λ lent. cow_slice_items lent ≡ self.now.changes.items) }
+    {
+        in_one_piece(alloc, &self.changes)
     }
 
     /// Its changes, one a place, in order of their places.
-    pub fn into_changes(self) -> Vec<Change>
+    pub fn into_changes(self) -> VecDeque<Change>
         ensures changes { result.items ≡ self.changes.items }
         ensures in_order { AreInOrder (edits_of result.items) }
         ensures have_keys { HaveTheirKeys (edits_of result.items) }
@@ -108,7 +119,7 @@ impl OpenUnit {
         ensures source { V.shown_from view.new ≡ V.shown_from view.old }
         ensures faults { CountsFaults (V.faults view.old) (V.faults view.new) result }
     {
-        let changes = self.changes.as_slice();
+        let changes = &self.changes;
         let (answer, changes) = execute_under(alloc, view, changes, schema, &self.vars, statement)?;
         let stored = stored_by(alloc, statement, &answer)?;
         put_changes(alloc, &mut self.changes, changes)?;

@@ -14,13 +14,13 @@ use salt_units::{Overlay, put_changes, rows_stay_at_their_keys};
 use salt_values::Change;
 use sqlite_items::Items;
 use std::alloc::{AllocError, Global};
-use std::collections::BTreeMap;
+use std::collections::{BTreeMap, VecDeque};
 
 /// The rows that commits have made: what they changed of no rows, one a place, in order of their places. Each row that a change
 /// puts has the change's key.
 #[derive(Drop)]
 pub struct Rows {
-    pub changes: Vec<Change>,
+    pub changes: VecDeque<Change>,
     ghost in_order: { AreInOrder (edits_of changes.items) },
     ghost have_keys: { HaveTheirKeys (edits_of changes.items) },
 }
@@ -38,18 +38,22 @@ impl Rows {
         ensures { tables_made result ≡ no_rows }
     {
         Rows {
-            changes: Vec::new(alloc),
+            changes: VecDeque::new(alloc),
         }
     }
 
     /// Makes the changes of a unit that commits, in their order. An `AllocError` leaves the rows as they were.
-    pub fn commit(&mut self, alloc: Global, changes: Vec<Change>) -> Result<(), AllocError>
+    pub fn commit(&mut self, alloc: Global, changes: VecDeque<Change>) -> Result<(), AllocError>
         requires { HaveTheirKeys (edits_of changes.items) }
         ensures { OnOk result (tables_made self.new ≡ with_edits (edits_of changes.items) (tables_made self.old)) }
     {
         rows_stay_at_their_keys();
         edits_make_the_tables();
-        put_changes(alloc, &mut self.changes, Items::from_vec(changes))
+        put_changes(
+            alloc,
+            &mut self.changes,
+            Items::from_vec(changes.into_vec()),
+        )
     }
 
     /// What doing statements again on these rows gives.
@@ -68,7 +72,7 @@ impl Rows {
         let mut overlay = Overlay {
             alloc,
             view: &mut view,
-            changes: self.changes.as_slice(),
+            changes: &self.changes,
         };
         do_again(alloc, schema, &mut overlay, vars, done)
     }

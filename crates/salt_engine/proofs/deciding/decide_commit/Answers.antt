@@ -7,7 +7,7 @@ use Rattle.salt_engine.proofs.deciding.decide_commit.Goals as goal
 use Rattle.law_states.specs.Told.{next_decision}
 use Rattle.salt_model.specs.Kept.{conts_committed}
 use Rattle.salt_storage.proofs.Staying.{stays-same}
-use Rattle.std.proofs.Common.{ap}
+use Rattle.std.proofs.Common.{ap, ◌∙◌}
 use Rattle.std.specs.Prelude.{Err}
 
 pub move_of_commit-requires : goal.move_of_commit-requires
@@ -28,8 +28,8 @@ commit-requires-clause-may g c =
       b.stored.holding,
       (
         conts_committed s.kept (next_decision s) o.kind o.vars,
-        commit-may holds is_new x s o c.args.unit c.stands.ensures.sound named b c.decided_ends_may_be_kept.ensures.commit c.changes_of-changes.result.now c.in_ok-made.made
-            (c.changes_of-changes.ensures s o b.books named) moves,
+        commit-may holds is_new x s o c.args.unit c.stands.ensures.sound named b c.decided_ends_may_be_kept.ensures.commit c.as_slice.result.now c.in_ok-made.made
+            (c.as_slice.ensures.value ∙ c.in_ok-changes.ensures s o b.books named) moves,
       ),
     )
 
@@ -44,8 +44,8 @@ commit-requires-clause-new g c =
     let b = c.requires.ready.2 in
     let named = c.requires.ready.3 in
     let moves = commit-moves holds is_new x s o c.args.unit c.stands.ensures.sound named b c.in_ok-made.made c.in_ok-made.ensures in
-    commit-new holds is_new x s o c.args.unit c.stands.ensures.sound named b c.decided_ends_may_be_kept.ensures.commit c.changes_of-changes.result.now c.in_ok-made.made
-    (c.changes_of-changes.ensures s o b.books named) moves
+    commit-new holds is_new x s o c.args.unit c.stands.ensures.sound named b c.decided_ends_may_be_kept.ensures.commit c.as_slice.result.now c.in_ok-made.made
+    (c.as_slice.ensures.value ∙ c.in_ok-changes.ensures s o b.books named) moves
 
 pub returns-in_err-made-clause-undone : goal.returns-in_err-made-clause-undone
 returns-in_err-made-clause-undone g c =
@@ -58,10 +58,14 @@ returns-clause-committed g c = λ s o b named.
     let is_new = g.S.Storage.is_new view c.args.storage.now in
     let x = c.args.books.now in
     let moves = commit-moves holds is_new x s o c.args.unit c.stands.ensures.sound named b c.in_ok-made.made c.in_ok-made.ensures in
-    let are = c.changes_of-changes.ensures s o b.books named in
-    let may = commit-may holds is_new x s o c.args.unit c.stands.ensures.sound named b c.decided_ends_may_be_kept.ensures.commit c.changes_of-changes.result.now c.in_ok-made.made are moves in
-    commit-done holds is_new x s o c.args.unit c.stands.ensures.sound named b c.decided_ends_may_be_kept.ensures.commit c.changes_of-changes.result.now c.in_ok-made.made are moves _ _
+    let are = c.as_slice.ensures.value ∙ c.in_ok-changes.ensures s o b.books named in
+    let may = commit-may holds is_new x s o c.args.unit c.stands.ensures.sound named b c.decided_ends_may_be_kept.ensures.commit c.as_slice.result.now c.in_ok-made.made are moves in
+    commit-done holds is_new x s o c.args.unit c.stands.ensures.sound named b c.decided_ends_may_be_kept.ensures.commit c.as_slice.result.now c.in_ok-made.made are moves _ _
     (c.in_ok-_number.ensures.holds s.kept (conts_committed s.kept (next_decision s) o.kind o.vars) b.stored.holding may) c.in_ok-_number.ensures.is_new
+
+pub returns-in_err-changes-clause-undone : goal.returns-in_err-changes-clause-undone
+returns-in_err-changes-clause-undone g c =
+    by-err _ c.from_residual-in_err-changes.result _ c.from_residual-in_err-changes.ensures.1 (λ s o b named. undone-before _ _ s _ (c.stands.ensures.stays s.kept b.stored.holding))
 
 pub returns-in_err-_number-clause-undone : goal.returns-in_err-_number-clause-undone
 returns-in_err-_number-clause-undone g c =
@@ -73,9 +77,9 @@ returns-in_err-_number-clause-undone g c =
     let law = c.decided_ends_may_be_kept.ensures.commit in
     let sound = c.stands.ensures.sound in
     let moves = commit-moves holds is_new x s o c.args.unit sound named b c.in_ok-made.made c.in_ok-made.ensures in
-    let are = c.changes_of-changes.ensures s o b.books named in
-    let may = commit-may holds is_new x s o c.args.unit sound named b law c.changes_of-changes.result.now c.in_ok-made.made are moves in
-    commit-undone holds is_new x s o c.args.unit sound named b law c.changes_of-changes.result.now c.in_ok-made.made are moves _ _ _
+    let are = c.as_slice.ensures.value ∙ c.in_ok-changes.ensures s o b.books named in
+    let may = commit-may holds is_new x s o c.args.unit sound named b law c.as_slice.result.now c.in_ok-made.made are moves in
+    commit-undone holds is_new x s o c.args.unit sound named b law c.as_slice.result.now c.in_ok-made.made are moves _ _ _
     (c.in_err-_number.ensures.leaves s.kept (conts_committed s.kept (next_decision s) o.kind o.vars) b.stored.holding may)
     (λ dev is. c.in_err-_number.ensures.full dev (ap Err is)))
 
@@ -87,6 +91,15 @@ returns-in_err-made-clause-within g c = stays-same _ (g.D.Disks.view c.args.disk
 
 pub returns-in_err-made-clause-cause : goal.returns-in_err-made-clause-cause
 returns-in_err-made-clause-cause g c = cause-broken _ _ c.from_residual.result _ c.from_residual.ensures.1 (cause-lost _ _ (same-cause (g.D.Disks.view c.args.disks.now)))
+
+pub returns-in_err-changes-clause-committed : goal.returns-in_err-changes-clause-committed
+returns-in_err-changes-clause-committed g c = not-ok _ _ c.from_residual-in_err-changes.result c.from_residual-in_err-changes.ensures.1
+
+pub returns-in_err-changes-clause-within : goal.returns-in_err-changes-clause-within
+returns-in_err-changes-clause-within g c = stays-same _ (g.D.Disks.view c.args.disks.now)
+
+pub returns-in_err-changes-clause-cause : goal.returns-in_err-changes-clause-cause
+returns-in_err-changes-clause-cause g c = cause-broken _ _ c.from_residual-in_err-changes.result _ c.from_residual-in_err-changes.ensures.1 (cause-lost _ _ (same-cause (g.D.Disks.view c.args.disks.now)))
 
 pub returns-in_err-_number-clause-committed : goal.returns-in_err-_number-clause-committed
 returns-in_err-_number-clause-committed g c = not-ok _ _ c.from_residual-in_err-_number.result c.from_residual-in_err-_number.ensures.1

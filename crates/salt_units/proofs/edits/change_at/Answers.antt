@@ -9,14 +9,14 @@ use Rattle.std.specs.Option.{option_copied}
 pub returns-then-is_change_at : goal.returns-then-is_change_at
 returns-then-is_change_at c =
     let q = place c.args.table c.args.key.now in
-    sym (found-here (is_before q) (is_there q) (before-apart q) c.args.changes.now c.count_before.result c.count_before.ensures.counted c.count_before.ensures.bound c.in-Some.change.now (sym c.at.ensures ∙ ap option_copied c.in-Some.is) (sym c.is_change_at.ensures ∙ c.if-is_change_at.true))
+    sym (found-here (is_before q) (is_there q) (before-apart q) c.args.changes.now.items c.count_before.result c.count_before.ensures.counted c.count_before.ensures.bound c.in-Some.change.now (sym c.at.ensures ∙ ap option_copied c.in-Some.is) (sym c.is_change_at.ensures ∙ c.if-is_change_at.true))
 
 pub returns-else-is_change_at : goal.returns-else-is_change_at
 returns-else-is_change_at c =
     let q = place c.args.table c.args.key.now in
-    sym (found-past (is_before q) (is_there q) (before-apart q) c.args.changes.now c.count_before.result c.count_before.ensures.counted c.count_before.ensures.bound (before-over q) c.in-Some.change.now c.requires (sym c.at.ensures ∙ ap option_copied c.in-Some.is) (sym c.is_change_at.ensures ∙ c.if-is_change_at.false))
+    sym (found-past (is_before q) (is_there q) (before-apart q) c.args.changes.now.items c.count_before.result c.count_before.ensures.counted c.count_before.ensures.bound (before-over q) c.in-Some.change.now c.requires (sym c.at.ensures ∙ ap option_copied c.in-Some.is) (sym c.is_change_at.ensures ∙ c.if-is_change_at.false))
 
 pub returns-in-None : goal.returns-in-None
 returns-in-None c =
     let q = place c.args.table c.args.key.now in
-    sym (found-none (is_before q) (is_there q) (before-apart q) c.args.changes.now c.count_before.result c.count_before.ensures.counted c.count_before.ensures.bound (sym c.at.ensures ∙ ap option_copied c.in-None.is))
+    sym (found-none (is_before q) (is_there q) (before-apart q) c.args.changes.now.items c.count_before.result c.count_before.ensures.counted c.count_before.ensures.bound (sym c.at.ensures ∙ ap option_copied c.in-None.is))

@@ -9,4 +9,4 @@ use Rattle.std.proofs.lemmas.List.Sorted.{IsPartitionPoint-from_clause}
 pub returns-clause-counted : goal.returns-clause-counted
 returns-clause-counted c =
     let q = place c.args.table c.args.key.now in
-    IsPartitionPoint-from_clause (λ x. is_before q (changed_at x)) _ _ c.partition_point.ensures.partitioned (parted-by (is_before q) (before-ends q) c.args.changes.now c.requires) (λ a r f k. search rules)
+    IsPartitionPoint-from_clause (λ x. is_before q (changed_at x)) _ _ c.partition_point.ensures.partitioned (parted-by (is_before q) (before-ends q) c.args.changes.now.items c.requires) (λ a r f k. search rules)

@@ -14,7 +14,7 @@ pub loop-change-smaller : goal.loop-change-smaller
 loop-change-smaller g c =
     let t = c.args.table in
     let range = c.args.range.now in
-    let cs = c.args.changes.now in
+    let cs = c.args.changes.now.items in
     let from = c.loop-change.from in
     let found : find (is_next_change t range from) cs ≡ Some c.in-Some.change.now =
     ap (λ o. find (is_next_change t range o) cs) (sym c.as_ref.ensures.value) ∙ sym c.next_change.ensures ∙ ap option_copied c.in-Some.is in
@@ -24,7 +24,7 @@ pub loop-change-smaller-in_ok-copy-2 : goal.loop-change-smaller-in_ok-copy-2
 loop-change-smaller-in_ok-copy-2 g c =
     let t = c.args.table in
     let range = c.args.range.now in
-    let cs = c.args.changes.now in
+    let cs = c.args.changes.now.items in
     let from = c.loop-change.from in
     let found : find (is_next_change t range from) cs ≡ Some c.in-Some.change.now =
     ap (λ o. find (is_next_change t range o) cs) (sym c.as_ref.ensures.value) ∙ sym c.next_change.ensures ∙ ap option_copied c.in-Some.is in
@@ -34,7 +34,7 @@ pub loop-change-preserved : goal.loop-change-preserved
 loop-change-preserved g c =
     let t = c.args.table in
     let range = c.args.range.now in
-    let cs = c.args.changes.now in
+    let cs = c.args.changes.now.items in
     let es = g.V.RowView.tables c.args.view.now in
     let from = c.loop-change.from in
     let found : find (is_next_change t range from) cs ≡ Some c.in-Some.change.now =
@@ -56,7 +56,7 @@ pub loop-change-preserved-in_ok-copy-2 : goal.loop-change-preserved-in_ok-copy-2
 loop-change-preserved-in_ok-copy-2 g c =
     let t = c.args.table in
     let range = c.args.range.now in
-    let cs = c.args.changes.now in
+    let cs = c.args.changes.now.items in
     let es = g.V.RowView.tables c.args.view.now in
     let from = c.loop-change.from in
     let found : find (is_next_change t range from) cs ≡ Some c.in-Some.change.now =
@@ -78,7 +78,7 @@ pub returns-then-is_sooner-clause-row : goal.returns-then-is_sooner-clause-row
 returns-then-is_sooner-clause-row g c =
     let t = c.args.table in
     let range = c.args.range.now in
-    let cs = c.args.changes.now in
+    let cs = c.args.changes.now.items in
     let es = g.V.RowView.tables c.args.view.now in
     let from = c.loop-change.from in
     let found : find (is_next_change t range from) cs ≡ Some c.in-Some.change.now =
@@ -95,7 +95,7 @@ pub returns-in-Some-row-clause-row : goal.returns-in-Some-row-clause-row
 returns-in-Some-row-clause-row g c =
     let t = c.args.table in
     let range = c.args.range.now in
-    let cs = c.args.changes.now in
+    let cs = c.args.changes.now.items in
     let es = g.V.RowView.tables c.args.view.now in
     let from = c.loop-change.from in
     let found : find (is_next_change t range from) cs ≡ Some c.in-Some.change.now =
@@ -112,7 +112,7 @@ pub returns-clause-row : goal.returns-clause-row
 returns-clause-row g c =
     let t = c.args.table in
     let range = c.args.range.now in
-    let cs = c.args.changes.now in
+    let cs = c.args.changes.now.items in
     let es = g.V.RowView.tables c.args.view.now in
     let from = c.loop-change.from in
     let none : find (is_next_change t range from) cs ≡ None =

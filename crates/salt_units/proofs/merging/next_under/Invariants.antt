@@ -10,8 +10,8 @@ invariant-loop-change g l = record {
   kept : g.V.RowView.tables l.view ≡ g.V.RowView.tables l.initial.view;
   source : g.V.RowView.shown_from l.view ≡ g.V.RowView.shown_from l.initial.view;
   faults : g.V.RowView.faults l.view ≡ g.V.RowView.faults l.initial.view;
-  rest : next_row l.table l.range l.from (with_edits (edits_of l.changes) (g.V.RowView.tables l.initial.view)) ≡ next_row l.table l.range l.initial.from (with_edits (edits_of l.changes) (g.V.RowView.tables l.initial.view));
+  rest : next_row l.table l.range l.from (with_edits (edits_of l.changes.items) (g.V.RowView.tables l.initial.view)) ≡ next_row l.table l.range l.initial.from (with_edits (edits_of l.changes.items) (g.V.RowView.tables l.initial.view));
 }
 
 abbrev pub decreases-loop-change : goal.decreases-loop-change
-decreases-loop-change g l = length (filter (is_next_change l.table l.range l.from) l.changes)
+decreases-loop-change g l = length (filter (is_next_change l.table l.range l.from) l.changes.items)

@@ -1,6 +1,4 @@
-use Rattle.salt_eval.specs.Effects.{IsEffect}
 use Rattle.law_states.specs.Overlays.{AreInOrder, Edit, edits_of, put_all, with_edits}
-use Rattle.salt_model.specs.Statements.{outcome_of}
 use Rattle.salt_model.specs.Words.{Every}
 use Rattle.salt_model.specs.declared.vars.Binding.{Binding}
 use Rattle.salt_units.proofs.Keeping.{statements-keep}
@@ -16,7 +14,7 @@ pub returns-clause-done : goal.returns-clause-done
 returns-clause-done g c =
     let ds = edits_of c.args.self.now.changes.items in
     let es = with_edits ds (g.V.RowView.tables c.args.view.now) in
-    let effect = subst (λ (l : List Change). IsEffect (c.in_ok-answer.answer, c.in_ok-answer.changes) (outcome_of c.args.schema.now (with_edits (edits_of l) (g.V.RowView.tables c.args.view.now)) c.args.self.now.vars c.args.statement.now)) c.as_slice-changes.ensures.value c.in_ok-answer.ensures.done in
+    let effect = c.in_ok-answer.ensures.done in
     record {
       answers = effect.answer;
       edits = c.in_ok-put_changes.ensures.put ∙ ap (λ (cs : List Change). put_all cs ds) effect.changes;
@@ -35,7 +33,7 @@ pub invariant_of-self-2-clause-have_keys : goal.invariant_of-self-2-clause-have_
 invariant_of-self-2-clause-have_keys g c =
     let ds = edits_of c.args.self.now.changes.items in
     let es = with_edits ds (g.V.RowView.tables c.args.view.now) in
-    let effect = subst (λ (l : List Change). IsEffect (c.in_ok-answer.answer, c.in_ok-answer.changes) (outcome_of c.args.schema.now (with_edits (edits_of l) (g.V.RowView.tables c.args.view.now)) c.args.self.now.vars c.args.statement.now)) c.as_slice-changes.ensures.value c.in_ok-answer.ensures.done in
+    let effect = c.in_ok-answer.ensures.done in
     let keyed = keyed-under ds (g.V.RowView.tables c.args.view.now) c.args.self.now.in_order c.args.self.now.have_keys c.requires.keyed in
     let each = statements-keep c.args.schema.now es c.args.self.now.vars c.args.statement.now c.requires.leaves_keys keyed in
     subst (λ (l : List Edit). HaveTheirKeys l) (sym c.in_ok-put_changes.ensures.put)

@@ -12,7 +12,7 @@ invariant_of-self c =
     let cs = c.from_vec.result in
     let keys = c.rows_stay_at_their_keys.ensures.edits c.args.changes.items (edits_of old) (keys_each c.args.changes.items c.requires) c.args.self.now.have_keys in
     let after = kept_after c.put_changes.result cs old c.put_changes.new.changes.items c.put_changes.ensures.put c.put_changes.ensures.err c.args.self.now.in_order c.args.self.now.have_keys
-    (subst (λ (l : List Change). HaveTheirKeys (put_all l (edits_of old))) (sym c.from_vec.ensures) keys) in
+    (subst (λ (l : List Change). HaveTheirKeys (put_all l (edits_of old))) (sym (c.from_vec.ensures ∙ c.into_vec.ensures.items)) keys) in
     record { in_order = after.0; have_keys = after.1 }
 
 pub returns : goal.returns
@@ -23,5 +23,5 @@ returns c =
     (λ put. ap (λ (ds : List Edit). with_edits ds no_rows) put
     ∙ sym (make_all laws no_rows c.from_vec.result (edits_of old) c.args.self.now.in_order)
     ∙ changed_as c.from_vec.result (with_edits (edits_of old) no_rows)
-    ∙ ap (λ (l : List Change). with_edits (edits_of l) (with_edits (edits_of old) no_rows)) c.from_vec.ensures)
+    ∙ ap (λ (l : List Change). with_edits (edits_of l) (with_edits (edits_of old) no_rows)) (c.from_vec.ensures ∙ c.into_vec.ensures.items))
     c.put_changes.ensures.put
