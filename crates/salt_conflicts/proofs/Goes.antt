@@ -44,7 +44,7 @@ use Rattle.std.specs.Prelude.{Bool, IsTrue, List, None, Option, Some, [], cond, 
 -- of any call: what it makes of each part
 pub goes : (d : Dependencies) (old x : Watching) (w : Watch) (f : UnitFacts) (e : Event) → IsWatchBeside d old w →
     SameMembers x.locks (table_by f old.taken e old.locks) → x.taken ≡ counted_by f e old.taken →
-    map waiter_of (waits_by f e w.waits) ≡ x.waits.items → x.programs.names.items ≡ unreleased_after e old.programs.names.items →
+    map waiter_of (waits_by f e w.waits) ≡ x.waits.items → x.programs.names ≡ unreleased_after e old.programs.names →
     DependenciesBy f e d (dependencies x.deps) → GoesBy f e w x
 goes d old x w f e s table taken waits programs deps =
     let new = watch_beside (dependencies x.deps) x (waits_by f e w.waits) in (

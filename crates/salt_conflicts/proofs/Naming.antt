@@ -16,7 +16,9 @@ use Rattle.std.proofs.lemmas.Bool.{both_ways, cases_order, eqb-true}
 use Rattle.std.proofs.lemmas.List.Folds.{list_any-append}
 use Rattle.std.specs.List.{remove}
 use Rattle.std.specs.List.Sorted.{IsPartitionPoint, IsPartitionedBy}
-use Rattle.std.specs.Prelude.{Bool, List, [], cond, false, get_or, length, not, suc, true, zero, ℕ, ◌&&◌, ◌+◌, ◌++◌, ◌<◌, ◌==◌, ◌||◌, ◌∷◌, ◌≡◌, ◌≤◌, ◌⊎◌}
+use Rattle.std.specs.declared.alloc.AllocError.{AllocError}
+use Rattle.std.specs.declared.result.Result.TheVariants.{Err, Ok}
+use Rattle.std.specs.Prelude.{Bool, List, OnErr, OnOk, Result, [], cond, false, get_or, length, not, suc, true, zero, ℕ, ◌&&◌, ◌+◌, ◌++◌, ◌<◌, ◌==◌, ◌||◌, ◌∷◌, ◌≡◌, ◌≤◌, ◌⊎◌}
 
 older-through : (a b c : Id) → is_older a b ≡ true → is_older b c ≡ true → is_older a c ≡ true
 older-through a b c h g = older-strict.through a b c h g
@@ -237,6 +239,6 @@ none-rise [] h = tt
 none-rise (x ∷ xs) h = let none = eqb-true (length (x ∷ xs)) 0 h in absurd (omega (arith, none))
 
 -- a name that is put behind them, if there is room
-pub rising-pushed : (t : Bool) (xs : List Id) (name : Id) → Rising (xs ++ name ∷ []) → Rising (cond t (xs ++ name ∷ []) xs)
-rising-pushed true xs name r = r
-rising-pushed false xs name r = rising-front xs name r
+pub pushed-rises : (r : Result (Unit {0}) AllocError) (xs ys : List Id) (name : Id) → OnOk r (ys ≡ xs ++ name ∷ []) → OnErr r (ys ≡ xs) → Rising (xs ++ name ∷ []) → Rising ys
+pushed-rises (Ok u) xs ys name ok err r = subst Rising (sym ok) r
+pushed-rises (Err e) xs ys name ok err r = subst Rising (sym err) (rising-front xs name r)

@@ -46,7 +46,7 @@ grouped f bs old = record {
 }
 
 pub resumes : (x : Watching) (w : Watch) (f : UnitFacts) → x.waits.items ≡ [] → SameMembers x.locks (numbered_from 0 f.cover) → x.taken ≡ length f.cover →
-    AreSame (group_of x.programs.names.items) (dependencies x.deps) → GoesBy f (Early x.programs.names.items) w x
+    AreSame (group_of x.programs.names) (dependencies x.deps) → GoesBy f (Early x.programs.names) w x
 resumes x w f waits locks taken group = (
   watch_beside (dependencies x.deps) x [],
   record {
@@ -54,8 +54,8 @@ resumes x w f waits locks taken group = (
     taken = omega (arith, taken);
     waits = refl;
     programs = refl;
-    dependencies = subst (DependenciesBy f (Early x.programs.names.items) w.dependencies)
-        (sym (same-dependencies (group_of x.programs.names.items) (dependencies x.deps) group)) (grouped f x.programs.names.items w.dependencies);
+    dependencies = subst (DependenciesBy f (Early x.programs.names) w.dependencies)
+        (sym (same-dependencies (group_of x.programs.names) (dependencies x.deps) group)) (grouped f x.programs.names w.dependencies);
   },
   record { table = refl; taken = refl; waits = sym waits; programs = refl; dependencies = itself (dependencies x.deps) },
 )

@@ -37,5 +37,5 @@ pub record HasReached (u : Id) (base : Option Id) (family : Family) (r : Reach) 
   pub table : new.locks ≡ put (record { number = old.taken; lock = lock_of (Owner.Unit u) family r }) old.locks
   pub taken : new.taken ≡ old.taken + 1
   pub waits : new.waits.items ≡ old.waits.items
-  pub programs : new.programs.names.items ≡ old.programs.names.items
+  pub programs : new.programs.names ≡ old.programs.names
   pub reads : HasReadBy base r (dependencies old.deps) (dependencies new.deps)

@@ -26,7 +26,7 @@ pub record IsWatchBeside (d : Dependencies) (x : Watching) (w : Watch) : Type 0 
   pub table : w.table ≡ x.locks
   pub taken : w.taken ≡ x.taken
   pub waits : map waiter_of w.waits ≡ waiters_of x
-  pub programs : w.programs ≡ x.programs.names.items
+  pub programs : w.programs ≡ x.programs.names
   pub dependencies : AreSame d w.dependencies
 
 abbrev pub IsWatch : Watching → Watch → Type 0

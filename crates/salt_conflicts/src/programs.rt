@@ -7,17 +7,19 @@ ghost use Rattle.salt_values.specs.declared.id.Id.{Id};
 ghost use Rattle.std.specs.List.Sorted.{IsPartitionPoint};
 ghost use Rattle.std.specs.Prelude.{IfOk, IsTrue, OnOk, [], false, get_or, length, true, ◌++◌, ◌<◌, ◌∷◌, ◌≡◌, ◌≤◌};
 
+use salt_queue::Queue;
 use salt_values::{Id, drop_ids, has_id, in_order, insert_id, is_older, is_same_id};
 use std::alloc::{AllocError, Global};
+use std::mem;
 
 /// Names of programs. Where it is known that they are in order one is found by halves, and one that is younger than all is put
 /// behind them at once.
 #[derive(Drop)]
 pub struct Programs {
-    pub names: Vec<Id>,
+    pub names: Queue<Id>,
     /// Whether it is known that the names are in order, each once.
     pub rising: bool,
-    ghost known: { IsTrue rising → AreInOrder names.items },
+    ghost known: { IsTrue rising → AreInOrder names },
 }
 
 /// How many of the names are older than one.
@@ -63,23 +65,23 @@ fn are_all_older(names: &[Id], name: Id) -> bool
 }
 
 /// Takes a name out of names in order, if it is there.
-fn drop_one(names: &mut Vec<Id>, name: Id)
-    requires { Rising names.old.items }
-    ensures rising { Rising names.new.items }
-    ensures dropped { names.new.items ≡ without (name ∷ []) names.old.items }
+fn drop_one(names: &mut Queue<Id>, name: Id)
+    requires { Rising names.old }
+    ensures rising { Rising names.new }
+    ensures dropped { names.new ≡ without (name ∷ []) names.old }
 {
-    let at = count_older(names, name);
-    if !is_at(names, at, name) {
+    let at = count_older(names.as_slice(), name);
+    if !is_at(names.as_slice(), at, name) {
         return;
     }
     names.remove(at);
 }
 
 /// Takes names out of names in order.
-fn drop_each(names: &mut Vec<Id>, gone: &[Id])
-    requires { Rising names.old.items }
-    ensures rising { Rising names.new.items }
-    ensures dropped { names.new.items ≡ without gone.now names.old.items }
+fn drop_each(names: &mut Queue<Id>, gone: &[Id])
+    requires { Rising names.old }
+    ensures rising { Rising names.new }
+    ensures dropped { names.new ≡ without gone.now names.old }
 {
     for name in gone {
         drop_one(names, *name);
@@ -89,55 +91,58 @@ fn drop_each(names: &mut Vec<Id>, gone: &[Id])
 impl Programs {
     /// These names.
     pub fn new(names: Vec<Id>) -> Programs
-        ensures { result.names.items ≡ names.items }
+        ensures { result.names ≡ names.items }
     {
         let rising = names.as_slice().is_empty();
-        Programs { names, rising }
+        Programs {
+            names: Queue::from_vec(names),
+            rising,
+        }
     }
 
     /// The names.
     pub fn names(&self) -> &[Id]
-        ensures { result.now ≡ self.now.names.items }
+        ensures { result.now ≡ self.now.names }
     {
-        &self.names
+        self.names.as_slice()
     }
 
     /// Whether a name is among them.
     pub fn has(&self, name: Id) -> bool
-        ensures { result ≡ has_id name self.now.names.items }
+        ensures { result ≡ has_id name self.now.names }
     {
         if self.rising {
-            is_among(&self.names, name)
+            is_among(self.names.as_slice(), name)
         } else {
-            has_id(&self.names, name)
+            has_id(self.names.as_slice(), name)
         }
     }
 
     /// The names in order, each once.
     pub fn in_order(&self, alloc: Global) -> Result<Vec<Id>, AllocError>
-        ensures { IfOk result (λ ids. ids.items ≡ in_order self.now.names.items) }
+        ensures { IfOk result (λ ids. ids.items ≡ in_order self.now.names) }
     {
         if self.rising {
-            Vec::from_slice(alloc, &self.names)
+            Vec::from_slice(alloc, self.names.as_slice())
         } else {
-            in_order(alloc, &self.names)
+            in_order(alloc, self.names.as_slice())
         }
     }
 
     /// Whether it is known that all are older than a name, and in order.
     fn are_older(&self, name: Id) -> bool
-        ensures { result ≡ true → Rising (self.now.names.items ++ name ∷ []) }
+        ensures { result ≡ true → Rising (self.now.names ++ name ∷ []) }
     {
         if self.rising {
-            are_all_older(&self.names, name)
+            are_all_older(self.names.as_slice(), name)
         } else {
             false
         }
     }
 
     /// Puts a name among them, in its order. Where memory runs out they are in no state that is told.
-    pub fn insert(&mut self, name: Id) -> Result<(), AllocError>
-        ensures { OnOk result (self.new.names.items ≡ insert_id name self.old.names.items) }
+    pub fn insert(&mut self, alloc: Global, name: Id) -> Result<(), AllocError>
+        ensures { OnOk result (self.new.names ≡ insert_id name self.old.names) }
     {
         if self.are_older(name) {
             self.names.push(name)?;
@@ -145,26 +150,30 @@ impl Programs {
         }
         let rising = self.rising;
         self.rising = false;
-        insert_id(&mut self.names, name)?;
+        let mut names = mem::replace(&mut self.names, Queue::new(alloc)).into_vec();
+        insert_id(&mut names, name)?;
+        self.names = Queue::from_vec(names);
         self.rising = rising;
         Ok(())
     }
 
     /// Takes those of some names out that are among them.
     pub fn strike(&self, others: &mut Vec<Id>)
-        ensures { others.new.items ≡ without self.now.names.items others.old.items }
+        ensures { others.new.items ≡ without self.now.names others.old.items }
     {
         others.retain(|name| !self.has(*name));
     }
 
     /// Takes names out of them.
-    pub fn drop_all(&mut self, gone: &[Id])
-        ensures { self.new.names.items ≡ without gone.now self.old.names.items }
+    pub fn drop_all(&mut self, alloc: Global, gone: &[Id])
+        ensures { self.new.names ≡ without gone.now self.old.names }
     {
         if self.rising {
             drop_each(&mut self.names, gone);
         } else {
-            drop_ids(&mut self.names, gone);
+            let mut names = mem::replace(&mut self.names, Queue::new(alloc)).into_vec();
+            drop_ids(&mut names, gone);
+            self.names = Queue::from_vec(names);
         }
     }
 }

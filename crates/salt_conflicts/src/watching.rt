@@ -237,7 +237,7 @@ impl Watching {
     pub fn accept(&mut self, base: Id) -> Result<(), AllocError>
         ensures { OnOk result ((w : Watch) (f : UnitFacts) → IsWatch self.old w → GoesBy f (Accepted base) w self.new) }
     {
-        self.programs.insert(base)
+        self.programs.insert(self.alloc, base)
     }
 
     /// A program has come to its end: those that are released by this, in order of their names. They are forgotten, and their locks
@@ -249,7 +249,7 @@ impl Watching {
     {
         let due = self.deps.finished(base)?;
         release(&mut self.locks, due.as_slice());
-        self.programs.drop_all(due.as_slice());
+        self.programs.drop_all(self.alloc, due.as_slice());
         Ok(due)
     }
 

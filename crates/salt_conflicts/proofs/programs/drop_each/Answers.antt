@@ -6,7 +6,7 @@ use Rattle.std.proofs.Common.{List, [], ap, get_or, sym, take, ◌∙◌, ◌∷
 use Rattle.std.proofs.lemmas.List.{take_more}
 
 pub loop-name-init : goal.loop-name-init
-loop-name-init c = (c.requires, without-none c.args.names.now.items)
+loop-name-init c = (c.requires, without-none c.args.names.now)
 
 pub loop-name-preserved : goal.loop-name-preserved
 loop-name-preserved c =
@@ -17,6 +17,6 @@ loop-name-preserved c =
       c.drop_one.ensures.rising,
       c.drop_one.ensures.dropped
           ∙ (ap (without (get_or gone at zero ∷ [])) inv.1
-          ∙ (without-more (take at gone) (get_or gone at zero) c.args.names.now.items
-          ∙ ap (λ (l : List Id). without l c.args.names.now.items) (sym (take_more gone at zero c.loop-name-test.true)))),
+          ∙ (without-more (take at gone) (get_or gone at zero) c.args.names.now
+          ∙ ap (λ (l : List Id). without l c.args.names.now) (sym (take_more gone at zero c.loop-name-test.true)))),
     )

@@ -4,4 +4,4 @@ use Rattle.salt_values.specs.Id.{without}
 use Rattle.std.proofs.Common.{take, ◌≡◌}
 
 abbrev pub invariant-loop-name : goal.invariant-loop-name
-invariant-loop-name l = Rising l.names.items × (l.names.items ≡ without (take l.name-index l.gone) l.initial.names.items)
+invariant-loop-name l = Rising l.names × (l.names ≡ without (take l.name-index l.gone) l.initial.names)

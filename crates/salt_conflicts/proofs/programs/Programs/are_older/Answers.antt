@@ -5,7 +5,7 @@ use Rattle.salt_values.specs.declared.id.Id.{Id}
 use Rattle.std.proofs.Common.{List, [], subst, sym, ◌++◌, ◌∷◌}
 
 pub are_all_older-requires : goal.are_all_older-requires
-are_all_older-requires c = subst Rising (sym c.deref.ensures.value) (rising-of c.args.self.now.names.items (c.args.self.now.known c.if-self.true))
+are_all_older-requires c = subst Rising (sym c.as_slice.ensures) (rising-of c.args.self.now.names (c.args.self.now.known c.if-self.true))
 
 pub returns-then-self : goal.returns-then-self
-returns-then-self c = λ yes. subst (λ (l : List Id). Rising (l ++ c.args.name ∷ [])) c.deref.ensures.value (c.are_all_older.ensures yes)
+returns-then-self c = λ yes. subst (λ (l : List Id). Rising (l ++ c.args.name ∷ [])) c.as_slice.ensures (c.are_all_older.ensures yes)

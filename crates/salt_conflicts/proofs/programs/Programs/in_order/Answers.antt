@@ -7,5 +7,5 @@ use Rattle.std.proofs.lemmas.Result.{IfOk-weaker}
 pub returns-then-self : goal.returns-then-self
 returns-then-self c =
     IfOk-weaker c.from_slice.result _ _
-    (λ ids is. is ∙ (c.deref.ensures.value ∙ in-order-already c.args.self.now.names.items (rising-of c.args.self.now.names.items (c.args.self.now.known c.if-self.true))))
+    (λ ids is. is ∙ (c.as_slice.ensures ∙ in-order-already c.args.self.now.names (rising-of c.args.self.now.names (c.args.self.now.known c.if-self.true))))
     c.from_slice.ensures.items

@@ -4,4 +4,6 @@ use Rattle.salt_conflicts.proofs.programs.Programs.new.Goals as goal
 use Rattle.std.proofs.Common.{subst, sym, ◌∙◌}
 
 pub invariant_of-result : goal.invariant_of-result
-invariant_of-result c = record { known = λ is. rising-at c.args.names.items (subst Rising c.as_slice.ensures.value (none-rise c.as_slice.result.now (sym c.is_empty-rising.ensures ∙ is))) }
+invariant_of-result c = record {
+  known = λ is. rising-at c.from_vec.result (subst Rising (sym c.from_vec.ensures) (subst Rising c.as_slice.ensures.value (none-rise c.as_slice.result.now (sym c.is_empty-rising.ensures ∙ is))));
+}

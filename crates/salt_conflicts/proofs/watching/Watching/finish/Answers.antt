@@ -29,7 +29,7 @@ returns-clause-none c w s none =
     none-due c.args.base old new w due none s c.in_ok-due.ensures.ok
     (c.release.ensures ∙ ap (λ bs. filter (is_unreleased bs) old.locks) c.as_slice.ensures)
     refl refl
-    (c.drop_all.ensures ∙ ap (λ bs. without bs old.programs.names.items) c.as_slice-2.ensures)
+    (c.drop_all.ensures ∙ ap (λ bs. without bs old.programs.names) c.as_slice-2.ensures)
 
 pub returns-clause-released : goal.returns-clause-released
 returns-clause-released c w f s =
@@ -40,5 +40,5 @@ returns-clause-released c w f s =
     goes (marked c.args.base d) old new w f (Released due) s
     (subst (λ ns. SameMembers ns (table_by f old.taken (Released due) old.locks)) (sym (c.release.ensures ∙ ap (λ bs. filter (is_unreleased bs) old.locks) c.as_slice.ensures)) (released f old.taken due old.locks))
     (plus-none old.taken) s.waits
-    (c.drop_all.ensures ∙ ap (λ bs. without bs old.programs.names.items) c.as_slice-2.ensures)
+    (c.drop_all.ensures ∙ ap (λ bs. without bs old.programs.names) c.as_slice-2.ensures)
     (leaves f c.args.base due d (dependencies new.deps) c.in_ok-due.ensures.order c.in_ok-due.ensures.ok)

@@ -11,5 +11,5 @@ returns c =
     (λ items h w r s.
     h
     ∙ (ap (λ bs. owned_by_bases x.locks bs ++ owned_by_units x.locks c.args.units.now) c.names.ensures
-    ∙ items-told w r x.locks x.programs.names.items c.args.units.now s.table s.programs))
+    ∙ items-told w r x.locks x.programs.names c.args.units.now s.table s.programs))
     c.lock_items.ensures
