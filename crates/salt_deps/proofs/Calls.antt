@@ -2,7 +2,6 @@
 use Rattle.salt_deps.proofs.Reading.{are-writers}
 use Rattle.salt_deps.specs.Due.{AreSettled}
 use Rattle.salt_deps.specs.Kept.{kept_of}
-use Rattle.salt_deps.specs.Maps.{is_source}
 use Rattle.salt_deps.specs.Reads.{AreFresh, reads_entry}
 use Rattle.law_states.specs.DependencyCalls.{HasFinished}
 use Rattle.law_states.specs.KeptSources.{WritesIn, itself, unless_among}
@@ -16,7 +15,6 @@ use Rattle.salt_ranges.specs.declared.range.KeyRange.{KeyRange}
 use Rattle.salt_values.specs.Id.{is_same_id}
 use Rattle.salt_values.specs.declared.id.Id.{Id}
 use Rattle.std.proofs.Common.{ap, inl, inr, subst, sym, ◌∙◌, ◌↔◌, ◌⊎◌}
-use Rattle.std.specs.BTreeSet.{BTreeSet}
 use Rattle.std.specs.BTreeMap.{BTreeMap, IsOrdered, get}
 use Rattle.std.specs.List.{list_any}
 use Rattle.std.specs.Ordering.{is_eq, ordering_reverse}
@@ -77,21 +75,21 @@ neither : (a b : Bool) → (a || b) ≡ false → (a ≡ false) × (b ≡ false)
 neither true b h = cc
 neither false b h = (refl, h)
 
-pub finishes : (base : Id) (due released forgotten taken : List Id) (writers writers' : BTreeMap Place Id) (sources sources' : BTreeMap Id (BTreeSet Id)) (finished marked_names finished' : List Id) →
-    AreSettled (is_source sources) (base ∷ finished) due → released ≡ due → forgotten ≡ released → taken ≡ released →
+pub finishes : (base : Id) (due released forgotten taken : List Id) (writers writers' : BTreeMap Place Id) (pairs pairs' : Id → Id → Bool) (finished marked_names finished' : List Id) →
+    AreSettled pairs (base ∷ finished) due → released ≡ due → forgotten ≡ released → taken ≡ released →
     ((q : Place) → get place_cmp writers' q ≡ unless_among due (get place_cmp writers q)) →
-    ((x y : Id) → is_source sources' x y ≡ (is_source sources x y && not (has_id x forgotten || has_id y forgotten))) →
+    ((x y : Id) → pairs' x y ≡ (pairs x y && not (has_id x forgotten || has_id y forgotten))) →
     ((b : Id) → has_id b marked_names ≡ (is_same_id base b || has_id b finished)) →
     ((b : Id) → has_id b finished' ≡ (has_id b marked_names && not (has_id b taken))) →
-    HasFinished base released (kept_of writers sources finished) (kept_of writers' sources' finished')
-finishes base due released forgotten taken writers writers' sources sources' finished marked_names finished' settled list forgets takes dropped cut marks out = record {
+    HasFinished base released (kept_of writers pairs finished) (kept_of writers' pairs' finished')
+finishes base due released forgotten taken writers writers' pairs pairs' finished marked_names finished' settled list forgets takes dropped cut marks out = record {
   due = λ b. (
     (λ i. let s = (are b).0 i in record { finished = s b itself; sources = s }),
     (λ d. (are b).1 d.sources),
   );
   writer = subst (λ bs. (q : Place) → get place_cmp writers' q ≡ unless_among bs (get place_cmp writers q)) (sym list) dropped;
   reads = λ x y. (
-    (λ h. let k = (left (is_source sources x y) (has_id x released || has_id y released)).0 (sym (reads x y) ∙ h) in
+    (λ h. let k = (left (pairs x y) (has_id x released || has_id y released)).0 (sym (reads x y) ∙ h) in
         let n = neither (has_id x released) (has_id y released) k.1 in (k.0, n.0, n.1)),
     (λ h. reads x y ∙ rw (h.0, h.1, h.2) refl),
   );
@@ -102,11 +100,11 @@ finishes base due released forgotten taken writers writers' sources sources' fin
   );
 }
   where
-    are : AreSettled (is_source sources) (base ∷ finished) released
-    are = subst (AreSettled (is_source sources) (base ∷ finished)) (sym list) settled
+    are : AreSettled pairs (base ∷ finished) released
+    are = subst (AreSettled pairs (base ∷ finished)) (sym list) settled
 
-    reads : (x y : Id) → is_source sources' x y ≡ (is_source sources x y && not (has_id x released || has_id y released))
-    reads = subst (λ (l : List Id). (x y : Id) → is_source sources' x y ≡ (is_source sources x y && not (has_id x l || has_id y l))) forgets cut
+    reads : (x y : Id) → pairs' x y ≡ (pairs x y && not (has_id x released || has_id y released))
+    reads = subst (λ (l : List Id). (x y : Id) → pairs' x y ≡ (pairs x y && not (has_id x l || has_id y l))) forgets cut
 
     names : (b : Id) → has_id b finished' ≡ ((is_same_id base b || has_id b finished) && not (has_id b released))
     names b = out b ∙ (ap (λ t. t && not (has_id b taken)) (marks b) ∙ ap (λ (l : List Id). (is_same_id base b || has_id b finished) && not (has_id b l)) takes)

@@ -2,8 +2,9 @@
 use Rattle.law_states.specs.KeptSources.{Through, itself, through}
 use Rattle.law_states.specs.Members.{In}
 use Rattle.law_story.proofs.Ids.{and_left, is_same_id-true}
-use Rattle.law_story.proofs.Lists.{all-in, either, has-in, in-cases, in-filter, in-has, in-left, in-right, into-filter, not-true, or_cases, or_right_true}
+use Rattle.law_story.proofs.Lists.{either, has-in, in-cases, in-filter, in-has, in-left, in-right, into-filter, not-true, or_cases, or_right_true}
 use Rattle.salt_deps.specs.Due.{AreComers, AreHeld, AreSettled, IsHeld, IsSettled, SettledComeTo, reads_done}
+use Rattle.salt_deps.specs.Group.{ReadsAmong}
 use Rattle.salt_values.specs.Id.{has_id, is_same_id}
 use Rattle.salt_values.specs.declared.id.Id.{Id}
 use Rattle.std.proofs.Common.{ap, inl, inr, subst, sym, ◌∙◌}
@@ -115,7 +116,7 @@ held-other reads finished found names held name are is b = (
     at (inl e) h = not-held b (subst (λ z. IsHeld reads finished found z false) e is) h
     at (inr e) h = absurd e
 
-some-out : (found names : List Id) → list_all (λ s. has_id s found) names ≡ false → (y : Id) × In y names × (has_id y found ≡ false)
+pub some-out : (found names : List Id) → list_all (λ s. has_id s found) names ≡ false → (y : Id) × In y names × (has_id y found ≡ false)
 some-out found [] h = absurd cc
 some-out found (x ∷ xs) h = by (has_id x found) refl h (some-out found xs)
   where
@@ -125,13 +126,10 @@ some-out found (x ∷ xs) h = by (has_id x found) refl h (some-out found xs)
     by true e g more = let r = more g in (r.0, inr r.1, r.2)
 
 -- a test of all sources
-pub held-by-sources : (reads : Id → Id → Bool) (finished found : List Id) (b : Id) (sources : List Id) (whole : Bool) → has_id b finished ≡ true →
-    ((y : Id) → reads b y ≡ has_id y sources) → whole ≡ list_all (λ s. has_id s found) sources → IsHeld reads finished found b (not whole)
-held-by-sources reads finished found b sources whole done are is = subst (λ t. IsHeld reads finished found b (not t)) (sym is) (by (list_all (λ s. has_id s found) sources) refl)
-  where
-    by : (t : Bool) → list_all (λ s. has_id s found) sources ≡ t → IsHeld reads finished found b (not t)
-    by true e = (done, λ y h. all-in (λ s. has_id s found) y sources e (has-in y sources (sym (are y) ∙ h)))
-    by false e = let o = some-out found sources e in inr (o.0, are o.0 ∙ in-has o.0 sources o.1, o.2)
+pub held-by-sources : (reads : Id → Id → Bool) (finished found : List Id) (b : Id) (whole : Bool) → has_id b finished ≡ true → ReadsAmong reads found b whole →
+    IsHeld reads finished found b (not whole)
+held-by-sources reads finished found b true done among = (done, among)
+held-by-sources reads finished found b false done among = inr among
 
 -- all finished programs are starts
 pub all-come : (reads : Id → Id → Bool) (base : Id) (finished starts : List Id) → starts ≡ finished ++ base ∷ [] → SettledComeTo reads (base ∷ finished) starts
@@ -145,16 +143,13 @@ pub last-in : (finished starts : List Id) (base : Id) → starts ≡ finished ++
 last-in finished starts base are = subst (In base) (sym are) (in-right base finished (base ∷ []) (inl refl))
 
 -- none is settled where the one that all come to reads from one that is not finished
-pub none-settled : (reads : Id → Id → Bool) (base : Id) (finished due sources : List Id) → due ≡ [] → SettledComeTo reads finished (base ∷ []) →
-    ((y : Id) → reads base y ≡ has_id y sources) → list_all (λ s. has_id s finished) sources ≡ false → AreSettled reads finished due
-none-settled reads base finished due sources empty come are out b = ((λ i. absurd (subst (In b) empty i)), (λ s. absurd (come b s (λ z i r. at s z i r))))
+pub none-settled : (reads : Id → Id → Bool) (base : Id) (finished due : List Id) → due ≡ [] → SettledComeTo reads finished (base ∷ []) → ReadsAmong reads finished base false →
+    AreSettled reads finished due
+none-settled reads base finished due empty come some b = ((λ i. absurd (subst (In b) empty i)), (λ s. absurd (come b s (λ z i r. at s z i r))))
   where
-    some : (y : Id) × In y sources × (has_id y finished ≡ false)
-    some = some-out finished sources out
-
     at : IsSettled reads finished b → (z : Id) → In z (base ∷ []) → Through reads b z → ⊥
     at s z (inl e) r =
-        let one : Through reads base some.0 = through (are some.0 ∙ in-has some.0 sources some.1) itself in
+        let one : Through reads base some.0 = through some.1 itself in
         let yes : has_id some.0 finished ≡ true = s some.0 (longer reads b base some.0 (subst (Through reads b) (sym e) r) one) in
         let no : has_id some.0 finished ≡ false = some.2 in
         absurd cc

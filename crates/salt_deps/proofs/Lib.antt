@@ -3,7 +3,9 @@ pub mod Errs
 pub mod Linking
 pub mod Seeing
 pub mod Walking
+pub mod Meeting
 pub mod Leaving
+pub mod Grouping
 pub mod Reading
 pub mod Spanning
 pub mod Writing

@@ -1,10 +1,11 @@
 -- A walk sees all to which steps lead from where it starts.
 use Rattle.law_states.specs.KeptSources.{Through, itself, through}
 use Rattle.law_states.specs.Members.{In}
-use Rattle.law_story.proofs.Ids.{and_left, is_same_id-true}
+use Rattle.law_story.proofs.Ids.{and_left, and_right, is_same_id-true}
 use Rattle.law_story.proofs.Lists.{either, has-in, in-cases, in-has, in-left, in-right, or_cases, or_left_true, or_right_true}
 use Rattle.salt_deps.proofs.Names.{same-at}
-use Rattle.salt_deps.specs.Due.{AreComers, AreReached, reads_done}
+use Rattle.salt_deps.specs.Due.{AreComers, AreReached}
+use Rattle.salt_deps.specs.Group.{is_told}
 use Rattle.salt_deps.specs.Maps.{is_source, keys_in}
 use Rattle.salt_deps.specs.Walks.{Sees, SeesAll, unseen}
 use Rattle.salt_values.specs.Id.{has_id, is_same_id}
@@ -15,7 +16,7 @@ use Rattle.std.specs.BTreeMap.{BTreeMap, is_at}
 use Rattle.std.specs.BTreeSet.{BTreeSet}
 use Rattle.std.specs.Map.{keys_of, lookup}
 use Rattle.std.specs.Ordering.{is_eq}
-use Rattle.std.specs.Prelude.{Bool, List, Some, [], cond, false, length, refl, true, ◌++◌, ◌+◌, ◌<◌, ◌||◌, ◌∷◌, ◌≡◌, ◌⊎◌}
+use Rattle.std.specs.Prelude.{Bool, List, Some, [], cond, false, length, refl, true, ◌&&◌, ◌++◌, ◌+◌, ◌<◌, ◌||◌, ◌∷◌, ◌≡◌, ◌⊎◌}
 
 -- steps lead from one name to another
 pub data Led (step : Id → Id → Bool) : Id → Id → Type 0 where
@@ -72,8 +73,9 @@ starts-one step name old none seen ahead empty nil s = record {
 
 -- the walk goes on from the last name ahead
 pub walks-on : (step : Id → Id → Bool) (starts seen rest new onward names : List Id) (next : Id) → IsWalk step starts seen (rest ++ next ∷ []) →
-    ((x : Id) → has_id x names ≡ step next x) → SeesAll names seen rest new onward → IsWalk step starts new onward
-walks-on step starts seen rest new onward names next w are s = record {
+    ((x : Id) → has_id x names ≡ true → (step next x ≡ true) ⊎ In x seen) → ((x : Id) → step next x ≡ true → (has_id x names ≡ true) ⊎ In x seen) →
+    SeesAll names seen rest new onward → IsWalk step starts new onward
+walks-on step starts seen rest new onward names next w steps told s = record {
   begun = λ q i. stays q (w.begun q i);
   led = λ c i. either (λ e. w.led c (has-in c seen (e))) (λ e. from c e) (swapped (has_id c names) (has_id c seen) (sym (s.seen c) ∙ in-has c new i));
   followed = λ y i. either (λ e. was y (w.followed y (has-in y seen e))) (λ e. inl e) (s.fresh y (in-has y new i));
@@ -88,10 +90,14 @@ walks-on step starts seen rest new onward names next w are s = record {
     stays q i = has-in q new (s.seen q ∙ or_right_true (has_id q names) (has_id q seen) (in-has q seen i))
 
     from : (c : Id) → has_id c names ≡ true → (z : Id) × In z starts × Led step z c
-    from c h = let l = w.led next (w.among next (in-right next rest (next ∷ []) (inl refl))) in (l.0, l.1, on l.2 (sym (are c) ∙ h))
+    from c h = either (λ e. let l = w.led next (w.among next (in-right next rest (next ∷ []) (inl refl))) in (l.0, l.1, on l.2 e)) (λ i. w.led c i) (steps c h)
+
+    after : (x : Id) → (has_id x names ≡ true) ⊎ In x seen → In x new
+    after x (inl e) = has-in x new (s.seen x ∙ or_left_true (has_id x names) (has_id x seen) e)
+    after x (inr i) = stays x i
 
     gone : (y : Id) → In y (next ∷ []) → (x : Id) → step y x ≡ true → In x new
-    gone y (inl e) x h = has-in x new (s.seen x ∙ or_left_true (has_id x names) (has_id x seen) (are x ∙ subst (λ z. step z x ≡ true) (sym e) h))
+    gone y (inl e) x h = after x (told x (subst (λ z. step z x ≡ true) (sym e) h))
     gone y (inr e) x h = absurd e
 
     was : (y : Id) → In y (rest ++ next ∷ []) ⊎ ((x : Id) → step y x ≡ true → In x seen) → In y onward ⊎ ((x : Id) → step y x ≡ true → In x new)
@@ -167,21 +173,38 @@ in-readers x y (e ∷ es) h = by (is_eq (id_cmp x e.0)) refl h (in-readers x y e
     by true tie g more = inl (sym (is_same_id-true x e.0 (sym (same-at x e.0) ∙ tie)))
     by false tie g more = inr (more g)
 
+told-of : (met : Bool) (ones others : List Id) (x y : Id) → is_told met ones others x y ≡ true → has_id y others ≡ true
+told-of true ones others x y h = absurd cc
+told-of false ones others x y h = and_right (has_id x ones) (has_id y others) h
+
 -- a step of the walk leaves less to be seen
-pub sources-less : (m : BTreeMap Id (BTreeSet Id)) (next : Id) (names seen rest new onward : List Id) → ((y : Id) → has_id y names ≡ is_source m next y) → SeesAll names seen rest new onward →
-    unseen (all_sources m.entries) new + length onward < unseen (all_sources m.entries) seen + length (rest ++ next ∷ [])
-sources-less m next names seen rest new onward are s =
-    let less = s.once (all_sources m.entries) (λ q i. in-sources next q m.entries (sym (are q) ∙ in-has q names i)) in
+less-ahead : (all : List Id) (next : Id) (names seen rest new onward : List Id) → ((q : Id) → In q names → In q all) → SeesAll names seen rest new onward →
+    unseen all new + length onward < unseen all seen + length (rest ++ next ∷ [])
+less-ahead all next names seen rest new onward within s =
+    let less = s.once all within in
     let longer = length-append rest (next ∷ []) in
     omega (arith, less, longer)
 
-pub readers-less : (m : BTreeMap Id (BTreeSet Id)) (finished : List Id) (next : Id) (names seen rest new onward : List Id) →
-    ((x : Id) → has_id x names ≡ reads_done (is_source m) finished x next) → SeesAll names seen rest new onward →
-    unseen (keys_of m.entries) new + length onward < unseen (keys_of m.entries) seen + length (rest ++ next ∷ [])
-readers-less m finished next names seen rest new onward are s =
-    let less = s.once (keys_of m.entries) (λ q i. in-readers q next m.entries (and_left (is_source m q next) (has_id q finished) (sym (are q) ∙ in-has q names i))) in
-    let longer = length-append rest (next ∷ []) in
-    omega (arith, less, longer)
+pub sources-less : (m : BTreeMap Id (BTreeSet Id)) (met : Bool) (readers sources : List Id) (next : Id) (names seen rest new onward : List Id) →
+    ((y : Id) → has_id y names ≡ (is_source m next y || is_told met readers sources next y)) → SeesAll names seen rest new onward →
+    unseen (all_sources m.entries ++ sources) new + length onward < unseen (all_sources m.entries ++ sources) seen + length (rest ++ next ∷ [])
+sources-less m met readers sources next names seen rest new onward are s = less-ahead (all_sources m.entries ++ sources) next names seen rest new onward within s
+  where
+    within : (q : Id) → In q names → In q (all_sources m.entries ++ sources)
+    within q i = either (λ e. in-left q (all_sources m.entries) sources (in-sources next q m.entries e))
+        (λ e. in-right q (all_sources m.entries) sources (has-in q sources (told-of met readers sources next q e)))
+        (or_cases (is_source m next q) (is_told met readers sources next q) (sym (are q) ∙ in-has q names i))
+
+pub readers-less : (m : BTreeMap Id (BTreeSet Id)) (met : Bool) (readers sources finished : List Id) (next : Id) (names seen rest new onward : List Id) →
+    ((x : Id) → has_id x names ≡ ((is_source m x next || is_told met sources readers next x) && has_id x finished)) → SeesAll names seen rest new onward →
+    unseen (keys_of m.entries ++ readers) new + length onward < unseen (keys_of m.entries ++ readers) seen + length (rest ++ next ∷ [])
+readers-less m met readers sources finished next names seen rest new onward are s = less-ahead (keys_of m.entries ++ readers) next names seen rest new onward within s
+  where
+    within : (q : Id) → In q names → In q (keys_of m.entries ++ readers)
+    within q i = either (λ e. in-left q (keys_of m.entries) readers (in-readers q next m.entries e))
+        (λ e. in-right q (keys_of m.entries) readers (has-in q readers (told-of met sources readers next q e)))
+        (or_cases (is_source m q next) (is_told met sources readers next q)
+        (and_left (is_source m q next || is_told met sources readers next q) (has_id q finished) (sym (are q) ∙ in-has q names i)))
 
 pub nil-from : (names : List Id) → length names ≡ 0 → names ≡ []
 nil-from [] h = refl

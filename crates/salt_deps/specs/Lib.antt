@@ -1,4 +1,5 @@
 pub mod Maps
+pub mod Group
 pub mod Walks
 pub mod Ends
 pub mod Reads

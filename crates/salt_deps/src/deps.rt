@@ -1,12 +1,12 @@
 //! What is kept of writers, readers and finished programs.
 
 ghost use Rattle.salt_deps.specs.Due.{NoneSettled};
-ghost use Rattle.salt_deps.specs.Maps.{is_source};
+ghost use Rattle.salt_deps.specs.Group.{reads_in};
 ghost use Rattle.std.specs.Prelude.{IsTrue};
 
 use crate::due::{due, is_still_known};
-use crate::links::Links;
 use crate::places::Writers;
+use crate::readings::Readings;
 use crate::sets::{listed, take_out};
 use crate::walks::reached;
 use crate::writers::fresh_sources;
@@ -22,16 +22,17 @@ use std::collections::BTreeSet;
 pub struct Deps {
     alloc: Global,
     writers: Writers,
-    links: Links,
+    readings: Readings,
     finished: BTreeSet<Id>,
     /// Whether it is known that no finished program is to be released.
     none_due: bool,
-    ghost known: { IsTrue none_due → NoneSettled (is_source links.sources) finished.keys },
+    ghost known: { IsTrue none_due → NoneSettled (reads_in readings) finished.keys },
 }
 
 impl Deps {
     ghost use Rattle.salt_deps.specs.Kept.{dependencies};
     ghost use Rattle.law_states.specs.DependencyCalls.{AreSame, HasAbandoned, HasFinished, HasRead, Wrote};
+    ghost use Rattle.law_states.specs.KeptCover.{group_of};
     ghost use Rattle.law_states.specs.KeptSources.{Through, no_dependencies};
     ghost use Rattle.law_states.specs.Members.{In};
     ghost use Rattle.law_states.specs.Rising.{Rising};
@@ -48,10 +49,24 @@ impl Deps {
         Deps {
             alloc,
             writers: Writers::new(alloc),
-            links: Links::new(alloc),
+            readings: Readings::new(alloc),
             finished: BTreeSet::new(alloc),
             none_due: true,
         }
+    }
+
+    /// Each of these programs reads from each other one, none has written a key, and none is finished.
+    pub fn of_group(alloc: Global, names: &[Id]) -> Result<Deps, AllocError>
+        ensures { IfOk result (λ deps. AreSame (group_of names.now) (dependencies deps)) }
+    {
+        let readings = Readings::of_group(alloc, names)?;
+        Ok(Deps {
+            alloc,
+            writers: Writers::new(alloc),
+            readings,
+            finished: BTreeSet::new(alloc),
+            none_due: true,
+        })
     }
 
     /// A unit that commits wrote the key: one of the program `base`, or, with none, an ACID unit, after which no program is the
@@ -78,13 +93,13 @@ impl Deps {
         }
         let fresh = fresh_sources(
             self.alloc,
-            &self.links,
+            &self.readings,
             &self.writers.last,
             base,
             table,
             range,
         )?;
-        let more = self.links.add(base, &fresh)?;
+        let more = self.readings.add(base, &fresh)?;
         Ok(more)
     }
 
@@ -93,7 +108,7 @@ impl Deps {
         ensures { HasAbandoned base (dependencies self.old) (dependencies self.new) }
     {
         self.none_due = is_still_known(self.none_due, &self.finished, base);
-        self.links.drop_reader(base);
+        self.readings.drop_reader(base);
     }
 
     /// The program is finished: those that are released by this are given, in order of names, and forgotten. They are the
@@ -103,11 +118,17 @@ impl Deps {
         ensures order { IfOk result Rising }
         ensures err { OnErr result (AreSame (dependencies self.old) (dependencies self.new)) }
     {
-        let due = due(self.alloc, &self.links, &self.finished, base, self.none_due)?;
+        let due = due(
+            self.alloc,
+            &self.readings,
+            &self.finished,
+            base,
+            self.none_due,
+        )?;
         let released = listed(self.alloc, &due)?;
         self.finished.insert(base)?;
         self.writers.drop_programs(&released);
-        self.links.forget_all(&released);
+        self.readings.forget_all(&released);
         take_out(&mut self.finished, &released);
         self.none_due = true;
         Ok(Items::from_vec(released))
@@ -125,7 +146,7 @@ impl Deps {
         ensures all { IfOk result (λ sources. (c : Id) → In c sources ↔ Through (dependencies self.now).reads base c) }
         ensures order { IfOk result Rising }
     {
-        let sources = reached(self.alloc, &self.links, base)?;
+        let sources = reached(self.alloc, &self.readings, base)?;
         let names = listed(self.alloc, &sources)?;
         Ok(Items::from_vec(names))
     }

@@ -4,8 +4,10 @@
 mod deps;
 mod due;
 mod ends;
+mod group;
 mod links;
 mod places;
+mod readings;
 mod sets;
 mod walks;
 mod writers;

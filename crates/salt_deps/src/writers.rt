@@ -1,6 +1,6 @@
 //! Last writers of keys.
 
-ghost use Rattle.salt_deps.specs.Maps.{is_source};
+ghost use Rattle.salt_deps.specs.Group.{reads_in};
 ghost use Rattle.salt_deps.specs.Reads.{AreFresh, AreRead, is_read, reads_entry};
 ghost use Rattle.salt_model.specs.Tables.{place_cmp};
 ghost use Rattle.salt_values.specs.Id.{has_id};
@@ -11,7 +11,7 @@ ghost use Rattle.std.specs.BTreeMap.{IsOrdered};
 ghost use Rattle.std.specs.Prelude.{◌≡◌, ◌||◌, IfOk, OnOk, false};
 
 use crate::ends::last_place;
-use crate::links::Links;
+use crate::readings::Readings;
 use crate::sets::listed;
 use salt_model::{Place, first_place};
 use salt_ranges::KeyRange;
@@ -67,7 +67,7 @@ fn writers_read(
 /// The last writers of the keys in a range of a table from which a reader does not read yet, other than itself.
 pub fn fresh_sources(
     alloc: Global,
-    links: &Links,
+    readings: &Readings,
     writers: &BTreeMap<Place, Id>,
     reader: Id,
     table: u16,
@@ -75,10 +75,10 @@ pub fn fresh_sources(
 ) -> Result<Vec<Id>, AllocError>
     requires { is_range_empty range.now ≡ false }
     ensures ordered { IfOk result (λ _. IsOrdered place_cmp writers.now) }
-    ensures fresh { IfOk result (λ fresh. AreFresh reader table range.now writers.now.entries (is_source links.now.sources) fresh.items) }
+    ensures fresh { IfOk result (λ fresh. AreFresh reader table range.now writers.now.entries (reads_in readings.now) fresh.items) }
 {
     let found = writers_read(alloc, writers, reader, table, range)?;
     let mut fresh = listed(alloc, &found)?;
-    fresh.retain(|source| !links.reads(reader, *source));
+    fresh.retain(|source| !readings.reads(reader, *source));
     Ok(fresh)
 }

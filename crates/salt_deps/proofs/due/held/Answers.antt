@@ -1,16 +1,25 @@
+use Rattle.salt_deps.proofs.Grouping.{found-too, in-got}
 use Rattle.salt_deps.proofs.Leaving.{held-one, held-other}
 use Rattle.salt_deps.proofs.Seeing.{take-next}
 use Rattle.salt_deps.proofs.due.held.Goals.{else-is_held, then-is_held+in_ok-push}
 use Rattle.salt_deps.specs.Due.{AreHeld, IsHeld}
-use Rattle.salt_deps.specs.Maps.{is_source}
+use Rattle.salt_deps.specs.Group.{reads_in}
 use Rattle.salt_values.specs.declared.id.Id.{Id}
 use Rattle.std.proofs.Common.{Global, List, Vec, [], ap, get_or, subst, sym, take, take_all, ◌++◌, ◌∙◌, ◌∷◌}
 use Rattle.salt_deps.proofs.due.held.Goals as goal
 
+pub is_held-requires-clause-here : goal.is_held-requires-clause-here
+is_held-requires-clause-here c =
+    let zero : Id = record { boot = 0; seq = 0 } in
+    let at = c.loop-name.name-index in
+    let names = c.args.names.now in
+    let name : Id = get_or names at zero in
+    found-too c.args.base name c.args.found.now.keys (c.requires name (in-got names at zero c.loop-name-test.true))
+
 pub loop-name-preserved : goal.loop-name-preserved
 loop-name-preserved c =
     let zero : Id = record { boot = 0; seq = 0 } in
-    let reads = is_source c.args.links.now.sources in
+    let reads = reads_in c.args.readings.now in
     let finished = c.args.base ∷ c.args.finished.now.keys in
     let found = c.args.base ∷ c.args.found.now.keys in
     let at = c.loop-name.name-index in
@@ -28,5 +37,5 @@ loop-name-preserved c =
 
 pub returns : goal.returns
 returns c =
-    subst (λ l. AreHeld (is_source c.args.links.now.sources) (c.args.base ∷ c.args.finished.now.keys) (c.args.base ∷ c.args.found.now.keys) l c.loop-name.held.items)
+    subst (λ l. AreHeld (reads_in c.args.readings.now) (c.args.base ∷ c.args.finished.now.keys) (c.args.base ∷ c.args.found.now.keys) l c.loop-name.held.items)
     (take_all c.loop-name.name-index c.args.names.now c.loop-name-test.false) c.loop-name.invariant

@@ -3,7 +3,7 @@ use Rattle.salt_deps.proofs.Linking.{put-in}
 use Rattle.salt_deps.proofs.Settling.{none-left, settled-come}
 use Rattle.salt_deps.proofs.deps.Deps.finished.Goals as goal
 use Rattle.salt_deps.specs.Kept.{kept_of}
-use Rattle.salt_deps.specs.Maps.{is_source}
+use Rattle.salt_deps.specs.Group.{reads_in}
 use Rattle.law_states.specs.DependencyCalls.{HasFinished}
 use Rattle.law_states.specs.Rising.{Rising}
 use Rattle.std.proofs.Common.{List, Option, ap, subst, sym, ◌∙◌, ◌≡◌}
@@ -19,13 +19,13 @@ forgets : (due released dropped : List Id) (old new : Place → Option Id) → r
 forgets due released dropped old new list same out q = out q ∙ ap (λ (l : List Id). unless_among l (old q)) (same ∙ list)
 
 pub due-requires : goal.due-requires
-due-requires c t = settled-come (is_source c.args.self.now.links.sources) c.args.self.now.finished.keys c.args.base (c.args.self.now.known t)
+due-requires c t = settled-come (reads_in c.args.self.now.readings) c.args.self.now.finished.keys c.args.base (c.args.self.now.known t)
 
 pub returns-clause-ok : goal.returns-clause-ok
 returns-clause-ok c =
     let old = c.args.self.now in
-    subst (λ bs. HasFinished c.args.base bs (kept_of old.writers.last old.links.sources old.finished.keys) (kept_of c.drop_programs.new.self.last c.forget_all.new.self.sources c.take_out.new.set.keys)) (sym c.from_vec.ensures)
-    (finishes c.args.base c.in_ok-due.due.keys c.in_ok-released.released.items c.deref-2.result.now c.deref-3.result.now old.writers.last c.drop_programs.new.self.last old.links.sources c.forget_all.new.self.sources
+    subst (λ bs. HasFinished c.args.base bs (kept_of old.writers.last (reads_in old.readings) old.finished.keys) (kept_of c.drop_programs.new.self.last (reads_in c.forget_all.new.self) c.take_out.new.set.keys)) (sym c.from_vec.ensures)
+    (finishes c.args.base c.in_ok-due.due.keys c.in_ok-released.released.items c.deref-2.result.now c.deref-3.result.now old.writers.last c.drop_programs.new.self.last (reads_in old.readings) (reads_in c.forget_all.new.self)
     old.finished.keys c.insert.new.self.keys c.take_out.new.set.keys c.in_ok-due.ensures c.in_ok-released.ensures.items c.deref-2.ensures.value c.deref-3.ensures.value
     (forgets c.in_ok-due.due.keys c.in_ok-released.released.items c.deref.result.now (get place_cmp old.writers.last) (get place_cmp c.drop_programs.new.self.last) c.in_ok-released.ensures.items c.deref.ensures.value c.drop_programs.ensures)
     c.forget_all.ensures (put-in c.args.base old.finished c.insert.new.self c.in_ok-insert.ensures.updates.0) c.take_out.ensures)
@@ -37,9 +37,9 @@ pub invariant_of-self-2 : goal.invariant_of-self-2
 invariant_of-self-2 c =
     let old = c.args.self.now in
     record {
-      known = λ t. none-left c.args.base c.in_ok-released.released.items (kept_of old.writers.last old.links.sources old.finished.keys)
-          (kept_of c.drop_programs.new.self.last c.forget_all.new.self.sources c.take_out.new.set.keys) c.take_out.new.set.keys (λ b h. h)
-          (finishes c.args.base c.in_ok-due.due.keys c.in_ok-released.released.items c.deref-2.result.now c.deref-3.result.now old.writers.last c.drop_programs.new.self.last old.links.sources c.forget_all.new.self.sources
+      known = λ t. none-left c.args.base c.in_ok-released.released.items (kept_of old.writers.last (reads_in old.readings) old.finished.keys)
+          (kept_of c.drop_programs.new.self.last (reads_in c.forget_all.new.self) c.take_out.new.set.keys) c.take_out.new.set.keys (λ b h. h)
+          (finishes c.args.base c.in_ok-due.due.keys c.in_ok-released.released.items c.deref-2.result.now c.deref-3.result.now old.writers.last c.drop_programs.new.self.last (reads_in old.readings) (reads_in c.forget_all.new.self)
           old.finished.keys c.insert.new.self.keys c.take_out.new.set.keys c.in_ok-due.ensures c.in_ok-released.ensures.items c.deref-2.ensures.value c.deref-3.ensures.value
           (forgets c.in_ok-due.due.keys c.in_ok-released.released.items c.deref.result.now (get place_cmp old.writers.last) (get place_cmp c.drop_programs.new.self.last) c.in_ok-released.ensures.items c.deref.ensures.value c.drop_programs.ensures)
           c.forget_all.ensures (put-in c.args.base old.finished c.insert.new.self c.in_ok-insert.ensures.updates.0) c.take_out.ensures);

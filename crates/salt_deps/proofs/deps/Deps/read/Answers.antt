@@ -2,7 +2,7 @@ use Rattle.salt_deps.proofs.Calls.{read-more}
 use Rattle.salt_deps.proofs.Settling.{more-read}
 use Rattle.salt_deps.proofs.Spanning.{none-inside}
 use Rattle.salt_deps.proofs.deps.Deps.read.Goals as goal
-use Rattle.salt_deps.specs.Maps.{is_source}
+use Rattle.salt_deps.specs.Group.{reads_in}
 use Rattle.salt_values.specs.Id.{has_id}
 use Rattle.salt_values.specs.Id.{is_same_id}
 use Rattle.salt_values.specs.declared.id.Id.{Id}
@@ -11,9 +11,9 @@ use Rattle.std.proofs.Common.{⊎_elim, inl, refl, subst, sym, ◌&&◌, ◌||�
 pub returns-clause-ok : goal.returns-clause-ok
 returns-clause-ok c mode = record {
   writer = λ q. refl;
-  reads = read-more c.args.base c.args.table c.args.range.now mode c.args.self.now.writers.last (is_source c.args.self.now.links.sources) (is_source c.add.new.self.sources) c.in_ok-fresh.fresh.items
+  reads = read-more c.args.base c.args.table c.args.range.now mode c.args.self.now.writers.last (reads_in c.args.self.now.readings) (reads_in c.add.new.self) c.in_ok-fresh.fresh.items
       c.in_ok-fresh.ensures.ordered c.in_ok-fresh.ensures.fresh
-      (subst (λ l. (x y : Id) → is_source c.add.new.self.sources x y ≡ (is_source c.args.self.now.links.sources x y || (is_same_id x c.args.base && has_id y l))) c.deref.ensures.value c.in_ok-more.ensures.ok);
+      (subst (λ l. (x y : Id) → reads_in c.add.new.self x y ≡ (reads_in c.args.self.now.readings x y || (is_same_id x c.args.base && has_id y l))) c.deref.ensures.value c.in_ok-more.ensures.ok);
   finished = λ b. (λ h. h, λ h. h);
 }
 
@@ -33,5 +33,5 @@ returns-clause-same c none = record {
 
 pub invariant_of-self-2 : goal.invariant_of-self-2
 invariant_of-self-2 c = record {
-  known = λ t. more-read (is_source c.args.self.now.links.sources) (is_source c.add.new.self.sources) c.args.self.now.finished.keys c.add.ensures.kept (c.args.self.now.known t);
+  known = λ t. more-read (reads_in c.args.self.now.readings) (reads_in c.add.new.self) c.args.self.now.finished.keys c.add.ensures.kept (c.args.self.now.known t);
 }

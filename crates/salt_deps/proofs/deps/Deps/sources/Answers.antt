@@ -1,12 +1,12 @@
 use Rattle.salt_deps.proofs.deps.Deps.sources.Goals as goal
 use Rattle.salt_deps.specs.Due.{AreReached}
-use Rattle.salt_deps.specs.Maps.{is_source}
+use Rattle.salt_deps.specs.Group.{reads_in}
 use Rattle.law_states.specs.Rising.{Rising}
 use Rattle.std.proofs.Common.{subst, sym, ◌∙◌}
 
 pub returns-clause-all : goal.returns-clause-all
 returns-clause-all c =
-    subst (AreReached (is_source c.args.self.now.links.sources) c.args.base) (sym (c.from_vec.ensures ∙ c.in_ok-names.ensures.items)) c.in_ok-sources.ensures
+    subst (AreReached (reads_in c.args.self.now.readings) c.args.base) (sym (c.from_vec.ensures ∙ c.in_ok-names.ensures.items)) c.in_ok-sources.ensures
 
 pub returns-clause-order : goal.returns-clause-order
 returns-clause-order c = subst Rising (sym c.from_vec.ensures) c.in_ok-names.ensures.order
