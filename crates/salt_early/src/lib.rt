@@ -2,7 +2,6 @@
 #![tactic(auto)]
 
 mod cover;
-mod group;
 mod restoring;
 
 pub use restoring::{Restored, restore};

@@ -13,7 +13,6 @@ ghost use Rattle.salt_values.specs.declared.cont.Cont.{Cont};
 ghost use Rattle.std.specs.Prelude.{IfOk, length, map, ◌≡◌};
 
 use crate::cover::{cover, cover_count};
-use crate::group::group;
 use salt_books::Known;
 use salt_deps::Deps;
 use salt_locks::LockTable;
@@ -43,7 +42,7 @@ pub fn restore(alloc: Global, known: &Known) -> Result<Restored, AllocError>
     let tables = numbers.as_slice();
     let locks = cover(alloc, known.boot(), tables, named)?;
     let taken = cover_count(tables, named);
-    let deps = group(alloc, named)?;
+    let deps = Deps::of_group(alloc, named)?;
     Ok(Restored {
         locks,
         taken,
