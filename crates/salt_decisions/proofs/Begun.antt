@@ -9,7 +9,6 @@ use Rattle.salt_decisions.proofs.Contents.{log_bytes}
 use Rattle.salt_decisions.specs.Decisions.{HoldsLog, IsCounting, IsDecisions}
 use Rattle.salt_decisions.specs.Opened.{FullAtFirst, IsBlankImage, IsFirstImage, begun, first_payload}
 use Rattle.salt_decisions.specs.Pair.{IsCounted}
-use Rattle.salt_decisions.specs.Which.{which_in}
 use Rattle.salt_decisions.specs.declared.decisions.Decisions.{Decisions}
 use Rattle.salt_decisions.specs.declared.read.ReadLog.{ReadLog}
 use Rattle.salt_disk.proofs.CallAfterCall.{each_shrinks, keeps_on, keeps_wider}
@@ -199,7 +198,7 @@ other_settled e LogA a b = b
 other_settled e LogB a b = a
 
 pub opened_so : (d e : View) (which : WhichLog) (r : ReadLog) (x : Decisions) → KeepsAll d e None → 1 < d.count → IsSettled d 0 → IsSettled d 1 → (h : IsCounted e which r) → HoldsLog x h.read.log
-    → which_in x.which ≡ which → x.gate ≡ r.gate → IsDecisions e x which h.read.log
+    → x.which ≡ which → x.gate ≡ r.gate → IsDecisions e x which h.read.log
 opened_so d e which r x keeps known a b h holds own same = record {
   own = own;
   holds = holds;

@@ -4,7 +4,6 @@ use Rattle.salt_bytes.specs.Generations.{Counts, WhichLog, next_generation}
 use Rattle.salt_bytes.specs.Log.{entries_in}
 use Rattle.salt_decisions.specs.Header.{numbered_of}
 use Rattle.salt_decisions.specs.HeaderPayload.{header_with}
-use Rattle.salt_decisions.specs.Which.{which_in}
 use Rattle.salt_decisions.specs.declared.decisions.Decisions.{Decisions}
 use Rattle.salt_decisions.specs.declared.header.Definition.{Definition}
 use Rattle.salt_decisions.specs.declared.header_payload.TheConstants.{FORMAT}
@@ -66,7 +65,7 @@ pub record IsCounting (d : View) (gate : GateLog) (which : WhichLog) (log : Coor
   pub counts : IsTrue d.told → coordinator_pair (logs_of d.bytes) ≡ Counts which log
 
 pub record IsDecisions (d : View) (x : Decisions) (which : WhichLog) (log : CoordinatorLog) : Type 0 where
-  pub own : which_in x.which ≡ which
+  pub own : x.which ≡ which
   pub holds : HoldsLog x log
   pub counting : IsCounting d x.gate which log
 

@@ -7,6 +7,7 @@ ghost use Rattle.salt_disk.specs.Disks.{EachImage, FullExactly, FullOnly, HasCau
 ghost use Rattle.salt_disk.specs.declared.disks.DiskErr.TheVariants.{Full};
 ghost use Rattle.salt_gatelog.specs.Log as gates;
 ghost use Rattle.salt_gatelog.specs.Log.{gate_of, payload_in};
+ghost use Rattle.salt_place.specs.Placement.{IsParts};
 ghost use Rattle.salt_stands.specs.Coordinator.{device_of};
 ghost use Rattle.salt_stands.specs.CoordinatorLog.{CoordinatorLog, Told, tell};
 ghost use Rattle.salt_stands.specs.Pieces.{other_log};
@@ -23,6 +24,7 @@ use salt_place::Shape;
 use salt_values::{Cont, Id};
 use sqlite_items::Items;
 use std::alloc::Global;
+use std::marker::Model;
 
 /// The log of the coordinator that counts. `boot`, `define` and `decide` append one entry each, and `snapshot` begins the pair's
 /// other log. After an error of theirs the log is opened again before it is used.
@@ -36,6 +38,18 @@ pub struct Decisions {
     pub(crate) boot: u64,
     pub(crate) decisions: u64,
     pub(crate) definitions: Definitions,
+}
+
+impl Model for Decisions {
+    ghost use Rattle.salt_decisions.specs.Shown.{Shown};
+    ghost use Rattle.salt_decisions.specs.Which.{which_in};
+    ghost use Rattle.salt_place.specs.Placement.{IsParts};
+
+    ghost Value = { Shown };
+
+    ghost view = { λ d. record { which = which_in d.which; gate = d.gate; format = d.format; generation = d.generation; shape = d.shape; boot = d.boot; decisions = d.decisions; definitions = d.definitions } };
+
+    ghost invariant = { λ d. IsParts d.shape.parts };
 }
 
 /// Appends the entry that a frame holds to the log that counts. After Ok the log says what the entry tells. Whatever it answers,
@@ -79,7 +93,8 @@ impl Decisions {
 
     /// How many partitions there are, and how rows are spread over them.
     pub fn shape(&self) -> Shape
-        ensures { result ≡ shape_of self.now }
+        ensures value { result ≡ shape_of self.now }
+        ensures parts { IsParts result.parts }
     {
         self.shape
     }
@@ -105,6 +120,7 @@ impl Decisions {
 
         ensures ok { (which : WhichLog) (log : CoordinatorLog) → IsDecisions (D.view disks.old) self.old which log → OnOk result (IsDecisions (D.view disks.new) self.new which (booted log)) }
         ensures number { IfOk result (λ boot. boot ≡ last_boot self.old + 1) }
+        ensures shape { shape_of self.new ≡ shape_of self.old }
         ensures images { (which : WhichLog) (log : CoordinatorLog) → IsDecisions (D.view disks.old) self.old which log
             → EachImage (D.view disks.new) (device_of 0 which) (IsBeforeOrWith ((D.view disks.old).bytes (device_of 0 which)) (spell_entry (Boots (last_boot self.old + 1)))) }
 
@@ -134,6 +150,7 @@ impl Decisions {
         ensures ok { (which : WhichLog) (log : CoordinatorLog) → IsDecisions (D.view disks.old) self.old which log
             → OnOk result (IsDecisions (D.view disks.new) self.new which (defined log (next_definition self.old text.now))) }
         ensures number { IfOk result (λ number. number ≡ last_decision self.old + 1) }
+        ensures shape { shape_of self.new ≡ shape_of self.old }
         ensures images { (which : WhichLog) (log : CoordinatorLog) → IsDecisions (D.view disks.old) self.old which log
             → EachImage (D.view disks.new) (device_of 0 which) (IsBeforeOrWith ((D.view disks.old).bytes (device_of 0 which)) (spell_entry (Defines (next_definition self.old text.now)))) }
 
@@ -172,6 +189,7 @@ impl Decisions {
         ensures ok { (which : WhichLog) (log : CoordinatorLog) → IsDecisions (D.view disks.old) self.old which log
             → OnOk result (IsDecisions (D.view disks.new) self.new which (decided log (next_decision self.old unit parts mv.now))) }
         ensures number { IfOk result (λ number. number ≡ last_decision self.old + 1) }
+        ensures shape { shape_of self.new ≡ shape_of self.old }
         ensures images { (which : WhichLog) (log : CoordinatorLog) → IsDecisions (D.view disks.old) self.old which log
             → EachImage (D.view disks.new) (device_of 0 which) (IsBeforeOrWith ((D.view disks.old).bytes (device_of 0 which)) (spell_entry (Decides (next_decision self.old unit parts mv.now)))) }
 
@@ -200,6 +218,7 @@ impl Decisions {
 
         ensures ok { (which : WhichLog) (log : CoordinatorLog) → IsDecisions (D.view disks.old) self.old which log
             → OnOk result (IsDecisions (D.view disks.new) self.new (other_log which) (snapshotted log conts.now)) }
+        ensures shape { shape_of self.new ≡ shape_of self.old }
         ensures counting { (which : WhichLog) (log : CoordinatorLog) → IsDecisions (D.view disks.old) self.old which log
             → EachImage (D.view disks.new) (device_of 0 which) (HasSameEntries ((D.view disks.old).bytes (device_of 0 which))) }
         ensures images { (which : WhichLog) (log : CoordinatorLog) → IsDecisions (D.view disks.old) self.old which log

@@ -89,8 +89,9 @@ pub fn peek<D: Disks>(alloc: Global, disks: &mut D) -> Result<Option<(Shape, Kep
 
 /// What a log that was read keeps, and the log itself.
 fn opened(alloc: Global, which: Which, log: ReadLog) -> Result<(Decisions, Kept), AllocError>
+    requires parts { IsParts log.shape.parts }
     ensures holds { (l : CoordinatorLog) → IsOf log l → IfOk result (λ made. HoldsLog made.0 l × IsKept made.1 l) }
-    ensures same { IfOk result (λ made. (made.0.which ≡ which) × (made.0.gate ≡ log.gate)) }
+    ensures same { IfOk result (λ made. (made.0.which ≡ which_in which) × (made.0.gate ≡ log.gate)) }
     ensures device { IfOk result (λ made. made.1.device ≡ device_of 0 (which_in which)) }
 {
     let ReadLog {

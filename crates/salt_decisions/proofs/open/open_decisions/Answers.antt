@@ -69,7 +69,7 @@ returns-in_ok-opened-in-Counts-clause-ok g c =
     record {
       which = which_in c.in-Counts.which;
       log = h.read.log;
-      is = opened_so d e (which_in c.in-Counts.which) r _ keeps c.requires.known c.requires.settled_a c.requires.settled_b h holds.0 (ap which_in made.ensures.same.0) made.ensures.same.1;
+      is = opened_so d e (which_in c.in-Counts.which) r _ keeps c.requires.known c.requires.settled_a c.requires.settled_b h holds.0 made.ensures.same.0 made.ensures.same.1;
       keeps = holds.1;
       device = made.ensures.device;
       has_shape = ap (λ s. is_same_shape s c.args.shape) (sym h.read.is_of.shape) ∙ same;

@@ -3,15 +3,17 @@ use Rattle.salt_bytes.specs.Generations.{next_generation}
 use Rattle.salt_bytes.specs.Spellable.{IsSpellableHeader}
 use Rattle.salt_decisions.proofs.Snapshots.{apart_from, counting_images, next_is_some, snapshot_counts}
 use Rattle.salt_decisions.proofs.decisions.Decisions.snapshot.Goals as goal
+use Rattle.salt_decisions.specs.Decisions.{IsDecisions}
 use Rattle.salt_decisions.specs.HeaderPayload.{header_with}
 use Rattle.salt_decisions.specs.Which.{which_in}
+use Rattle.salt_decisions.specs.declared.decisions.Decisions.{Decisions}
 use Rattle.salt_decisions.specs.declared.header.Definition.{Definition}
 use Rattle.salt_disk.proofs.CallAfterCall.{shrinks_on}
 use Rattle.salt_disk.specs.Disks.{KeepsOthers}
 use Rattle.salt_gatelog.specs.Log as gates
 use Rattle.salt_stands.specs.Coordinator.{device_of}
 use Rattle.salt_stands.specs.Pieces.{other_log}
-use Rattle.std.proofs.Common.{List, None, [], ap, refl, subst, true, ℕ, ◌≡◌, ◌∙◌}
+use Rattle.std.proofs.Common.{List, None, [], ap, refl, subst, sym, true, ℕ, ◌≡◌, ◌∙◌}
 use Rattle.std.specs.Prelude.{nat_le}
 
 pub returns-clause-ok : goal.returns-clause-ok
@@ -19,9 +21,10 @@ returns-clause-ok g c which log h =
     let d0 = g.D.Disks.view c.args.disks.now in
     let d1 = g.D.Disks.view c.create.new.disks in
     let d2 = g.D.Disks.view c.append.new.disks in
-    let x = c.args.self.now in
+    let x = c.self.inside in
     let conts = c.args.conts.now in
-    let own : which_in c.other-which.result ≡ other_log which = c.other-which.ensures ∙ ap other_log h.own in
+    let was = subst (λ (x : Decisions). IsDecisions d0 x which log) (sym c.self.view_is) h in
+    let own : which_in c.other-which.result ≡ other_log which = c.other-which.ensures ∙ ap other_log was.own in
     let place : c.device.result ≡ device_of 0 (other_log which) = c.device.ensures ∙ ap (device_of 0) own in
     let device : gates.device_of c.in_ok-gate.gate ≡ device_of 0 (other_log which) = c.in_ok-gate.ensures.log.0 ∙ place in
     let first : KeepsOthers (device_of 0 (other_log which)) d0 d1 None = subst (λ dev. KeepsOthers dev d0 d1 None) place c.in_ok-gate.ensures.others in
@@ -30,19 +33,19 @@ returns-clause-ok g c which log h =
     let same : header c.next_generation-generation.result c.as_slice-definitions.result.now ≡ header (next_generation x.generation) x.definitions =
     ap (λ n. header n c.as_slice-definitions.result.now) c.next_generation-generation.ensures ∙ ap (λ ds. header (next_generation x.generation) ds) c.as_slice-definitions.ensures in
     let some : nat_le 1 c.next_generation-generation.result ≡ true = ap (λ n. nat_le 1 n) c.next_generation-generation.ensures ∙ next_is_some x.generation in
-    let good = subst IsSpellableHeader same (c.in_ok-payload.ensures.spellable some h.holds.parts) in
+    let good = subst IsSpellableHeader same (c.in_ok-payload.ensures.spellable some was.holds.parts) in
     record {
       own = own;
       holds = record {
         format = refl;
-        generation = c.next_generation-generation.ensures ∙ ap next_generation h.holds.generation;
-        shape = h.holds.shape;
-        boot = h.holds.boot;
-        decisions = h.holds.decisions;
-        definitions = h.holds.definitions;
-        parts = h.holds.parts;
+        generation = c.next_generation-generation.ensures ∙ ap next_generation was.holds.generation;
+        shape = was.holds.shape;
+        boot = was.holds.boot;
+        decisions = was.holds.decisions;
+        definitions = was.holds.definitions;
+        parts = was.holds.parts;
       };
-      counting = snapshot_counts d0 x which log h d1 d2 c.in_ok-gate.gate c.append.new.self c.deref.result.now conts
+      counting = snapshot_counts d0 _ which log was d1 d2 c.in_ok-gate.gate c.append.new.self c.deref.result.now conts
           (c.deref.ensures.value ∙ c.in_ok-payload.ensures.put ∙ ap spell_header same) good device first second c.append.ensures.device (c.in_ok-append.ensures.ok [] c.in_ok-gate.ensures.log.1);
     }
 
@@ -51,7 +54,8 @@ returns-clause-counting g c which log h =
     let d0 = g.D.Disks.view c.args.disks.now in
     let d1 = g.D.Disks.view c.create.new.disks in
     let d2 = g.D.Disks.view c.append.new.disks in
-    let own : which_in c.other-which.result ≡ other_log which = c.other-which.ensures ∙ ap other_log h.own in
+    let was = subst (λ (x : Decisions). IsDecisions d0 x which log) (sym c.self.view_is) h in
+    let own : which_in c.other-which.result ≡ other_log which = c.other-which.ensures ∙ ap other_log was.own in
     let place : c.device.result ≡ device_of 0 (other_log which) = c.device.ensures ∙ ap (device_of 0) own in
     let device : gates.device_of c.in_ok-gate.gate ≡ device_of 0 (other_log which) = c.in_ok-gate.ensures.log.0 ∙ place in
     let first : KeepsOthers (device_of 0 (other_log which)) d0 d1 None = subst (λ dev. KeepsOthers dev d0 d1 None) place c.in_ok-gate.ensures.others in
