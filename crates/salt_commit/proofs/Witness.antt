@@ -15,7 +15,6 @@ use Rattle.salt_decisions.proofs.Contents.{log_bytes}
 use Rattle.salt_decisions.specs.Decisions.{IsDecisions}
 use Rattle.salt_decisions.specs.Opened.{begun, first_payload}
 use Rattle.salt_decisions.specs.declared.decisions.Decisions.{Decisions}
-use Rattle.salt_decisions.specs.declared.which.Which.TheVariants.{A}
 use Rattle.salt_disk.specs.Disks.{View}
 use Rattle.salt_gatelog.specs.Log.{IsLog}
 use Rattle.salt_gatelog.specs.declared.log.GateLog.{GateLog}
@@ -54,7 +53,7 @@ abbrev gate : GateLog
 gate = record { dev = 0; end = 57; count = 1; next = 0; place = 0; block = None }
 
 abbrev counting : Decisions
-counting = record { which = A; gate = gate; format = 3; generation = 1; shape = shape; boot = 0; decisions = 0; definitions = [] }
+counting = record { which = LogA; gate = gate; format = 3; generation = 1; shape = shape; boot = 0; decisions = 0; definitions = [] }
 
 end_is : 57 ≡ length (spelled (first_payload shape ∷ []))
 unfolding framed

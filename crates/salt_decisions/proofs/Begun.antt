@@ -2,7 +2,7 @@
 use Rattle.salt_bytes.proofs.Logs.{reads_header}
 use Rattle.salt_bytes.specs.Coordinator.{header_in, is_number_of_parts}
 use Rattle.salt_bytes.specs.Generations as pair
-use Rattle.salt_bytes.specs.Generations.{BothBlank, Content, Counts, LogA, LogB, WhichLog, chosen, content_of, follows, pair_of, read_or_outside}
+use Rattle.salt_bytes.specs.Generations.{BothBlank, Content, LogA, LogB, WhichLog, chosen, content_of, follows, pair_of, read_or_outside}
 use Rattle.salt_bytes.specs.Log.{entries_in}
 use Rattle.salt_bytes.specs.Spellable.{IsSpellableHeader}
 use Rattle.salt_decisions.proofs.Contents.{log_bytes}

@@ -31,7 +31,7 @@ mask_of-mask-requires g c =
     let x = c.args.self.now in
     let d = g.D.Disks.view c.args.disks.now in
     let cs = c.args.changes.now in
-    let shared : c.deref.result.now ≡ shares_in x cs = c.deref.ensures.value ∙ c.in_ok-shares.ensures ∙ ap (λ s. shares_of s cs) c.shape-shape.ensures in
+    let shared : c.deref.result.now ≡ shares_in x cs = c.deref.ensures.value ∙ c.in_ok-shares.ensures ∙ ap (λ s. shares_of s cs) c.shape-shape.ensures.value in
     let s = c.requires.stands in
     few_shares reading d x s.which s.c s.v s.is c.args.unit cs c.args.mv.now s.m s.conts s.may c.deref.result.now shared
 
@@ -40,7 +40,7 @@ prepare_all-requires-clause-size g c =
     let x = c.args.self.now in
     let d = g.D.Disks.view c.args.disks.now in
     let cs = c.args.changes.now in
-    let shared : c.deref-2.result.now ≡ shares_in x cs = c.deref-2.ensures.value ∙ c.in_ok-shares.ensures ∙ ap (λ s. shares_of s cs) c.shape-shape.ensures in
+    let shared : c.deref-2.result.now ≡ shares_in x cs = c.deref-2.ensures.value ∙ c.in_ok-shares.ensures ∙ ap (λ s. shares_of s cs) c.shape-shape.ensures.value in
     let s = c.requires.stands in
     share_each reading d x s.which s.c s.v s.is c.args.unit cs c.args.mv.now s.m s.conts s.may c.deref-2.result.now shared
 
@@ -49,7 +49,7 @@ prepare_all-requires-clause-stand g c =
     let x = c.args.self.now in
     let d = g.D.Disks.view c.args.disks.now in
     let cs = c.args.changes.now in
-    let shared : c.deref-2.result.now ≡ shares_in x cs = c.deref-2.ensures.value ∙ c.in_ok-shares.ensures ∙ ap (λ s. shares_of s cs) c.shape-shape.ensures in
+    let shared : c.deref-2.result.now ≡ shares_in x cs = c.deref-2.ensures.value ∙ c.in_ok-shares.ensures ∙ ap (λ s. shares_of s cs) c.shape-shape.ensures.value in
     let s = c.requires.stands in
     may_begin reading d x s.which s.c s.v s.is c.args.unit cs c.args.mv.now s.m s.conts s.may c.deref-2.result.now shared
 
@@ -58,7 +58,7 @@ returns-in_err-prepare_all-clause-images g c which co v m conts is may told aske
     let x = c.args.self.now in
     let d = g.D.Disks.view c.args.disks.now in
     let cs = c.args.changes.now in
-    let shared : c.deref-2.result.now ≡ shares_in x cs = c.deref-2.ensures.value ∙ c.in_ok-shares.ensures ∙ ap (λ s. shares_of s cs) c.shape-shape.ensures in
+    let shared : c.deref-2.result.now ≡ shares_in x cs = c.deref-2.ensures.value ∙ c.in_ok-shares.ensures ∙ ap (λ s. shares_of s cs) c.shape-shape.ensures.value in
     let hand : IsInHand c.args.unit cs c.args.mv.now = record { unit = record { boot = omega arith; seq = omega arith }; count = omega arith; move = omega arith; changes = c.told_changes.ensures } in
     let below : last_decision x + 1 < 2 ^ 64 = omega (arith, c.requires.below) in
     inl (undecided_image reading d x which co v is c.args.unit cs c.args.mv.now m conts may c.deref-2.result.now shared hand below told (g.D.Disks.view c.prepare_all.new.disks) (result_err c.prepare_all.result) c.prepare_all.ensures.others c.prepare_all.ensures.images asked image left)
@@ -68,7 +68,7 @@ returns-in_err-prepare_all-clause-others g c =
     let x = c.args.self.now in
     let d = g.D.Disks.view c.args.disks.now in
     let cs = c.args.changes.now in
-    let shared : c.deref-2.result.now ≡ shares_in x cs = c.deref-2.ensures.value ∙ c.in_ok-shares.ensures ∙ ap (λ s. shares_of s cs) c.shape-shape.ensures in
+    let shared : c.deref-2.result.now ≡ shares_in x cs = c.deref-2.ensures.value ∙ c.in_ok-shares.ensures ∙ ap (λ s. shares_of s cs) c.shape-shape.ensures.value in
     let p = err_from_is_err_and c.from_residual-in_err-prepare_all.result c.from_residual-in_err-prepare_all.ensures.1 in
     rw (answer_is c.from_residual-in_err-prepare_all.result p.0 c.in_err-prepare_all.field-0.0 p.1 p.2) (wider_shares x cs c.deref-2.result.now shared d (g.D.Disks.view c.prepare_all.new.disks) (Some c.in_err-prepare_all.field-0.0) c.in_err-prepare_all.ensures.others)
 
@@ -77,7 +77,7 @@ decide-requires-clause-log g c =
     let x = c.args.self.now in
     let d = g.D.Disks.view c.args.disks.now in
     let cs = c.args.changes.now in
-    let shared : c.deref-2.result.now ≡ shares_in x cs = c.deref-2.ensures.value ∙ c.in_ok-shares.ensures ∙ ap (λ s. shares_of s cs) c.shape-shape.ensures in
+    let shared : c.deref-2.result.now ≡ shares_in x cs = c.deref-2.ensures.value ∙ c.in_ok-shares.ensures ∙ ap (λ s. shares_of s cs) c.shape-shape.ensures.value in
     let hand : IsInHand c.args.unit cs c.args.mv.now = record { unit = record { boot = omega arith; seq = omega arith }; count = omega arith; move = omega arith; changes = c.told_changes.ensures } in
     let below : last_decision x + 1 < 2 ^ 64 = omega (arith, c.requires.below) in
     let s = c.requires.stands in
@@ -91,7 +91,7 @@ decide-requires-clause-bits g c =
     let x = c.args.self.now in
     let d = g.D.Disks.view c.args.disks.now in
     let cs = c.args.changes.now in
-    let shared : c.deref.result.now ≡ shares_in x cs = c.deref.ensures.value ∙ c.in_ok-shares.ensures ∙ ap (λ s. shares_of s cs) c.shape-shape.ensures in
+    let shared : c.deref.result.now ≡ shares_in x cs = c.deref.ensures.value ∙ c.in_ok-shares.ensures ∙ ap (λ s. shares_of s cs) c.shape-shape.ensures.value in
     let s = c.requires.stands in
     ap (λ n. Rattle.std.specs.Prelude.nat_lt n (2 ^ (decisions.shape_of x.decisions).parts)) c.mask_of-mask.ensures.mask ∙ mask_within reading d x s.which s.c s.v s.is c.args.unit cs c.args.mv.now s.m s.conts s.may c.deref.result.now shared
 
@@ -100,7 +100,7 @@ returns-in_err-number-clause-images g c which co v m conts is may told asked ima
     let x = c.args.self.now in
     let d = g.D.Disks.view c.args.disks.now in
     let cs = c.args.changes.now in
-    let shared : c.deref-2.result.now ≡ shares_in x cs = c.deref-2.ensures.value ∙ c.in_ok-shares.ensures ∙ ap (λ s. shares_of s cs) c.shape-shape.ensures in
+    let shared : c.deref-2.result.now ≡ shares_in x cs = c.deref-2.ensures.value ∙ c.in_ok-shares.ensures ∙ ap (λ s. shares_of s cs) c.shape-shape.ensures.value in
     let hand : IsInHand c.args.unit cs c.args.mv.now = record { unit = record { boot = omega arith; seq = omega arith }; count = omega arith; move = omega arith; changes = c.told_changes.ensures } in
     let below : last_decision x + 1 < 2 ^ 64 = omega (arith, c.requires.below) in
     let b = g.D.Disks.view c.prepare_all.new.disks in
@@ -119,7 +119,7 @@ returns-in_err-number-clause-others g c =
     let x = c.args.self.now in
     let d = g.D.Disks.view c.args.disks.now in
     let cs = c.args.changes.now in
-    let shared : c.deref-2.result.now ≡ shares_in x cs = c.deref-2.ensures.value ∙ c.in_ok-shares.ensures ∙ ap (λ s. shares_of s cs) c.shape-shape.ensures in
+    let shared : c.deref-2.result.now ≡ shares_in x cs = c.deref-2.ensures.value ∙ c.in_ok-shares.ensures ∙ ap (λ s. shares_of s cs) c.shape-shape.ensures.value in
     let p = err_from_is_err_and c.from_residual-in_err-number.result c.from_residual-in_err-number.ensures.1 in
     rw (answer_is c.from_residual-in_err-number.result p.0 c.in_err-number.field-0.0 p.1 p.2) (wider_decision x cs c.deref-2.result.now shared d (g.D.Disks.view c.prepare_all.new.disks) (g.D.Disks.view c.decide.new.disks) (Some c.in_err-number.field-0.0) c.in_ok-prepare_all.ensures.others c.in_err-number.ensures.others)
 
@@ -128,7 +128,7 @@ apply_all-requires-clause-size g c =
     let x = c.args.self.now in
     let d = g.D.Disks.view c.args.disks.now in
     let cs = c.args.changes.now in
-    let shared : c.deref-3.result.now ≡ shares_in x cs = c.deref-3.ensures.value ∙ c.in_ok-shares.ensures ∙ ap (λ s. shares_of s cs) c.shape-shape.ensures in
+    let shared : c.deref-3.result.now ≡ shares_in x cs = c.deref-3.ensures.value ∙ c.in_ok-shares.ensures ∙ ap (λ s. shares_of s cs) c.shape-shape.ensures.value in
     let s = c.requires.stands in
     share_each reading d x s.which s.c s.v s.is c.args.unit cs c.args.mv.now s.m s.conts s.may c.deref-3.result.now shared ∙ sym c.in_ok-prepare_all.ensures.size
 
@@ -137,7 +137,7 @@ apply_all-requires-clause-stand g c =
     let x = c.args.self.now in
     let d = g.D.Disks.view c.args.disks.now in
     let cs = c.args.changes.now in
-    let shared : c.deref-2.result.now ≡ shares_in x cs = c.deref-2.ensures.value ∙ c.in_ok-shares.ensures ∙ ap (λ s. shares_of s cs) c.shape-shape.ensures in
+    let shared : c.deref-2.result.now ≡ shares_in x cs = c.deref-2.ensures.value ∙ c.in_ok-shares.ensures ∙ ap (λ s. shares_of s cs) c.shape-shape.ensures.value in
     let hand : IsInHand c.args.unit cs c.args.mv.now = record { unit = record { boot = omega arith; seq = omega arith }; count = omega arith; move = omega arith; changes = c.told_changes.ensures } in
     let below : last_decision x + 1 < 2 ^ 64 = omega (arith, c.requires.below) in
     let s = c.requires.stands in
@@ -152,7 +152,7 @@ returns-in_err-apply_all-clause-images g c which co v m conts is may told asked 
     let x = c.args.self.now in
     let d = g.D.Disks.view c.args.disks.now in
     let cs = c.args.changes.now in
-    let shared : c.deref-2.result.now ≡ shares_in x cs = c.deref-2.ensures.value ∙ c.in_ok-shares.ensures ∙ ap (λ s. shares_of s cs) c.shape-shape.ensures in
+    let shared : c.deref-2.result.now ≡ shares_in x cs = c.deref-2.ensures.value ∙ c.in_ok-shares.ensures ∙ ap (λ s. shares_of s cs) c.shape-shape.ensures.value in
     let hand : IsInHand c.args.unit cs c.args.mv.now = record { unit = record { boot = omega arith; seq = omega arith }; count = omega arith; move = omega arith; changes = c.told_changes.ensures } in
     let below : last_decision x + 1 < 2 ^ 64 = omega (arith, c.requires.below) in
     let b = g.D.Disks.view c.prepare_all.new.disks in
@@ -172,7 +172,7 @@ returns-in_err-apply_all-clause-others g c =
     let x = c.args.self.now in
     let d = g.D.Disks.view c.args.disks.now in
     let cs = c.args.changes.now in
-    let shared : c.deref-2.result.now ≡ shares_in x cs = c.deref-2.ensures.value ∙ c.in_ok-shares.ensures ∙ ap (λ s. shares_of s cs) c.shape-shape.ensures in
+    let shared : c.deref-2.result.now ≡ shares_in x cs = c.deref-2.ensures.value ∙ c.in_ok-shares.ensures ∙ ap (λ s. shares_of s cs) c.shape-shape.ensures.value in
     let p = err_from_is_err_and c.from_residual-in_err-apply_all.result c.from_residual-in_err-apply_all.ensures.1 in
     rw (answer_is c.from_residual-in_err-apply_all.result p.0 c.in_err-apply_all.field-0.0 p.1 p.2) (wider_apply x cs c.deref-2.result.now shared d (g.D.Disks.view c.prepare_all.new.disks) (g.D.Disks.view c.decide.new.disks) (g.D.Disks.view c.apply_all.new.disks) (Some c.in_err-apply_all.field-0.0) c.in_ok-prepare_all.ensures.others c.in_ok-number.ensures.others c.in_err-apply_all.ensures.kept)
 
@@ -181,7 +181,7 @@ returns-clause-others g c =
     let x = c.args.self.now in
     let d = g.D.Disks.view c.args.disks.now in
     let cs = c.args.changes.now in
-    let shared : c.deref-2.result.now ≡ shares_in x cs = c.deref-2.ensures.value ∙ c.in_ok-shares.ensures ∙ ap (λ s. shares_of s cs) c.shape-shape.ensures in
+    let shared : c.deref-2.result.now ≡ shares_in x cs = c.deref-2.ensures.value ∙ c.in_ok-shares.ensures ∙ ap (λ s. shares_of s cs) c.shape-shape.ensures.value in
     wider_apply x cs c.deref-2.result.now shared d (g.D.Disks.view c.prepare_all.new.disks) (g.D.Disks.view c.decide.new.disks) (g.D.Disks.view c.apply_all.new.disks) None c.in_ok-prepare_all.ensures.others c.in_ok-number.ensures.others c.in_ok-apply_all.ensures.kept
 
 pub returns-clause-ok : goal.returns-clause-ok
@@ -189,7 +189,7 @@ returns-clause-ok g c which co v m conts is may =
     let x = c.args.self.now in
     let d = g.D.Disks.view c.args.disks.now in
     let cs = c.args.changes.now in
-    let shared : c.deref-2.result.now ≡ shares_in x cs = c.deref-2.ensures.value ∙ c.in_ok-shares.ensures ∙ ap (λ s. shares_of s cs) c.shape-shape.ensures in
+    let shared : c.deref-2.result.now ≡ shares_in x cs = c.deref-2.ensures.value ∙ c.in_ok-shares.ensures ∙ ap (λ s. shares_of s cs) c.shape-shape.ensures.value in
     let hand : IsInHand c.args.unit cs c.args.mv.now = record { unit = record { boot = omega arith; seq = omega arith }; count = omega arith; move = omega arith; changes = c.told_changes.ensures } in
     let below : last_decision x + 1 < 2 ^ 64 = omega (arith, c.requires.below) in
     let b = g.D.Disks.view c.prepare_all.new.disks in
@@ -211,7 +211,7 @@ returns-clause-images g c which co v m conts is may told asked image left =
     let x = c.args.self.now in
     let d = g.D.Disks.view c.args.disks.now in
     let cs = c.args.changes.now in
-    let shared : c.deref-2.result.now ≡ shares_in x cs = c.deref-2.ensures.value ∙ c.in_ok-shares.ensures ∙ ap (λ s. shares_of s cs) c.shape-shape.ensures in
+    let shared : c.deref-2.result.now ≡ shares_in x cs = c.deref-2.ensures.value ∙ c.in_ok-shares.ensures ∙ ap (λ s. shares_of s cs) c.shape-shape.ensures.value in
     let hand : IsInHand c.args.unit cs c.args.mv.now = record { unit = record { boot = omega arith; seq = omega arith }; count = omega arith; move = omega arith; changes = c.told_changes.ensures } in
     let below : last_decision x + 1 < 2 ^ 64 = omega (arith, c.requires.below) in
     let b = g.D.Disks.view c.prepare_all.new.disks in
@@ -235,7 +235,7 @@ returns-in_err-prepare_all-clause-pages g c which co v m conts is may told image
     let x = c.args.self.now in
     let d = g.D.Disks.view c.args.disks.now in
     let cs = c.args.changes.now in
-    let shared : c.deref-2.result.now ≡ shares_in x cs = c.deref-2.ensures.value ∙ c.in_ok-shares.ensures ∙ ap (λ s. shares_of s cs) c.shape-shape.ensures in
+    let shared : c.deref-2.result.now ≡ shares_in x cs = c.deref-2.ensures.value ∙ c.in_ok-shares.ensures ∙ ap (λ s. shares_of s cs) c.shape-shape.ensures.value in
     let hand : IsInHand c.args.unit cs c.args.mv.now = record { unit = record { boot = omega arith; seq = omega arith }; count = omega arith; move = omega arith; changes = c.told_changes.ensures } in
     let below : last_decision x + 1 < 2 ^ 64 = omega (arith, c.requires.below) in
     unnamed reading d x which co v is c.args.unit cs c.args.mv.now m conts may c.deref-2.result.now shared hand below told (g.D.Disks.view c.prepare_all.new.disks) (g.D.Disks.view c.prepare_all.new.disks) (result_err c.prepare_all.result) c.prepare_all.ensures.others c.prepare_all.ensures.images
@@ -246,7 +246,7 @@ returns-in_err-number-clause-pages g c which co v m conts is may told image left
     let x = c.args.self.now in
     let d = g.D.Disks.view c.args.disks.now in
     let cs = c.args.changes.now in
-    let shared : c.deref-2.result.now ≡ shares_in x cs = c.deref-2.ensures.value ∙ c.in_ok-shares.ensures ∙ ap (λ s. shares_of s cs) c.shape-shape.ensures in
+    let shared : c.deref-2.result.now ≡ shares_in x cs = c.deref-2.ensures.value ∙ c.in_ok-shares.ensures ∙ ap (λ s. shares_of s cs) c.shape-shape.ensures.value in
     let hand : IsInHand c.args.unit cs c.args.mv.now = record { unit = record { boot = omega arith; seq = omega arith }; count = omega arith; move = omega arith; changes = c.told_changes.ensures } in
     let below : last_decision x + 1 < 2 ^ 64 = omega (arith, c.requires.below) in
     unnamed reading d x which co v is c.args.unit cs c.args.mv.now m conts may c.deref-2.result.now shared hand below told (g.D.Disks.view c.prepare_all.new.disks) (g.D.Disks.view c.decide.new.disks) (result_err c.prepare_all.result) c.prepare_all.ensures.others c.prepare_all.ensures.images
@@ -257,7 +257,7 @@ returns-in_err-apply_all-clause-pages g c which co v m conts is may told image l
     let x = c.args.self.now in
     let d = g.D.Disks.view c.args.disks.now in
     let cs = c.args.changes.now in
-    let shared : c.deref-2.result.now ≡ shares_in x cs = c.deref-2.ensures.value ∙ c.in_ok-shares.ensures ∙ ap (λ s. shares_of s cs) c.shape-shape.ensures in
+    let shared : c.deref-2.result.now ≡ shares_in x cs = c.deref-2.ensures.value ∙ c.in_ok-shares.ensures ∙ ap (λ s. shares_of s cs) c.shape-shape.ensures.value in
     let hand : IsInHand c.args.unit cs c.args.mv.now = record { unit = record { boot = omega arith; seq = omega arith }; count = omega arith; move = omega arith; changes = c.told_changes.ensures } in
     let below : last_decision x + 1 < 2 ^ 64 = omega (arith, c.requires.below) in
     unnamed reading d x which co v is c.args.unit cs c.args.mv.now m conts may c.deref-2.result.now shared hand below told (g.D.Disks.view c.prepare_all.new.disks) (g.D.Disks.view c.apply_all.new.disks) (result_err c.prepare_all.result) c.prepare_all.ensures.others c.prepare_all.ensures.images
@@ -268,7 +268,7 @@ returns-clause-pages g c which co v m conts is may told image left p dev low nam
     let x = c.args.self.now in
     let d = g.D.Disks.view c.args.disks.now in
     let cs = c.args.changes.now in
-    let shared : c.deref-2.result.now ≡ shares_in x cs = c.deref-2.ensures.value ∙ c.in_ok-shares.ensures ∙ ap (λ s. shares_of s cs) c.shape-shape.ensures in
+    let shared : c.deref-2.result.now ≡ shares_in x cs = c.deref-2.ensures.value ∙ c.in_ok-shares.ensures ∙ ap (λ s. shares_of s cs) c.shape-shape.ensures.value in
     let hand : IsInHand c.args.unit cs c.args.mv.now = record { unit = record { boot = omega arith; seq = omega arith }; count = omega arith; move = omega arith; changes = c.told_changes.ensures } in
     let below : last_decision x + 1 < 2 ^ 64 = omega (arith, c.requires.below) in
     unnamed reading d x which co v is c.args.unit cs c.args.mv.now m conts may c.deref-2.result.now shared hand below told (g.D.Disks.view c.prepare_all.new.disks) (g.D.Disks.view c.apply_all.new.disks) (result_err c.prepare_all.result) c.prepare_all.ensures.others c.prepare_all.ensures.images

@@ -15,7 +15,7 @@ returns-in_err-row-clause-stands g c which co v is =
     let d = g.D.Disks.view c.args.disks.now in
     let p = c.part_of-number.result in
     let q = c.index_mut-part.result.now in
-    let within : p < length x.parts.items = omega (arith, c.part_of-number.ensures.below, ap (λ s. s.parts) c.shape.ensures, ap (λ s. s.parts) is.decisions.holds.shape, is.size) in
+    let within : p < length x.parts.items = omega (arith, c.part_of-number.ensures.below, ap (λ s. s.parts) c.shape.ensures.value, ap (λ s. s.parts) is.decisions.holds.shape, is.size) in
     let own = taken reading d x which co v is p q within c.index_mut-part.ensures.value in
     let e = err_from_is_err_and c.from_residual.result c.from_residual.ensures.1 in
     rw (answer_is c.from_residual.result e.0 c.in_err-row.field-0.0 e.1 e.2)
@@ -28,9 +28,9 @@ returns-clause-row g c which co v is told =
     let p = c.part_of-number.result in
     let q = c.index_mut-part.result.now in
     let key = c.args.key.now in
-    let within : p < length x.parts.items = omega (arith, c.part_of-number.ensures.below, ap (λ s. s.parts) c.shape.ensures, ap (λ s. s.parts) is.decisions.holds.shape, is.size) in
+    let within : p < length x.parts.items = omega (arith, c.part_of-number.ensures.below, ap (λ s. s.parts) c.shape.ensures.value, ap (λ s. s.parts) is.decisions.holds.shape, is.size) in
     let own = taken reading d x which co v is p q within c.index_mut-part.ensures.value in
-    let here : p ≡ part_of_key co.log.header.shape key = c.part_of-number.ensures.part ∙ ap (λ s. part_of_key s key) (c.shape.ensures ∙ is.decisions.holds.shape) in
+    let here : p ≡ part_of_key co.log.header.shape key = c.part_of-number.ensures.part ∙ ap (λ s. part_of_key s key) (c.shape.ensures.value ∙ is.decisions.holds.shape) in
     let low : part_of_key co.log.header.shape key < parts_of co = omega (arith, here, within, is.size) in
     c.in_ok-row.ensures.row p (v p) _ own ∙ ap (λ k. row_at (place c.args.table key) (tables_of co k (v k))) here ∙ sym (row_of_all reading d x which co v is told c.args.table key low)
 
@@ -40,6 +40,6 @@ returns-clause-stands g c which co v is =
     let d = g.D.Disks.view c.args.disks.now in
     let p = c.part_of-number.result in
     let q = c.index_mut-part.result.now in
-    let within : p < length x.parts.items = omega (arith, c.part_of-number.ensures.below, ap (λ s. s.parts) c.shape.ensures, ap (λ s. s.parts) is.decisions.holds.shape, is.size) in
+    let within : p < length x.parts.items = omega (arith, c.part_of-number.ensures.below, ap (λ s. s.parts) c.shape.ensures.value, ap (λ s. s.parts) is.decisions.holds.shape, is.size) in
     let own = taken reading d x which co v is p q within c.index_mut-part.ensures.value in
     stands_after reading d x which co v is p q within c.index_mut-part.ensures.value (g.D.Disks.view c.get.new.disks) None _ c.get.new.self c.in_ok-row.ensures.kept (c.in_ok-row.ensures.stands p (v p) _ own) refl refl

@@ -19,7 +19,7 @@ loop-part-preserved g c =
     ap (λ (l : List Partition). slice_get l part) (sym c.deref.ensures.value) ∙ ap (slice_get c.deref.result.now) (sym c.from.ensures)
     ∙ slice_get_read c.deref.result.now (length c.deref.result.now) c.from.result q refl found.3.0 found.1 in
     one_more_fits c.args.schema.now (shape_of x.decisions) x.parts.items part q at c.loop-part.invariant
-    (ap (λ (s : Shape). list_all (fits_place c.args.schema.now s part) q.rows.entries) (sym c.shape-shape.ensures) ∙ ap (list_all (fits_place c.args.schema.now c.shape-shape.result part)) (sym c.rows.ensures)
+    (ap (λ (s : Shape). list_all (fits_place c.args.schema.now s part) q.rows.entries) (sym c.shape-shape.ensures.value) ∙ ap (list_all (fits_place c.args.schema.now c.shape-shape.result part)) (sym c.rows.ensures)
     ∙ sym c.in_ok-rows_fit.ensures ∙ c.if-not-branch.false)
 
 pub returns-then-not-branch-clause-told : goal.returns-then-not-branch-clause-told
@@ -31,7 +31,7 @@ returns-then-not-branch-clause-told g c which co v is told tables =
     let at : slice_get x.parts.items part ≡ Some q =
     ap (λ (l : List Partition). slice_get l part) (sym c.deref.ensures.value) ∙ ap (slice_get c.deref.result.now) (sym c.from.ensures)
     ∙ slice_get_read c.deref.result.now (length c.deref.result.now) c.from.result q refl found.3.0 found.1 in
-    let shape : c.shape-shape.result ≡ co.log.header.shape = c.shape-shape.ensures ∙ is.decisions.holds.shape in
+    let shape : c.shape-shape.result ≡ co.log.header.shape = c.shape-shape.ensures.value ∙ is.decisions.holds.shape in
     let count : c.shape-shape.result.parts ≡ parts_of co = ap (λ (s : Shape). s.parts) shape in
     let low : part < parts_of co = omega (arith, c.loop-part-test.true, count) in
     let fits = told_fits c.args.schema.now (g.D.Disks.view c.args.disks.now) x which co v is told tables part low q at in
@@ -42,7 +42,7 @@ pub returns-clause-fit : goal.returns-clause-fit
 returns-clause-fit g c fitting which co v is =
     let x = c.args.self.now in
     let l = c.loop-part in
-    let shape : c.shape-shape.result ≡ co.log.header.shape = c.shape-shape.ensures ∙ is.decisions.holds.shape in
+    let shape : c.shape-shape.result ≡ co.log.header.shape = c.shape-shape.ensures.value ∙ is.decisions.holds.shape in
     let count : c.shape-shape.result.parts ≡ parts_of co = ap (λ (s : Shape). s.parts) shape in
     in_place c.args.schema.now (g.D.Disks.view c.args.disks.now) x which co v is (shape_of x.decisions) is.decisions.holds.shape
     (λ p low. l.invariant p (omega (arith, low, count, c.loop-part-test.false)))
