@@ -8,3 +8,4 @@ pub mod Readable
 pub mod Others
 pub mod Resuming
 pub mod Naming
+pub mod Holding

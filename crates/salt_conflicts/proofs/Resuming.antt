@@ -12,6 +12,7 @@ use Rattle.law_story.proofs.Ids.{and_left, and_right}
 use Rattle.salt_model.specs.declared.events.Event.TheVariants.{Early}
 use Rattle.salt_values.specs.Id.{has_id, is_same_id}
 use Rattle.salt_values.specs.declared.id.Id.{Id}
+use Rattle.salt_conflicts.proofs.Holding.{unknown}
 use Rattle.salt_conflicts.proofs.Same.{itself, same-dependencies, watch_beside}
 use Rattle.salt_conflicts.specs.Watched.{GoesBy}
 use Rattle.salt_conflicts.specs.declared.watching.Watching.{Watching}
@@ -46,8 +47,8 @@ grouped f bs old = record {
 }
 
 pub resumes : (x : Watching) (w : Watch) (f : UnitFacts) → x.waits.items ≡ [] → SameMembers x.locks (numbered_from 0 f.cover) → x.taken ≡ length f.cover →
-    AreSame (group_of x.programs.names) (dependencies x.deps) → GoesBy f (Early x.programs.names) w x
-resumes x w f waits locks taken group = (
+    AreSame (group_of x.programs.names) (dependencies x.deps) → x.held ≡ false → GoesBy f (Early x.programs.names) w x
+resumes x w f waits locks taken group held = (
   watch_beside (dependencies x.deps) x [],
   record {
     locks = subst (λ ns. SameMembers x.locks (ns ++ numbered_from 0 f.cover)) (sym (none-left w.table)) locks;
@@ -57,5 +58,5 @@ resumes x w f waits locks taken group = (
     dependencies = subst (DependenciesBy f (Early x.programs.names) w.dependencies)
         (sym (same-dependencies (group_of x.programs.names) (dependencies x.deps) group)) (grouped f x.programs.names w.dependencies);
   },
-  record { table = refl; taken = refl; waits = sym waits; programs = refl; dependencies = itself (dependencies x.deps) },
+  record { table = refl; taken = refl; waits = sym waits; programs = refl; dependencies = itself (dependencies x.deps); holders = unknown x.held x.holders.items x.locks x.waits.items held },
 )

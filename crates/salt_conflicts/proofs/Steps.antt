@@ -62,7 +62,7 @@ pub not-empty : {A : Type 0} (xs : List A) → (xs ≡ [] → ⊥) → is_empty 
 not-empty [] h = absurd (h refl)
 not-empty (x ∷ xs) h = refl
 
-served-first : (ls : List Lock) (w : Waiter) (ws : List Waiter) (b : Bool) → is_empty (clash_owners ls (asker_of w)) ≡ b →
+pub served-first : (ls : List Lock) (w : Waiter) (ws : List Waiter) (b : Bool) → is_empty (clash_owners ls (asker_of w)) ≡ b →
     served_in ls (askers (w ∷ ws)) ≡ cond b (Some w.unit) (served_in ls (askers ws))
 served-first ls w ws b e = by (is_empty (clash_owners ls (asker_of w))) ∙ ap (λ t. cond t (Some w.unit) (served_in ls (askers ws))) e
   where

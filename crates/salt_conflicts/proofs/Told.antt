@@ -28,7 +28,7 @@ use Rattle.std.specs.Prelude.{Bool, List, None, Option, Some, [], cond, false, i
 
 -- SERVICE
 
-pub served-same : (ls : List Lock) (ws : List Asker) → served_in ls (askers (map waiter_of ws)) ≡ served_in ls ws
+served-same : (ls : List Lock) (ws : List Asker) → served_in ls (askers (map waiter_of ws)) ≡ served_in ls ws
 served-same ls [] = refl
 served-same ls (w ∷ ws) = by (is_empty (clash_owners ls w)) (served-same ls ws)
   where
@@ -37,6 +37,13 @@ served-same ls (w ∷ ws) = by (is_empty (clash_owners ls w)) (served-same ls ws
         ≡ option_map (λ (a : Asker). a.unit) (cond b (Some w) (find (λ a. is_empty (clash_owners ls a)) ws))
     by true e = refl
     by false e = e
+
+pub served-read : (w : Watch) (table : List Numbered) (ws : List Waiter) → w.table ≡ table → map waiter_of w.waits ≡ ws →
+    served_in (map (λ (n : Numbered). n.lock) table) (askers ws) ≡ served_in (map (λ (n : Numbered). n.lock) w.table) w.waits
+served-read w table ws is waits =
+    let ls = map (λ (n : Numbered). n.lock) table in
+    ap (λ (vs : List Waiter). served_in ls (askers vs)) (sym waits)
+    ∙ (served-same ls w.waits ∙ ap (λ (t : List Numbered). served_in (map (λ (n : Numbered). n.lock) t) w.waits) (sym is))
 
 inserted-some : (u : Id) (us : List Id) {A : Type 0} (f : Id → A) (more : List A) → is_empty (map f (insert_id u us) ++ more) ≡ false
 inserted-some u [] f more = refl
@@ -93,6 +100,14 @@ found-held p (x ∷ xs) l h = by (p x) h (found-held p xs l)
     by : (b : Bool) → cond b (Some x) (find p xs) ≡ Some l → (find p xs ≡ Some l → In l xs) → In l (x ∷ xs)
     by true e more = let same : x ≡ l = cc in inl same
     by false e more = inr (more e)
+
+pub found-passes : (p : Lock → Bool) (ls : List Lock) (l : Lock) → find p ls ≡ Some l → p l ≡ true
+found-passes p [] l h = cc
+found-passes p (x ∷ xs) l h = by (p x) refl h (found-passes p xs l)
+  where
+    by : (b : Bool) → p x ≡ b → cond b (Some x) (find p xs) ≡ Some l → (find p xs ≡ Some l → p l ≡ true) → p l ≡ true
+    by true is e more = let same : x ≡ l = cc in subst (λ (y : Lock). p y ≡ true) same is
+    by false is e more = more e
 
 pub some-free : (p : Lock → Bool) (ls : List Lock) (found : Option (Bor Lock)) → option_copied found ≡ find p ls → is_empty (owners_of (filter p ls)) ≡ not (is_some found)
 some-free p ls found is = sym (free-of p ls) ∙ ap not (sym (find-any p ls) ∙ (ap is_some (sym is) ∙ some-copied found))

@@ -38,4 +38,6 @@ pub record HasReached (u : Id) (base : Option Id) (family : Family) (r : Reach) 
   pub taken : new.taken ≡ old.taken + 1
   pub waits : new.waits.items ≡ old.waits.items
   pub programs : new.programs.names ≡ old.programs.names
+  pub held : new.held ≡ old.held
+  pub holders : new.holders.items ≡ old.holders.items
   pub reads : HasReadBy base r (dependencies old.deps) (dependencies new.deps)

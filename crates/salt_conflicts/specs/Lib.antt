@@ -2,4 +2,5 @@ pub mod Waiters
 pub mod Shown
 pub mod Calls
 pub mod Names
+pub mod Holders
 pub mod Watched

@@ -5,6 +5,7 @@
 #![tactic(auto)]
 
 mod graph;
+mod holders;
 mod laws;
 mod programs;
 mod served;

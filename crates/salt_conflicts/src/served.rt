@@ -9,8 +9,10 @@ ghost use Rattle.law_states.specs.Members.{In};
 ghost use Rattle.salt_conflicts.specs.Waiters.{HoldsAlready, asker_of, askers, holds_up};
 ghost use Rattle.salt_model.specs.declared.locks.Lock.{Lock};
 ghost use Rattle.std.specs.Option.{option_copied};
-ghost use Rattle.std.specs.Prelude.{IfOk, Some, is_some, not, true, ◌≡◌};
+ghost use Rattle.salt_conflicts.specs.Holders.{AreHeldUp};
+ghost use Rattle.std.specs.Prelude.{IfOk, None, Some, is_some, not, true, ◌≡◌};
 
+use crate::holders::note;
 use crate::waiters::Waiter;
 use salt_locks::{LockTable, clashes};
 use salt_model::{Family, Lock, Owner, Owners, Reach};
@@ -68,6 +70,7 @@ fn holds_up(lock: Option<&Lock>, waiter: &Waiter) -> bool
 /// The first lock that holds up a waiting unit.
 fn first_clash<'a>(locks: &'a LockTable, waiter: &Waiter) -> Option<&'a Lock>
     ensures held { (l : Lock) → option_copied result ≡ Some l → In l (locks_in locks.now) }
+    ensures clashes { (l : Lock) → option_copied result ≡ Some l → holds_up (Some l) waiter.now.reach waiter.now.unit waiter.now.family ≡ true }
     ensures free { is_empty (clash_owners (locks_in locks.now) (asker_of waiter.now)) ≡ not (is_some result) }
 {
     match &waiter.reach {
@@ -80,6 +83,7 @@ fn first_clash<'a>(locks: &'a LockTable, waiter: &Waiter) -> Option<&'a Lock>
 fn clash_of<'a>(locks: &'a LockTable, last: Option<&'a Lock>, waiter: &Waiter) -> Option<&'a Lock>
     requires { (l : Lock) → option_copied last ≡ Some l → In l (locks_in locks.now) }
     ensures held { (l : Lock) → option_copied result ≡ Some l → In l (locks_in locks.now) }
+    ensures clashes { (l : Lock) → option_copied result ≡ Some l → holds_up (Some l) waiter.now.reach waiter.now.unit waiter.now.family ≡ true }
     ensures free { is_empty (clash_owners (locks_in locks.now) (asker_of waiter.now)) ≡ not (is_some result) }
 {
     if holds_up(last, waiter) {
@@ -89,17 +93,26 @@ fn clash_of<'a>(locks: &'a LockTable, last: Option<&'a Lock>, waiter: &Waiter) -
     }
 }
 
-/// The first of the waiting units that clashes with nothing. What has held up one is tried first on the next, since as a rule many wait
-/// for one lock.
-pub fn served(locks: &LockTable, waits: &[Waiter]) -> Option<Id>
-    ensures { result ≡ served_in (locks_in locks.now) (askers waits.now) }
+/// The first of the waiting units that clashes with nothing. Where there is none, owners whose locks hold them up are noted. What has held
+/// up one is tried first on the next, since as a rule many wait for one lock.
+pub fn served(
+    locks: &LockTable,
+    waits: &[Waiter],
+    holders: &mut Vec<Owner>,
+) -> Result<Option<Id>, AllocError>
+    ensures told { IfOk result (λ unit. unit ≡ served_in (locks_in locks.now) (askers waits.now)) }
+    ensures held { IfOk result (λ unit. unit ≡ None → AreHeldUp holders.new.items (locks_in locks.now) waits.now) }
 {
+    holders.clear();
     let mut last: Option<&Lock> = None;
     for waiter in waits {
-        last = clash_of(locks, last, waiter);
-        if last.is_none() {
-            return Some(waiter.unit);
+        match clash_of(locks, last, waiter) {
+            Some(lock) => {
+                note(holders, lock.owner)?;
+                last = Some(lock);
+            }
+            None => return Ok(Some(waiter.unit)),
         }
     }
-    None
+    Ok(None)
 }

@@ -29,6 +29,7 @@ ghost use Rattle.std.specs.Option.{option_copied};
 ghost use Rattle.std.specs.Prelude.{IfOk, List, OnOk, [], false, length, map, true, ℕ, ◌++◌, ◌∷◌, ◌≡◌};
 
 use crate::graph::wait_graph;
+use crate::holders::{holds_behind, holds_without};
 use crate::programs::Programs;
 use crate::served::{clashing, holds, served};
 use crate::shown::lock_items;
@@ -50,6 +51,9 @@ pub struct Watching {
     waits: Vec<Waiter>,
     programs: Programs,
     deps: Deps,
+    /// Each waiting unit is held up by a lock of one of these owners. Where it is not set, one may be held up by none.
+    held: bool,
+    holders: Vec<Owner>,
 }
 
 impl Drop for Watching {
@@ -61,6 +65,8 @@ impl Drop for Watching {
             waits: _waits,
             programs: _programs,
             deps: _deps,
+            held: _held,
+            holders: _holders,
         } = self;
     }
 }
@@ -131,6 +137,8 @@ impl Watching {
             waits: Vec::new(alloc),
             programs: Programs::new(programs),
             deps: Deps::new(alloc),
+            held: false,
+            holders: Vec::new(alloc),
         }
     }
 
@@ -153,6 +161,8 @@ impl Watching {
             waits: Vec::new(alloc),
             programs: Programs::new(programs),
             deps,
+            held: false,
+            holders: Vec::new(alloc),
         }
     }
 
@@ -202,6 +212,7 @@ impl Watching {
         ensures { OnOk result ((w : Watch) (f : UnitFacts) (a : Asker) (owners : List Owner) → IsWatch self.old w → f.asks ≡ a ∷ [] →
             waiter_of a ≡ waiter → GoesBy f (Waits waiter.unit owners) w self.new) }
     {
+        self.held = false;
         leave(&mut self.waits, waiter.unit);
         self.waits.push(waiter)?;
         Ok(())
@@ -219,6 +230,7 @@ impl Watching {
             map (λ e. e.0) f.changes ≡ map place_of changes.now.items → GoesBy f (Ended unit (Committed n)) w self.new) }
     {
         leave(&mut self.waits, unit);
+        self.held = holds_without(self.held, &self.holders, Owner::Unit(unit));
         hand_over(&mut self.locks, unit, base);
         wrote(&mut self.deps, base, changes)
     }
@@ -229,6 +241,7 @@ impl Watching {
             GoesBy f (Ended unit end) w self.new }
     {
         leave(&mut self.waits, unit);
+        self.held = holds_without(self.held, &self.holders, Owner::Unit(unit));
         self.locks.drop_owner(Owner::Unit(unit));
         give_up(&mut self.deps, first);
     }
@@ -248,6 +261,8 @@ impl Watching {
         ensures released { IfOk result (λ due. (w : Watch) (f : UnitFacts) → IsFinishing base self.old w → GoesBy f (Released due) w self.new) }
     {
         let due = self.deps.finished(base)?;
+        let none = due.is_empty();
+        self.held = holds_behind(self.held, none);
         release(&mut self.locks, due.as_slice());
         self.programs.drop_all(self.alloc, due.as_slice());
         Ok(due)
@@ -273,11 +288,17 @@ impl Watching {
         clashing(self.alloc, &self.locks, unit, family, reach)
     }
 
-    /// The unit that has waited longest of those that clash with nothing any more.
-    pub fn served(&self) -> Option<Id>
-        ensures { (w : Watch) → IsWatch self.now w → result ≡ served_in (locks_in w) w.waits }
+    /// The unit that has waited longest of those that clash with nothing any more. Where none was found, none is looked for until a unit
+    /// waits, or locks go that hold up one.
+    pub fn served(&mut self) -> Result<Option<Id>, AllocError>
+        ensures { IfOk result (λ unit. (w : Watch) → IsWatch self.old w → (unit ≡ served_in (locks_in w) w.waits) × IsWatch self.new w) }
     {
-        served(&self.locks, &self.waits)
+        if self.held {
+            return Ok(None);
+        }
+        let unit = served(&self.locks, &self.waits, &mut self.holders)?;
+        self.held = unit.is_none();
+        Ok(unit)
     }
 
     /// Whether a unit of a program waits. Where none does, nobody waits for another through a lock of a program.

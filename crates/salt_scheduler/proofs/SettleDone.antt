@@ -1,8 +1,12 @@
 -- What settles, and what comes behind an event.
 use Rattle.salt_books.proofs.Meant.{meant-first}
+use Rattle.salt_books.specs.Books.{AreBooks}
+use Rattle.salt_books.specs.Called.{name_told}
 use Rattle.salt_books.specs.Coming.{CanCome, event_meant}
+use Rattle.salt_conflicts.specs.Watched.{IsWatch}
+use Rattle.law_states.specs.Members.{In}
 use Rattle.salt_scheduler.specs.Follows.{event_of}
-use Rattle.salt_scheduler.specs.Standing.{AnswersWithComing, IsReady, StandsForState, StandsBehindEvent, StandsWith, behind_in, watched_by}
+use Rattle.salt_scheduler.specs.Standing.{AnswersWithComing, IsReady, StandsForState, StandsBehindEvent, StandsWith, bases_called, behind_in, watched_by}
 use Rattle.salt_books.specs.declared.coming.Coming.TheVariants as coming
 use Rattle.salt_books.specs.declared.coming.Coming.{Coming}
 use Rattle.salt_scheduler.specs.declared.scheduler.Scheduler.{Scheduler}
@@ -38,6 +42,17 @@ settles-serves s x u victim served =
 pub settles-nothing : (s : UnitState) (x : Beside) → x.victim ≡ None → x.served ≡ None → settles_in s x ≡ None
 settles-nothing s x victim served =
     ap (λ v. settle_in s v (unit_served s x.served)) victim ∙ ap (λ w. settle_in s None (unit_served s w)) served
+
+-- what is watched is what it was, and all else is the same
+pub watched-anew : (x y : Scheduler) (s : State) → y.books ≡ x.books → y.called ≡ x.called → y.follow ≡ x.follow → y.calm ≡ x.calm → IsWatch y.watch s.watch →
+    StandsForState x s → StandsForState y s
+watched-anew x y s books called follow calm watch stands = record {
+  books = subst (λ b. AreBooks b s.units) (sym books) stands.books;
+  watch = watch;
+  called = λ b i. ap (λ n. name_told n b) called ∙ stands.called b (subst (λ f. In b (bases_called f s)) follow i);
+  turns = stands.turns;
+  calm = λ is. stands.calm (sym calm ∙ is);
+}
 
 -- behind an event
 

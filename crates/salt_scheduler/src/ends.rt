@@ -197,7 +197,8 @@ impl Scheduler {
         if let Some(unit) = self.victim()? {
             return Ok(Coming::Told(self.end(line, unit, End::Victim)?));
         }
-        match self.watch.served() {
+        let served = self.watch.served()?;
+        match served {
             Some(unit) => self.serve(line, unit),
             None => Ok(Coming::Nothing),
         }

@@ -8,8 +8,8 @@ use Rattle.std.proofs.lemmas.Result.{on_ok_weaker}
 pub returns : goal.returns
 returns c =
     let old = c.args.self.now in
-    let new : Watching = record { alloc = old.alloc; locks = old.locks; taken = old.taken; waits = old.waits; programs = c.insert.new.self; deps = old.deps } in
+    let new : Watching = record { alloc = old.alloc; locks = old.locks; taken = old.taken; waits = old.waits; programs = c.insert.new.self; deps = old.deps; held = old.held; holders = old.holders } in
     let d = dependencies old.deps in
     on_ok_weaker c.insert.result
-    (λ h w f s. goes d old new w f (Accepted c.args.base) s (kept old.locks) (plus-none old.taken) s.waits h (accept-leaves f c.args.base d))
+    (λ h w f s. goes d old new w f (Accepted c.args.base) s (kept old.locks) (plus-none old.taken) s.waits h (accept-leaves f c.args.base d) s.holders)
     c.insert.ensures

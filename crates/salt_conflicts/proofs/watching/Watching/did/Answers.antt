@@ -3,6 +3,9 @@ use Rattle.salt_conflicts.specs.declared.watching.Watching.{Watching}
 use Rattle.law_states.proofs.CallsFit.{unread-fits}
 use Rattle.salt_model.specs.declared.events.Event.TheVariants.{Did}
 use Rattle.salt_conflicts.proofs.Goes.{did-read, goes, has-left, plus-none, reached, reaches-none, reads-none, unreached, won-none, won-one}
+use Rattle.salt_conflicts.proofs.Holding.{held-left, held-taken}
+use Rattle.salt_model.specs.Locks.{lock_of}
+use Rattle.salt_model.specs.declared.events.Owner.{Owner}
 use Rattle.salt_conflicts.proofs.watching.Watching.did.Goals as goal
 use Rattle.std.proofs.Common.{ap, inr, refl, sym, ◌+◌, ◌∙◌}
 use Rattle.std.proofs.lemmas.Result.{on_ok_weaker}
@@ -27,7 +30,9 @@ returns-in-Some-clause-goes c =
     (h.taken ∙ ap (λ n. old.taken + n) (sym (won-one f u st a r e)))
     (has-left u w.waits old.waits.items new.waits.items s.waits (h.waits ∙ c.leave.ensures))
     h.programs
-    (did-read f u st a c.args.base r d (dependencies new.deps) base e h.reads))
+    (did-read f u st a c.args.base r d (dependencies new.deps) base e h.reads)
+    (held-taken u old.taken (lock_of (Owner.Unit u) c.args.family r) old.held new.held old.holders.items new.holders.items old.locks new.locks old.waits.items new.waits.items
+    h.table (h.waits ∙ c.leave.ensures) h.held h.holders s.holders))
     c.reached.ensures.all
 
 pub returns-in-Some-clause-quiet : goal.returns-in-Some-clause-quiet
@@ -41,13 +46,13 @@ returns-in-Some-clause-quiet c =
 pub returns-in-None-clause-goes : goal.returns-in-None-clause-goes
 returns-in-None-clause-goes c w f st a s base family reach =
     let old = c.args.self.now in
-    let new : Watching = record { alloc = old.alloc; locks = old.locks; taken = old.taken; waits = c.leave.new.waits; programs = old.programs; deps = old.deps } in
+    let new : Watching = record { alloc = old.alloc; locks = old.locks; taken = old.taken; waits = c.leave.new.waits; programs = old.programs; deps = old.deps; held = old.held; holders = old.holders } in
     let d = dependencies old.deps in
     let u = c.args.unit in
     let e = reach ∙ ap option_copied c.in-None.is in
     goes d old new w f (Did u st a) s (unreached f old.taken u st a old.locks e) (plus-none old.taken ∙ ap (λ n. old.taken + n) (sym (won-none f u st a e)))
     (has-left u w.waits old.waits.items c.leave.new.waits.items s.waits c.leave.ensures)
-    refl (unread-fits f u st a d (inr e))
+    refl (unread-fits f u st a d (inr e)) (held-left u old.held old.holders.items old.locks old.waits.items new.waits.items c.leave.ensures s.holders)
 
 pub returns-in-None-clause-quiet : goal.returns-in-None-clause-quiet
 returns-in-None-clause-quiet c none w f st a s base reach = reaches-none f c.args.unit st a w (reach ∙ ap option_copied c.in-None.is)

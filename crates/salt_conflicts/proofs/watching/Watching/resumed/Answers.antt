@@ -7,10 +7,11 @@ use Rattle.salt_conflicts.specs.Watched.{GoesBy}
 use Rattle.salt_deps.specs.Kept.{dependencies}
 use Rattle.salt_model.specs.declared.events.Event.TheVariants.{Early}
 use Rattle.salt_values.specs.declared.id.Id.{Id}
-use Rattle.std.proofs.Common.{List, subst, sym}
+use Rattle.std.proofs.Common.{List, refl, subst, sym}
+use Rattle.std.specs.Prelude.{false}
 
 pub returns : goal.returns
 returns c w f locks taken group =
-    let new : Watching = record { alloc = c.args.alloc; locks = c.args.locks; taken = c.args.taken; waits = c.new.result; programs = c.new-2.result; deps = c.args.deps } in
+    let new : Watching = record { alloc = c.args.alloc; locks = c.args.locks; taken = c.args.taken; waits = c.new.result; programs = c.new-2.result; deps = c.args.deps; held = false; holders = c.new-3.result } in
     subst (λ (bs : List Id). GoesBy f (Early bs) w new) c.new-2.ensures
-    (resumes new w f c.new.ensures.items locks taken (subst (λ (bs : List Id). AreSame (group_of bs) (dependencies c.args.deps)) (sym c.new-2.ensures) group))
+    (resumes new w f c.new.ensures.items locks taken (subst (λ (bs : List Id). AreSame (group_of bs) (dependencies c.args.deps)) (sym c.new-2.ensures) group) refl)

@@ -1,14 +1,27 @@
-use Rattle.law_states.specs.KeptLocks.{Numbered}
 use Rattle.law_states.specs.KeptWaits.{served_in}
-use Rattle.salt_locks.specs.Tables.{locks_in}
-use Rattle.salt_conflicts.proofs.Told.{served-same}
-use Rattle.salt_conflicts.proofs.watching.Watching.served.Goals as goal
+use Rattle.salt_conflicts.specs.Holders.{AreHeldUp}
 use Rattle.salt_conflicts.specs.Waiters.{askers}
-use Rattle.std.proofs.Common.{ap, map, sym, ◌∙◌}
+use Rattle.salt_locks.specs.Tables.{locks_in}
+use Rattle.salt_conflicts.proofs.Holding.{none-served, none-told}
+use Rattle.salt_conflicts.proofs.Told.{served-read}
+use Rattle.salt_conflicts.proofs.watching.Watching.served.Goals as goal
+use Rattle.std.proofs.Common.{subst, sym, ◌≡◌, ◌∙◌}
+
+pub returns-then-self : goal.returns-then-self
+returns-then-self c = λ w s.
+    let x = c.args.self.now in
+    (sym (none-served x.holders.items (locks_in x.locks) x.waits.items (s.holders c.if-self.true)) ∙ served-read w x.locks x.waits.items s.table s.waits, s)
 
 pub returns : goal.returns
 returns c = λ w s.
-    let ls = locks_in c.args.self.now.locks in
-    c.served.ensures
-    ∙ (ap (λ l. served_in ls (askers l)) (c.deref.ensures.value ∙ sym s.waits)
-    ∙ (served-same ls w.waits ∙ ap (λ t. served_in (map (λ (n : Numbered). n.lock) t) w.waits) (sym s.table)))
+    let x = c.args.self.now in (
+      subst (λ l. c.in_ok-unit.unit ≡ served_in (locks_in x.locks) (askers l)) c.deref.ensures.value c.in_ok-unit.ensures.told ∙ served-read w x.locks x.waits.items s.table s.waits,
+      record {
+        table = s.table;
+        taken = s.taken;
+        waits = s.waits;
+        programs = s.programs;
+        dependencies = s.dependencies;
+        holders = λ sure. subst (λ l. AreHeldUp c.served.new.holders.items (locks_in x.locks) l) c.deref.ensures.value (c.in_ok-unit.ensures.held (none-told c.in_ok-unit.unit _ c.is_none-self.ensures sure));
+      },
+    )
