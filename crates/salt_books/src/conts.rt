@@ -11,8 +11,9 @@ ghost use Rattle.std.specs.List.Sorted.{IsPartitionPoint};
 ghost use Rattle.std.specs.Option.{option_copied};
 ghost use Rattle.std.specs.Prelude.{IfOk, IsTrue, List, None, OnOk, Some, false, get_or, is_some, length, map, true, ℕ, ◌<◌, ◌≡◌, ◌≤◌};
 
+use crate::going::Going;
 use salt_cont::Move;
-use salt_values::{Cont, Conts, Id, TryCopy, is_older, is_same_id};
+use salt_values::{Cont, Id, TryCopy, is_older, is_same_id};
 use std::alloc::{AllocError, Global};
 
 /// The continuation of a program. All are looked at up to it.
@@ -99,7 +100,7 @@ fn are_all_older(conts: &[Cont], base: Id) -> bool
 }
 
 /// Puts a continuation in the place of each one of its program.
-fn replace_cont(alloc: Global, conts: &mut Conts, cont: &Cont) -> Result<(), AllocError>
+fn replace_cont(alloc: Global, conts: &mut Going, cont: &Cont) -> Result<(), AllocError>
     ensures { OnOk result (conts.new ≡ replace_cont cont.now conts.old) }
 {
     let mut at = 0;
@@ -113,7 +114,7 @@ fn replace_cont(alloc: Global, conts: &mut Conts, cont: &Cont) -> Result<(), All
 }
 
 /// Puts a continuation in the place of its program's, or behind the others. Whether all stand in order then, as before.
-fn go_in_order(conts: &mut Conts, cont: Cont) -> Result<bool, AllocError>
+fn go_in_order(alloc: Global, conts: &mut Going, cont: Cont) -> Result<bool, AllocError>
     requires { Rising (bases_in conts.old) }
     ensures moved { OnOk result ((cs : List Cont) → make_move conts.old (Continue cont) ≡ Some cs → conts.new ≡ cs) }
     ensures rising { IfOk result (λ rising. IsTrue rising → Rising (bases_in conts.new)) }
@@ -125,14 +126,14 @@ fn go_in_order(conts: &mut Conts, cont: Cont) -> Result<bool, AllocError>
         }
         None => {
             let last = are_all_older(conts.as_slice(), cont.base);
-            conts.push(cont)?;
+            conts.push(alloc, cont)?;
             Ok(last)
         }
     }
 }
 
 /// The same where they may stand in any order. Whether it is known behind it that they stand in order.
-fn go_to(alloc: Global, conts: &mut Conts, cont: Cont) -> Result<bool, AllocError>
+fn go_to(alloc: Global, conts: &mut Going, cont: Cont) -> Result<bool, AllocError>
     ensures moved { OnOk result ((cs : List Cont) → make_move conts.old (Continue cont) ≡ Some cs → conts.new ≡ cs) }
     ensures rising { IfOk result (λ rising. IsTrue rising → Rising (bases_in conts.new)) }
 {
@@ -141,31 +142,31 @@ fn go_to(alloc: Global, conts: &mut Conts, cont: Cont) -> Result<bool, AllocErro
         return Ok(false);
     }
     let first = conts.is_empty();
-    conts.push(cont)?;
+    conts.push(alloc, cont)?;
     Ok(first)
 }
 
 /// Takes out the continuation of a program.
-fn finish(conts: &mut Conts, base: Id)
+fn finish(alloc: Global, conts: &mut Going, base: Id)
     ensures { (cs : List Cont) → make_move conts.old (Finish base) ≡ Some cs → conts.new ≡ cs }
 {
     let mut at = conts.len();
     while at > 0 {
         at -= 1;
         if is_same_id(base, conts.as_slice()[at].base) {
-            let _cont = conts.remove(at);
+            conts.remove(alloc, at);
         }
     }
 }
 
 /// The same where they stand in the order of their programs, as they do then.
-fn finish_in_order(conts: &mut Conts, base: Id)
+fn finish_in_order(alloc: Global, conts: &mut Going, base: Id)
     requires { Rising (bases_in conts.old) }
     ensures moved { (cs : List Cont) → make_move conts.old (Finish base) ≡ Some cs → conts.new ≡ cs }
     ensures rising { Rising (bases_in conts.new) }
 {
     if let Some(at) = place_of(conts.as_slice(), base) {
-        let _cont = conts.remove(at);
+        conts.remove(alloc, at);
     }
 }
 
@@ -173,7 +174,7 @@ fn finish_in_order(conts: &mut Conts, base: Id)
 /// known behind it. Where memory runs out they are in no state that is told.
 pub fn make_move(
     alloc: Global,
-    conts: &mut Conts,
+    conts: &mut Going,
     rising: bool,
     made: Move,
 ) -> Result<bool, AllocError>
@@ -184,17 +185,17 @@ pub fn make_move(
     match made {
         Move::Continue(cont) => {
             if rising {
-                go_in_order(conts, cont)
+                go_in_order(alloc, conts, cont)
             } else {
                 go_to(alloc, conts, cont)
             }
         }
         Move::Finish(base) => {
             if rising {
-                finish_in_order(conts, base);
+                finish_in_order(alloc, conts, base);
                 return Ok(true);
             }
-            finish(conts, base);
+            finish(alloc, conts, base);
             Ok(conts.is_empty())
         }
         Move::Plain => Ok(rising),

@@ -18,6 +18,7 @@ ghost use Rattle.std.specs.Prelude.{IfOk, IsTrue, List, None, OnOk, [], length, 
 use crate::bindings::{vars_at_call, vars_at_cont};
 use crate::blocks::{block_of_call, block_of_part, is_base_program};
 use crate::conts::{cont_among, make_move};
+use crate::going::Going;
 use crate::ids::bases_in_order;
 use crate::moves::{move_of_branch, move_of_commit};
 use crate::tables::base_tables;
@@ -37,7 +38,7 @@ pub struct Known {
     alloc: Global,
     schema: Schema,
     catalogue: Catalogue,
-    conts: Conts,
+    conts: Going,
     /// Whether it is known that programs go on in the order of their names.
     rising: bool,
     boot: u64,
@@ -83,7 +84,7 @@ impl Known {
             alloc,
             schema,
             catalogue,
-            conts,
+            conts: Going::from_items(conts),
             rising,
             boot,
             decisions,

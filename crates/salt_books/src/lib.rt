@@ -10,6 +10,7 @@ mod called;
 mod coming;
 mod conts;
 mod ends;
+mod going;
 mod held;
 mod ids;
 mod kinds;

@@ -33,14 +33,14 @@ returns-in_ok-push-in-None-clause-moved c = λ cs moves.
     let x = c.args.cont in
     let old = c.args.conts.now in
     let none = subst (λ (l : List Cont). (k : ℕ) (d : Cont) → k < length l → is_same_id x.base (get_or l k d).base ≡ false) c.as_slice.ensures (c.place_of.ensures.none c.in-None.is) in
-    c.in_ok-push-in-None.ensures.ok ∙ added x old cs (none-in x.base old (none-found x.base old none) (sym (cont_in-find x.base old))) moves
+    c.in_ok-push-in-None.ensures ∙ added x old cs (none-in x.base old (none-found x.base old none) (sym (cont_in-find x.base old))) moves
 
 pub returns-in_ok-push-in-None-clause-rising : goal.returns-in_ok-push-in-None-clause-rising
 returns-in_ok-push-in-None-clause-rising c = λ known.
     let x = c.args.cont in
     let old = c.args.conts.now in
     let older = subst (λ (l : List Cont). (k : ℕ) (d : Cont) → k < length l → is_older (get_or l k d).base x.base ≡ true) c.as_slice-in-None.ensures (c.are_all_older-last.ensures known) in
-    subst (λ (l : List Cont). Rising (bases_in l)) (sym c.in_ok-push-in-None.ensures.ok) (rising-more old x c.requires older)
+    subst (λ (l : List Cont). Rising (bases_in l)) (sym c.in_ok-push-in-None.ensures) (rising-more old x c.requires older)
 
 pub set-requires : goal.set-requires
 set-requires c = subst (λ (l : List Cont). c.in-Some.at < length l) c.as_slice.ensures (c.place_of.ensures.there c.in-Some.at c.in-Some.is).0

@@ -24,9 +24,9 @@ returns-then-has_cont-clause-moved c = λ cs moves.
 
 pub returns-clause-rising : goal.returns-clause-rising
 returns-clause-rising c = λ known.
-    subst (λ (l : List Cont). Rising (bases_in l)) (sym c.in_ok-push.ensures.ok) (rising-one c.args.conts.now c.args.cont (c.is_empty-first.ensures.0 known))
+    subst (λ (l : List Cont). Rising (bases_in l)) (sym c.in_ok-push.ensures) (rising-one c.args.conts.now c.args.cont (c.is_empty-first.ensures.0 known))
 
 pub returns-clause-moved : goal.returns-clause-moved
 returns-clause-moved c = λ cs moves.
     let none = told c.args.cont.base c.as_slice.result.now c.args.conts.now c.has_cont.result false c.as_slice.ensures c.has_cont.ensures c.if-has_cont.false in
-    c.in_ok-push.ensures.ok ∙ added c.args.cont c.args.conts.now cs none moves
+    c.in_ok-push.ensures ∙ added c.args.cont c.args.conts.now cs none moves
