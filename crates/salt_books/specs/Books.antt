@@ -60,7 +60,7 @@ abbrev pub begun_in : Books → ℕ
 begun_in x = x.unit_count
 
 abbrev pub turns_in : Books → List Id
-turns_in x = x.to_go.items
+turns_in x = x.to_go
 
 abbrev pub owes_turn : Books → Bool
 owes_turn x = x.owes

@@ -23,6 +23,7 @@ use crate::held::{Held, count_bases};
 use crate::known::Known;
 use salt_ast::Statement;
 use salt_model::UnitKind;
+use salt_queue::Queue;
 use salt_units::OpenUnit;
 use salt_values::{Id, Ids, next_number};
 use std::alloc::{AllocError, Global};
@@ -36,7 +37,7 @@ pub struct Books {
     pub(crate) units: Vec<Held>,
     pub(crate) unit_count: u64,
     pub(crate) base_count: u64,
-    pub(crate) to_go: Vec<Id>,
+    pub(crate) to_go: Queue<Id>,
     pub(crate) early: bool,
     pub(crate) named: Ids,
     pub(crate) owes: bool,
@@ -87,7 +88,7 @@ impl Books {
             units: Vec::new(alloc),
             unit_count: begun,
             base_count: 0,
-            to_go: Vec::new(alloc),
+            to_go: Queue::new(alloc),
             early,
             named: Ids::new(alloc),
             owes: false,

@@ -15,6 +15,7 @@ ghost use Rattle.std.specs.Prelude.{nat_lt, ℕ, ◌≡◌};
 
 use crate::books::Books;
 use crate::held::Held;
+use salt_queue::Queue;
 use salt_values::{Cont, Id, Ids};
 
 fn first_before(units: &[Held], boot: u64) -> Option<&Held>
@@ -28,7 +29,7 @@ impl Books {
     pub fn fall(&mut self)
         ensures { (s : UnitState) (why : Why) → AreBooks self.old s → AreBooks self.new (units_after (Event.Down why) s) }
     {
-        self.to_go.clear();
+        self.to_go = Queue::new(self.alloc);
         self.owes = false;
     }
 

@@ -23,6 +23,7 @@ use crate::books::Books;
 use crate::held::Held;
 use crate::known::Defined;
 use salt_ast::{Line, ProgramDef, TableDef};
+use salt_queue::Queue;
 use salt_values::{Cont, Id, is_same_id};
 use std::alloc::{AllocError, Global};
 
@@ -53,16 +54,15 @@ fn is_first(ids: &[Id], base: Id) -> bool
 }
 
 /// Leaves the names behind the first that is this one. As a rule that is the first of all, and then none is copied.
-fn pass(alloc: Global, ids: &mut Vec<Id>, base: Id) -> Result<(), AllocError>
-    ensures { OnOk result (ids.new.items ≡ ids_after base ids.old.items) }
+fn pass(alloc: Global, ids: &mut Queue<Id>, base: Id) -> Result<(), AllocError>
+    ensures { OnOk result (ids.new ≡ ids_after base ids.old) }
 {
-    if is_first(ids, base) {
+    if is_first(ids.as_slice(), base) {
         ids.remove(0);
         return Ok(());
     }
-    let mut left = ids_after(alloc, base, ids)?;
-    ids.clear();
-    ids.append(&mut left)?;
+    let left = ids_after(alloc, base, ids.as_slice())?;
+    *ids = Queue::from_vec(left);
     Ok(())
 }
 
@@ -105,7 +105,7 @@ impl Books {
         ensures { OnOk result ((s : UnitState) → AreBooks self.old s → AreBooks self.new (units_asked (Tree line.now) s)) }
     {
         let bases = self.to_go_by(line)?;
-        self.to_go = bases;
+        self.to_go = Queue::from_vec(bases);
         self.owes = does_something(line);
         Ok(())
     }

@@ -49,7 +49,7 @@ no-more-turns (Early bs) s h = same-turns s.to_go s.owes
 no-more-turns e s h = same-turns s.to_go s.owes
 
 -- by the books
-pub turns-of : (x : Books) (s : UnitState) → AreBooks x s → turns_by x.to_go.items x.owes ≡ turns_by s.to_go s.owes
+pub turns-of : (x : Books) (s : UnitState) → AreBooks x s → turns_by x.to_go x.owes ≡ turns_by s.to_go s.owes
 turns-of x s h = λ i. turns_by (h.to_go i) (h.owes i)
 
 -- THE WAITING UNITS of a trace

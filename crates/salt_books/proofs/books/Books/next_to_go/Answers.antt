@@ -4,4 +4,4 @@ use Rattle.std.proofs.Common.{ap, ◌∙◌}
 use Rattle.std.specs.List.{find}
 
 pub returns : goal.returns
-returns c = λ s h. c.first_that_goes.ensures s h ∙ ap (find (can_go_in s)) (c.as_slice.ensures.value ∙ h.to_go)
+returns c = λ s h. c.first_that_goes.ensures s h ∙ ap (find (can_go_in s)) (c.as_slice.ensures ∙ h.to_go)
