@@ -3,7 +3,7 @@ use Rattle.law_states.specs.DependencyCalls.{Wrote, WroteAll}
 use Rattle.law_states.specs.KeptLocks.{Numbered, is_base_among}
 use Rattle.law_states.specs.KeptSources.{Dependencies}
 use Rattle.law_states.specs.KeptWaits.{Asker, clash_owners, is_base_of, served_in, waiting_for}
-use Rattle.salt_locks.specs.Tables.{is_of_another}
+use Rattle.salt_locks.specs.Tables.{is_of_another, is_of_none}
 use Rattle.law_story.proofs.Ids.{is_same_id-sym}
 use Rattle.salt_model.specs.Locks.{is_same_owner}
 use Rattle.salt_model.specs.Words.{is_empty}
@@ -55,6 +55,18 @@ release-first b bs (n ∷ ns) =
     by false t e ih =
         ap (λ v. cond (not v) (n ∷ filter (is_of_another (Base b)) (filter (is_unreleased bs) ns)) (filter (is_of_another (Base b)) (filter (is_unreleased bs) ns))) e
         ∙ ap (λ r. cond (not t) (n ∷ r) r) ih
+
+-- the locks of many programs go at once
+
+owner-same : (xs bs : List Id) → ((q : Id) → has_id q xs ≡ has_id q bs) → (o : Owner) → is_base_among xs o ≡ is_base_among bs o
+owner-same xs bs h (Unit u) = refl
+owner-same xs bs h (Base b) = h b
+
+pub release-same : (xs bs : List Id) → ((q : Id) → has_id q xs ≡ has_id q bs) → (table : List Numbered) → filter (is_of_none xs) table ≡ filter (is_unreleased bs) table
+release-same xs bs h [] = refl
+release-same xs bs h (n ∷ ns) =
+    ap (λ t. cond (not t) (n ∷ filter (is_of_none xs) ns) (filter (is_of_none xs) ns)) (owner-same xs bs h n.lock.owner)
+    ∙ ap (λ r. cond (not (is_base_among bs n.lock.owner)) (n ∷ r) r) (release-same xs bs h ns)
 
 -- the first of the waiting units that clashes with nothing
 

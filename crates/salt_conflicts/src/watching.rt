@@ -34,13 +34,16 @@ use crate::programs::Programs;
 use crate::served::{clashing, holds, served};
 use crate::shown::lock_items;
 use crate::waiters::{Waiter, has_program, leave};
-use salt_deps::Deps;
+use salt_deps::{Deps, set_of};
 use salt_locks::LockTable;
 use salt_model::{Family, Items, Owner, Owners, Reach};
 use salt_values::{Change, Id, Ids, next_number};
 use salt_waits::victim;
 use std::alloc::{AllocError, Global};
 use std::collections::VecDeque;
+
+/// Of so many programs the locks are looked for at their places; where there are more, all that are held are looked at once.
+const FEW: usize = 8;
 
 /// The locks that are held and how many were taken, the waiting units, the longest first, the accepted programs that are not
 /// released, in order of their names, and who wrote, read and has finished. A call that wants memory may leave it anywhere.
@@ -71,8 +74,9 @@ impl Drop for Watching {
     }
 }
 
-/// Locks of these programs go. Those of the last go first: as a rule they stand last, and so nothing behind them moves.
-fn release(locks: &mut LockTable, bases: &[Id])
+/// Locks of these programs go, one program after another. Those of the last go first: as a rule they stand last, and so nothing
+/// behind them moves.
+fn release_each(locks: &mut LockTable, bases: &[Id])
     ensures { locks.new ≡ filter (is_unreleased bases.now) locks.old }
 {
     let mut left = bases.len();
@@ -80,6 +84,19 @@ fn release(locks: &mut LockTable, bases: &[Id])
         left -= 1;
         locks.drop_owner(Owner::Base(bases[left]));
     }
+}
+
+/// Locks of these programs go: those of a few one after another, those of many in one pass over all that are held.
+fn release(alloc: Global, locks: &mut LockTable, bases: &[Id]) -> Result<(), AllocError>
+    ensures { OnOk result (locks.new ≡ filter (is_unreleased bases.now) locks.old) }
+{
+    if bases.len() > FEW {
+        let set = set_of(alloc, bases)?;
+        locks.drop_programs(&set);
+    } else {
+        release_each(locks, bases);
+    }
+    Ok(())
 }
 
 /// A unit that commits hands its locks over to its program; those of an ACID unit go.
@@ -263,7 +280,7 @@ impl Watching {
         let due = self.deps.finished(base)?;
         let none = due.is_empty();
         self.held = holds_behind(self.held, none);
-        release(&mut self.locks, due.as_slice());
+        release(self.alloc, &mut self.locks, due.as_slice())?;
         self.programs.drop_all(self.alloc, due.as_slice());
         Ok(due)
     }

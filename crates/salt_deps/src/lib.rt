@@ -13,3 +13,4 @@ mod walks;
 mod writers;
 
 pub use deps::Deps;
+pub use sets::set_of;

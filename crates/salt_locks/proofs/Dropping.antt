@@ -119,7 +119,7 @@ own_gone o ns new_ns ls new_ls left l same some under n_is l_is is own others =
     let new : numbered new_ns new_ls ≡ remove table k = ap (λ xs. numbered xs new_ls) n_is ∙ (ap (numbered (remove ns k)) l_is ∙ numbered_removed ns ls k same) in
     let rest : drop k (remove table k) ≡ drop left table = drop_removed table k (omega (arith, some, under, len)) ∙ ap (λ i. drop i table) (step_back left some) in
     let m : Numbered = record { number = 0; lock = l } in
-    let mine : is_of_another o (get_or table k m) ≡ false = ap (is_left o) (lock_at ns ls k m same (omega (arith, some, under)) ∙ sym is) ∙ ap not own in (
+    let mine : is_of_another o (get_or table k m) ≡ false = ap (is_left (is_owned_by o)) (lock_at ns ls k m same (omega (arith, some, under)) ∙ sym is) ∙ ap not own in (
       ap (filter (is_of_another o)) new ∙ filter_removed (is_of_another o) table k m (omega (arith, some, under, len)) mine,
       subst (λ xs. filter (is_of_another o) (drop k xs) ≡ drop k xs) (sym new) (subst (λ xs. filter (is_of_another o) xs ≡ xs) (sym rest) others),
     )
@@ -134,7 +134,7 @@ own_out o ns new_ns ls new_ls left l same some under n_is l_is is own =
     let len = numbered_length ns ls same in
     let new : numbered new_ns new_ls ≡ remove table k = ap (λ xs. numbered xs new_ls) n_is ∙ (ap (numbered (remove ns k)) l_is ∙ numbered_removed ns ls k same) in
     let m : Numbered = record { number = 0; lock = l } in
-    let mine : is_of_another o (get_or table k m) ≡ false = ap (is_left o) (lock_at ns ls k m same (omega (arith, some, under)) ∙ sym is) ∙ ap not own in
+    let mine : is_of_another o (get_or table k m) ≡ false = ap (is_left (is_owned_by o)) (lock_at ns ls k m same (omega (arith, some, under)) ∙ sym is) ∙ ap not own in
     ap (filter (is_of_another o)) new ∙ filter_removed (is_of_another o) table k m (omega (arith, some, under, len)) mine
 
 filter_one : {X : Type 0} (p : X → Bool) (x : X) (xs : List X) → p x ≡ true → filter p xs ≡ xs → filter p (x ∷ xs) ≡ x ∷ xs
@@ -149,7 +149,7 @@ other_stays o ns ls left l same some under is other others =
     let m : Numbered = record { number = 0; lock = l } in
     let back : left - 1 + 1 ≡ left = omega (arith, some) in
     let parts : drop k table ≡ get_or table k m ∷ drop left table = drop_more table k m (omega (arith, some, under, len)) ∙ ap (λ i. get_or table k m ∷ drop i table) back in
-    let kept : is_of_another o (get_or table k m) ≡ true = ap (is_left o) (lock_at ns ls k m same (omega (arith, some, under)) ∙ sym is) ∙ ap not other in
+    let kept : is_of_another o (get_or table k m) ≡ true = ap (is_left (is_owned_by o)) (lock_at ns ls k m same (omega (arith, some, under)) ∙ sym is) ∙ ap not other in
     subst (λ xs. filter (is_of_another o) xs ≡ xs) (sym parts) (filter_one (is_of_another o) (get_or table k m) (drop left table) kept others)
 
 -- at first no lock is looked at

@@ -1,8 +1,10 @@
 -- Locks and numbers beside them, and what becomes of both.
-use Rattle.law_states.specs.KeptLocks.{is_owned_by}
+use Rattle.law_states.specs.KeptLocks.{Numbered, is_owned_by}
 use Rattle.salt_locks.proofs.Orders.{every_map, no_later-chain, no_later-other}
+use Rattle.salt_locks.specs.Leaving.{is_leaving}
 use Rattle.salt_locks.specs.Places.{AreInOrder, NoLater, is_low_at_most, is_no_later, is_up_to}
-use Rattle.salt_locks.specs.Tables.{is_of_another, locks_in, numbered, numbers_in, put, salted, salted_lock}
+use Rattle.salt_locks.specs.Tables.{locks_in, numbered, numbers_in, put, salted, salted_lock}
+use Rattle.salt_locks.specs.declared.leaving.Leaving.{Leaving}
 use Rattle.salt_model.specs.Words.{Every}
 use Rattle.salt_model.specs.declared.events.Owner.{Owner}
 use Rattle.salt_model.specs.declared.locks.Lock.{Lock}
@@ -27,28 +29,36 @@ salted_beside u b [] ls = refl
 salted_beside u b (n ∷ ns) [] = refl
 salted_beside u b (n ∷ ns) (l ∷ ls) = ap (λ xs. salted u b (record { number = n; lock = l }) ∷ xs) (salted_beside u b ns ls)
 
-abbrev pub is_left : Owner → Lock → Bool
-is_left o l = not (is_owned_by o l)
+-- a lock of one of those that go
+abbrev pub goes : Leaving → Lock → Bool
+goes leaving l = is_leaving leaving l.owner
 
-abbrev pub numbers_left : Owner → List ℕ → List Lock → List ℕ
-numbers_left o ns ls = map (λ n. n.number) (filter (is_of_another o) (numbered ns ls))
+-- what is left where some locks go
+abbrev pub is_left : (Lock → Bool) → Lock → Bool
+is_left out l = not (out l)
 
-pub left_beside : (o : Owner) (ns : List ℕ) (ls : List Lock) → numbered (numbers_left o ns ls) (filter (is_left o) ls) ≡ filter (is_of_another o) (numbered ns ls)
-left_beside o [] ls = refl
-left_beside o (n ∷ ns) [] = refl
-left_beside o (n ∷ ns) (l ∷ ls) = by (left_beside o ns ls) (is_owned_by o l) refl
+abbrev pub left_of : (Lock → Bool) → List ℕ → List Lock → List Numbered
+left_of out ns ls = filter (λ n. is_left out n.lock) (numbered ns ls)
+
+abbrev pub numbers_left : (Lock → Bool) → List ℕ → List Lock → List ℕ
+numbers_left out ns ls = map (λ n. n.number) (left_of out ns ls)
+
+pub left_beside : (out : Lock → Bool) (ns : List ℕ) (ls : List Lock) → numbered (numbers_left out ns ls) (filter (is_left out) ls) ≡ left_of out ns ls
+left_beside out [] ls = refl
+left_beside out (n ∷ ns) [] = refl
+left_beside out (n ∷ ns) (l ∷ ls) = by (left_beside out ns ls) (out l) refl
   where
-    by : numbered (numbers_left o ns ls) (filter (is_left o) ls) ≡ filter (is_of_another o) (numbered ns ls) → (b : Bool) → is_owned_by o l ≡ b → numbered (numbers_left o (n ∷ ns) (l ∷ ls)) (filter (is_left o) (l ∷ ls)) ≡ filter (is_of_another o) (numbered (n ∷ ns) (l ∷ ls))
+    by : numbered (numbers_left out ns ls) (filter (is_left out) ls) ≡ left_of out ns ls → (b : Bool) → out l ≡ b → numbered (numbers_left out (n ∷ ns) (l ∷ ls)) (filter (is_left out) (l ∷ ls)) ≡ left_of out (n ∷ ns) (l ∷ ls)
     by ih true e = rw e ih
     by ih false e = rw e (ap (λ xs. record { number = n; lock = l } ∷ xs) ih)
 
-pub left_length : (o : Owner) (ns : List ℕ) (ls : List Lock) → length ns ≡ length ls → length (numbers_left o ns ls) ≡ length (filter (is_left o) ls)
-left_length o [] [] e = refl
-left_length o [] (l ∷ ls) e = absurd (omega (arith, e))
-left_length o (n ∷ ns) [] e = absurd (omega (arith, e))
-left_length o (n ∷ ns) (l ∷ ls) e = by (left_length o ns ls (omega (arith, e))) (is_owned_by o l) refl
+pub left_length : (out : Lock → Bool) (ns : List ℕ) (ls : List Lock) → length ns ≡ length ls → length (numbers_left out ns ls) ≡ length (filter (is_left out) ls)
+left_length out [] [] e = refl
+left_length out [] (l ∷ ls) e = absurd (omega (arith, e))
+left_length out (n ∷ ns) [] e = absurd (omega (arith, e))
+left_length out (n ∷ ns) (l ∷ ls) e = by (left_length out ns ls (omega (arith, e))) (out l) refl
   where
-    by : length (numbers_left o ns ls) ≡ length (filter (is_left o) ls) → (b : Bool) → is_owned_by o l ≡ b → length (numbers_left o (n ∷ ns) (l ∷ ls)) ≡ length (filter (is_left o) (l ∷ ls))
+    by : length (numbers_left out ns ls) ≡ length (filter (is_left out) ls) → (b : Bool) → out l ≡ b → length (numbers_left out (n ∷ ns) (l ∷ ls)) ≡ length (filter (is_left out) (l ∷ ls))
     by ih true h = rw h ih
     by ih false h = rw h (ap suc ih)
 
@@ -162,10 +172,10 @@ map_length f (x ∷ xs) = ap suc (map_length f xs)
 pub salted_invariant : (u b : Id) (ns : List ℕ) (ls new_ls : List Lock) → (length ns ≡ length ls) × AreInOrder ls → new_ls ≡ map (salted_lock u b) ls → (length ns ≡ length new_ls) × AreInOrder new_ls
 salted_invariant u b ns ls new_ls inv f = (inv.0 ∙ (sym (map_length (salted_lock u b) ls) ∙ sym (ap length f)), subst AreInOrder (sym f) (order_salted u b ls inv.1))
 
-pub left_invariant : (o : Owner) (ns new_ns : List ℕ) (ls new_ls : List Lock) → (length ns ≡ length ls) × AreInOrder ls → new_ns ≡ numbers_left o ns ls → new_ls ≡ filter (is_left o) ls →
+pub left_invariant : (out : Lock → Bool) (ns new_ns : List ℕ) (ls new_ls : List Lock) → (length ns ≡ length ls) × AreInOrder ls → new_ns ≡ numbers_left out ns ls → new_ls ≡ filter (is_left out) ls →
     (length new_ns ≡ length new_ls) × AreInOrder new_ls
-left_invariant o ns new_ns ls new_ls inv e f = (ap length e ∙ (left_length o ns ls inv.0 ∙ sym (ap length f)), subst AreInOrder (sym f) (order_left (is_left o) ls inv.1))
+left_invariant out ns new_ns ls new_ls inv e f = (ap length e ∙ (left_length out ns ls inv.0 ∙ sym (ap length f)), subst AreInOrder (sym f) (order_left (is_left out) ls inv.1))
 
-pub left_view : (o : Owner) (ns new_ns : List ℕ) (ls new_ls : List Lock) → new_ns ≡ numbers_left o ns ls → new_ls ≡ filter (is_left o) ls →
-    numbered new_ns new_ls ≡ filter (is_of_another o) (numbered ns ls)
-left_view o ns new_ns ls new_ls e f = ap (λ xs. numbered xs new_ls) e ∙ (ap (numbered (numbers_left o ns ls)) f ∙ left_beside o ns ls)
+pub left_view : (out : Lock → Bool) (ns new_ns : List ℕ) (ls new_ls : List Lock) → new_ns ≡ numbers_left out ns ls → new_ls ≡ filter (is_left out) ls →
+    numbered new_ns new_ls ≡ left_of out ns ls
+left_view out ns new_ns ls new_ls e f = ap (λ xs. numbered xs new_ls) e ∙ (ap (numbered (numbers_left out ns ls)) f ∙ left_beside out ns ls)

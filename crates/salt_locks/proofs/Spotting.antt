@@ -1,28 +1,28 @@
 -- The spots that are listed of owners, and what calls make of them.
-use Rattle.law_states.specs.KeptLocks.{Numbered, is_owned_by, saline_of}
+use Rattle.law_states.specs.KeptLocks.{Numbered, is_base_among, is_owned_by, saline_of}
 use Rattle.law_states.specs.Members.{In}
 use Rattle.law_story.proofs.Ids.{is_same_id-refl, is_same_id-sym, is_same_id-true}
 use Rattle.law_story.proofs.Lists.{in-filter, in-left, in-map, in-right, into-map}
-use Rattle.salt_locks.proofs.Puts.{locks_beside}
+use Rattle.salt_locks.proofs.Puts.{is_left, left_of, locks_beside}
 use Rattle.salt_locks.specs.Spots.{AreAt, AreSpotted, id_cmp, spot_of, spots_at, spots_in}
-use Rattle.salt_locks.specs.Tables.{is_of_another, numbered, salted_lock}
+use Rattle.salt_locks.specs.Tables.{numbered, salted_lock}
 use Rattle.salt_locks.specs.declared.spots.Spot.{Spot}
 use Rattle.salt_locks.specs.declared.spots.Spots.{Spots}
 use Rattle.salt_model.specs.Locks.{is_same_owner}
 use Rattle.salt_model.specs.declared.events.Owner.TheVariants.{Base, Unit}
 use Rattle.salt_model.specs.declared.events.Owner.{Owner}
 use Rattle.salt_model.specs.declared.locks.Lock.{Lock}
-use Rattle.salt_values.specs.Id.{is_same_id}
+use Rattle.salt_values.specs.Id.{has_id, is_same_id}
 use Rattle.salt_values.specs.declared.id.Id.{Id}
 use Rattle.std.proofs.Common.{ap, arith, inl, inr, refl, subst, sym, ◌∙◌}
 use Rattle.std.proofs.lemmas.Bool.Decides.{nat_tests}
 use Rattle.std.proofs.lemmas.Bool.{not-true}
 use Rattle.std.proofs.lemmas.List.{drop_more}
-use Rattle.std.specs.BTreeMap.{BTreeMap, get}
+use Rattle.std.specs.BTreeMap.{BTreeMap, get, is_at}
 use Rattle.std.specs.Global.{Global}
-use Rattle.std.specs.List.{filter, insert, remove}
+use Rattle.std.specs.List.{insert, list_any, remove}
 use Rattle.std.specs.Ordering.{is_eq, nat_cmp, ordering_then}
-use Rattle.std.specs.Prelude.{Bool, IsTrue, List, None, Option, Some, Vec, [], cond, drop, false, get_or, length, map, suc, true, zero, ℕ, ◌&&◌, ◌+◌, ◌++◌, ◌<◌, ◌==◌, ◌∷◌, ◌≡◌, ◌⊎◌}
+use Rattle.std.specs.Prelude.{Bool, IsTrue, List, None, Option, Some, Vec, [], cond, drop, false, get_or, length, map, suc, true, zero, ℕ, ◌&&◌, ◌+◌, ◌++◌, ◌<◌, ◌==◌, ◌∷◌, ◌≡◌, ◌⊎◌, ◌||◌}
 use Rattle.std.specs.declared.cmp.Ordering.TheVariants.{Equal, Greater, Less}
 use Rattle.std.specs.declared.cmp.Ordering.{Ordering}
 
@@ -168,20 +168,38 @@ in-removed (y ∷ ys) zero x i = inr i
 in-removed (y ∷ ys) (suc k) x (inl e) = inl e
 in-removed (y ∷ ys) (suc k) x (inr i) = inr (in-removed ys k x i)
 
--- of locks that are left when an owner's go
-pub left_members : (o : Owner) (ns new_ns : List ℕ) (ls new_ls : List Lock) → length ns ≡ length ls → length new_ns ≡ length new_ls →
-    numbered new_ns new_ls ≡ filter (is_of_another o) (numbered ns ls) → (l : Lock) → In l new_ls → In l ls × (is_owned_by o l ≡ false)
-left_members o ns new_ns ls new_ls same new_same is l i =
+-- of locks that are left when some go
+pub left_members : (out : Lock → Bool) (ns new_ns : List ℕ) (ls new_ls : List Lock) → length ns ≡ length ls → length new_ns ≡ length new_ls →
+    numbered new_ns new_ls ≡ left_of out ns ls → (l : Lock) → In l new_ls → In l ls × (out l ≡ false)
+left_members out ns new_ns ls new_ls same new_same is l i =
     let m = in-map (λ (n : Numbered). n.lock) l (numbered new_ns new_ls) (subst (In l) (sym (locks_beside new_ns new_ls new_same)) i) in
-    let k = in-filter (is_of_another o) m.0 (numbered ns ls) (subst (In m.0) is m.1) in (
+    let k = in-filter (λ n. is_left out n.lock) m.0 (numbered ns ls) (subst (In m.0) is m.1) in (
       subst (λ x. In x ls) m.2 (subst (In (m.0).lock) (locks_beside ns ls same) (into-map (λ (n : Numbered). n.lock) m.0 (numbered ns ls) k.0)),
-      ap (is_owned_by o) (sym m.2) ∙ not-true (is_owned_by o (m.0).lock) k.1,
+      ap out (sym m.2) ∙ not-true (out (m.0).lock) k.1,
     )
 
 -- so what is listed of the others is listed of them
-pub left_spotted : (x y : Spots) (o : Owner) (ns new_ns : List ℕ) (ls new_ls : List Lock) → length ns ≡ length ls → length new_ns ≡ length new_ls →
-    numbered new_ns new_ls ≡ filter (is_of_another o) (numbered ns ls) →
-    ((ms : List Lock) → AreSpotted x ms → ((l : Lock) → In l ms → is_owned_by o l ≡ false) → AreSpotted y ms) → AreSpotted x ls → AreSpotted y new_ls
-left_spotted x y o ns new_ns ls new_ls same new_same is forgets h =
-    forgets new_ls (spotted-part x ls new_ls (λ l i. (left_members o ns new_ns ls new_ls same new_same is l i).0) h)
-    (λ l i. (left_members o ns new_ns ls new_ls same new_same is l i).1)
+pub left_spotted : (x y : Spots) (out : Lock → Bool) (ns new_ns : List ℕ) (ls new_ls : List Lock) → length ns ≡ length ls → length new_ns ≡ length new_ls →
+    numbered new_ns new_ls ≡ left_of out ns ls →
+    ((ms : List Lock) → AreSpotted x ms → ((l : Lock) → In l ms → out l ≡ false) → AreSpotted y ms) → AreSpotted x ls → AreSpotted y new_ls
+left_spotted x y out ns new_ns ls new_ls same new_same is forgets h =
+    forgets new_ls (spotted-part x ls new_ls (λ l i. (left_members out ns new_ns ls new_ls same new_same is l i).0) h)
+    (λ l i. (left_members out ns new_ns ls new_ls same new_same is l i).1)
+
+-- SETS of programs
+
+-- a set's test is membership in the list of its names
+pub has-key : (q : Id) (names : List Id) → list_any (is_at (id_cmp q)) names ≡ has_id q names
+has-key q [] = refl
+has-key q (x ∷ xs) = ap (λ t. t || list_any (is_at (id_cmp q)) xs) (same-at q x) ∙ ap (λ t. is_same_id q x || t) (has-key q xs)
+
+-- an owner that is none of them is not this one of them
+pub not-this : (b : Id) (bases : List Id) (o : Owner) → In b bases → is_base_among bases o ≡ false → is_same_owner (Base b) o ≡ false
+not-this b bases (Unit u) i none = refl
+not-this b [] (Base c) i none = absurd i
+not-this b (x ∷ xs) (Base c) i none = by (not-this b xs (Base c)) i (is_same_id c x) refl none
+  where
+    by : (In b xs → has_id c xs ≡ false → is_same_id b c ≡ false) → In b (x ∷ xs) → (t : Bool) → is_same_id c x ≡ t → (t || has_id c xs) ≡ false → is_same_id b c ≡ false
+    by ih j true e h = cc
+    by ih (inl f) false e h = is_same_id-sym b c ∙ (ap (is_same_id c) (sym f) ∙ e)
+    by ih (inr j) false e h = ih j h

@@ -1,5 +1,5 @@
 -- A table of locks with their numbers, and what the calls make of it.
-use Rattle.law_states.specs.KeptLocks.{Numbered, is_owned_by, saline_of}
+use Rattle.law_states.specs.KeptLocks.{Numbered, is_base_among, is_owned_by, saline_of}
 use Rattle.salt_locks.specs.Places.{is_no_later}
 use Rattle.salt_locks.specs.declared.table.TakeErr.{TakeErr}
 use Rattle.salt_locks.specs.declared.table.TakeErr.TheVariants.{Conflict, Memory}
@@ -39,6 +39,10 @@ salted u b n = record { number = n.number; lock = salted_lock u b n.lock }
 
 abbrev pub is_of_another : Owner → Numbered → Bool
 is_of_another o n = not (is_owned_by o n.lock)
+
+-- a lock of none of these programs
+abbrev pub is_of_none : List Id → Numbered → Bool
+is_of_none bases n = not (is_base_among bases n.lock.owner)
 
 -- the units, and the programs, that own one of these locks, each once and in order
 abbrev pub units_in : List Lock → List Id

@@ -1,6 +1,7 @@
-//! An owner's locks go, with what stands beside them.
+//! Locks go, with what stands beside them.
 
 ghost use Rattle.salt_locks.specs.Clear.{IsMarked};
+ghost use Rattle.salt_locks.specs.Leaving.{stays};
 ghost use Rattle.salt_locks.specs.Places.{AreInOrder};
 ghost use Rattle.salt_locks.specs.Spots.{AreAt, spot_of};
 ghost use Rattle.salt_locks.specs.Tables.{is_of_another, numbered};
@@ -10,6 +11,7 @@ ghost use Rattle.std.specs.List.{filter, remove};
 ghost use Rattle.std.specs.Prelude.{List, get_or, length, map, ℕ, ◌<◌, ◌∷◌, ◌≡◌, ◌≤◌};
 
 use crate::clear::{ends_by, mark};
+use crate::leaving::Leaving;
 use crate::owners::is_same_owner;
 use crate::places::{count_below, count_no_later};
 use crate::spots::Spot;
@@ -154,16 +156,16 @@ pub fn drop_few(
     left
 }
 
-/// Leaves the numbers of the locks of others.
-fn drop_numbers(owner: Owner, numbers: &mut VecDeque<u64>, locks: &VecDeque<Lock>)
+/// Leaves the numbers of the locks that stay.
+fn drop_numbers(leaving: &Leaving<'_>, numbers: &mut VecDeque<u64>, locks: &VecDeque<Lock>)
     requires { length numbers.old.items ≡ length locks.now.items }
-    ensures { numbers.new.items ≡ map (λ n. n.number) (filter (is_of_another owner) (numbered numbers.old.items locks.now.items)) }
+    ensures { numbers.new.items ≡ map (λ n. n.number) (filter (stays leaving.now) (numbered numbers.old.items locks.now.items)) }
 {
     let mut kept = 0;
     let mut at = 0;
     while at < locks.len() {
         let lock = &locks[at];
-        if !is_same_owner(owner, lock.owner) {
+        if !leaving.has(lock.owner) {
             numbers[kept] = numbers[at];
             kept += 1;
         }
@@ -172,9 +174,9 @@ fn drop_numbers(owner: Owner, numbers: &mut VecDeque<u64>, locks: &VecDeque<Lock
     numbers.truncate(kept);
 }
 
-/// An owner's locks go, all at once.
+/// Locks go, all at once.
 pub fn drop_all(
-    owner: Owner,
+    leaving: &Leaving<'_>,
     numbers: &mut VecDeque<u64>,
     clear: &mut VecDeque<bool>,
     locks: &mut VecDeque<Lock>,
@@ -185,10 +187,10 @@ pub fn drop_all(
     ensures numbers { length numbers.new.items ≡ length locks.new.items }
     ensures order { AreInOrder locks.new.items }
     ensures marked { IsMarked clear.new.items locks.new.items }
-    ensures all { numbered numbers.new.items locks.new.items ≡ filter (is_of_another owner) (numbered numbers.old.items locks.old.items) }
+    ensures all { numbered numbers.new.items locks.new.items ≡ filter (stays leaving.now) (numbered numbers.old.items locks.old.items) }
 {
-    drop_numbers(owner, numbers, locks);
-    locks.retain(|lock| !is_same_owner(owner, lock.owner));
+    drop_numbers(leaving, numbers, locks);
+    locks.retain(|lock| !leaving.has(lock.owner));
     clear.truncate(locks.len());
     mark(clear, locks);
 }

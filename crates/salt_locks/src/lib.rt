@@ -7,6 +7,7 @@ mod clear;
 mod copies;
 mod drops;
 mod laws;
+mod leaving;
 mod owners;
 mod places;
 mod salts;

@@ -1,6 +1,6 @@
 //! Where each owner has locks.
 
-ghost use Rattle.law_states.specs.KeptLocks.{is_owned_by};
+ghost use Rattle.law_states.specs.KeptLocks.{is_base_among, is_owned_by};
 ghost use Rattle.law_states.specs.Members.{In};
 ghost use Rattle.salt_locks.specs.Spots.{AreSpotted, id_cmp, spot_of, spots_at, spots_in};
 ghost use Rattle.salt_locks.specs.Tables.{salted_lock};
@@ -16,7 +16,7 @@ use crate::copies::copy_end;
 use salt_model::{Lock, Owner};
 use salt_values::{Id, Key};
 use std::alloc::{AllocError, Global};
-use std::collections::BTreeMap;
+use std::collections::{BTreeMap, BTreeSet};
 
 /// Where a lock begins: its table, and the lower end of its range.
 #[derive(Drop)]
@@ -161,6 +161,15 @@ impl Spots {
         ensures { (ls : List Lock) → AreSpotted self.old ls → ((l : Lock) → In l ls → is_owned_by owner l ≡ false) → AreSpotted self.new ls }
     {
         let _spots = self.take(owner);
+    }
+
+    /// These programs have no lock any more.
+    pub fn forget_programs(&mut self, bases: &BTreeSet<Id>)
+        ensures { (ls : List Lock) → AreSpotted self.old ls → ((l : Lock) → In l ls → is_base_among bases.now.keys l.owner ≡ false) → AreSpotted self.new ls }
+    {
+        for base in bases {
+            self.forget(Owner::Base(*base));
+        }
     }
 
     /// A unit's locks are those of its program.

@@ -2,7 +2,7 @@
 
 ghost use Rattle.law_states.specs.KeptLocks.{Numbered};
 ghost use Rattle.law_states.specs.Members.{In};
-ghost use Rattle.salt_locks.specs.Tables.{Answers, is_of_another, locks_in, owners_against, put, salted};
+ghost use Rattle.salt_locks.specs.Tables.{Answers, is_of_another, is_of_none, locks_in, owners_against, put, salted};
 ghost use Rattle.salt_locks.specs.Turns.{locks_in_turn, numbered_of};
 ghost use Rattle.salt_locks.specs.declared.table.TakeErr.TheVariants.{Memory};
 ghost use Rattle.salt_model.specs.Locks.{clashes, lock_of};
@@ -15,6 +15,7 @@ use crate::clash::{first_against, owners_against};
 use crate::clear::{cover, is_clear, met};
 use crate::copies::copy_range;
 use crate::drops::{FEW, drop_all, drop_at, drop_few};
+use crate::leaving::Leaving;
 use crate::places::count_no_later;
 use crate::salts::salt;
 use crate::spots::Spots;
@@ -22,7 +23,7 @@ use crate::turns::{TakenLock, locks_in_turn};
 use salt_model::{Family, Lock, Owner, Owners, Reach};
 use salt_values::Id;
 use std::alloc::{AllocError, Global};
-use std::collections::VecDeque;
+use std::collections::{BTreeSet, VecDeque};
 use std::marker::Model;
 
 /// Why no lock is taken.
@@ -223,6 +224,24 @@ impl LockTable {
         if drop_few(owner, &mut self.numbers, &mut self.clear, &mut self.locks) == 0 {
             return;
         }
-        drop_all(owner, &mut self.numbers, &mut self.clear, &mut self.locks);
+        drop_all(
+            &Leaving::One(owner),
+            &mut self.numbers,
+            &mut self.clear,
+            &mut self.locks,
+        );
+    }
+
+    /// The locks of these programs go, in one pass over all locks.
+    pub fn drop_programs(&mut self, bases: &BTreeSet<Id>)
+        ensures { self.new ≡ filter (is_of_none bases.now.keys) self.old }
+    {
+        self.spots.forget_programs(bases);
+        drop_all(
+            &Leaving::Programs(bases),
+            &mut self.numbers,
+            &mut self.clear,
+            &mut self.locks,
+        );
     }
 }

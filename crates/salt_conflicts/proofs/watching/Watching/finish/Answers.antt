@@ -28,11 +28,11 @@ returns-clause-none c w s none =
     let d = dependencies old.deps in
     let due = c.in_ok-due.due in
     none-due c.args.base old new w due none s c.in_ok-due.ensures.ok
-    (c.release.ensures ∙ ap (λ bs. filter (is_unreleased bs) old.locks) c.as_slice.ensures)
+    (c.in_ok-release.ensures ∙ ap (λ bs. filter (is_unreleased bs) old.locks) c.as_slice.ensures)
     refl refl
     (c.drop_all.ensures ∙ ap (λ bs. without bs old.programs.names) c.as_slice-2.ensures)
     (held-released due old.held new.held c.is_empty-none.result old.holders.items old.locks new.locks old.waits.items c.holds_behind-self.ensures c.is_empty-none.ensures.0
-    (c.release.ensures ∙ ap (λ bs. filter (is_unreleased bs) old.locks) c.as_slice.ensures) s.holders)
+    (c.in_ok-release.ensures ∙ ap (λ bs. filter (is_unreleased bs) old.locks) c.as_slice.ensures) s.holders)
 
 pub returns-clause-released : goal.returns-clause-released
 returns-clause-released c w f s =
@@ -41,9 +41,9 @@ returns-clause-released c w f s =
     let d = dependencies old.deps in
     let due = c.in_ok-due.due in
     goes (marked c.args.base d) old new w f (Released due) s
-    (subst (λ ns. SameMembers ns (table_by f old.taken (Released due) old.locks)) (sym (c.release.ensures ∙ ap (λ bs. filter (is_unreleased bs) old.locks) c.as_slice.ensures)) (released f old.taken due old.locks))
+    (subst (λ ns. SameMembers ns (table_by f old.taken (Released due) old.locks)) (sym (c.in_ok-release.ensures ∙ ap (λ bs. filter (is_unreleased bs) old.locks) c.as_slice.ensures)) (released f old.taken due old.locks))
     (plus-none old.taken) s.waits
     (c.drop_all.ensures ∙ ap (λ bs. without bs old.programs.names) c.as_slice-2.ensures)
     (leaves f c.args.base due d (dependencies new.deps) c.in_ok-due.ensures.order c.in_ok-due.ensures.ok)
     (held-released due old.held new.held c.is_empty-none.result old.holders.items old.locks new.locks old.waits.items c.holds_behind-self.ensures c.is_empty-none.ensures.0
-    (c.release.ensures ∙ ap (λ bs. filter (is_unreleased bs) old.locks) c.as_slice.ensures) s.holders)
+    (c.in_ok-release.ensures ∙ ap (λ bs. filter (is_unreleased bs) old.locks) c.as_slice.ensures) s.holders)

@@ -1,3 +1,4 @@
+use Rattle.law_states.specs.KeptLocks.{is_owned_by}
 use Rattle.salt_locks.proofs.Spotting.{at-spots, left_spotted}
 use Rattle.salt_locks.proofs.table.LockTable.drop_owner.Goals as goal
 use Rattle.salt_locks.specs.Spots.{AreAt}
@@ -15,7 +16,7 @@ invariant_of-self c =
       now.numbers,
       now.order,
       now.marked,
-      left_spotted c.self.inside.spots c.forget.new.self c.args.owner c.self.inside.numbers.items c.drop_at.new.numbers.items c.self.inside.locks.items c.drop_at.new.locks.items
+      left_spotted c.self.inside.spots c.forget.new.self (is_owned_by c.args.owner) c.self.inside.numbers.items c.drop_at.new.numbers.items c.self.inside.locks.items c.drop_at.new.locks.items
           inv.0 now.numbers now.all c.forget.ensures inv.3,
     )
 
@@ -26,7 +27,7 @@ invariant_of-self-then-drop_few-eq0 c =
       now.numbers,
       now.order,
       now.marked,
-      left_spotted c.self.inside.spots c.forget-2.new.self c.args.owner c.self.inside.numbers.items c.drop_few.new.numbers.items c.self.inside.locks.items c.drop_few.new.locks.items
+      left_spotted c.self.inside.spots c.forget-2.new.self (is_owned_by c.args.owner) c.self.inside.numbers.items c.drop_few.new.numbers.items c.self.inside.locks.items c.drop_few.new.locks.items
           inv.0 now.numbers (now.all c.if-drop_few-eq0.true) c.forget-2.ensures inv.3,
     )
 
@@ -37,6 +38,6 @@ invariant_of-self-2 c =
       now.numbers,
       now.order,
       now.marked,
-      left_spotted c.self.inside.spots c.forget-2.new.self c.args.owner c.self.inside.numbers.items c.drop_all.new.numbers.items c.self.inside.locks.items c.drop_all.new.locks.items
+      left_spotted c.self.inside.spots c.forget-2.new.self (is_owned_by c.args.owner) c.self.inside.numbers.items c.drop_all.new.numbers.items c.self.inside.locks.items c.drop_all.new.locks.items
           inv.0 now.numbers (now.all ∙ c.drop_few.ensures.others) c.forget-2.ensures inv.3,
     )

@@ -1,4 +1,4 @@
-use Rattle.salt_conflicts.proofs.watching.release.Given as goal
+use Rattle.salt_conflicts.proofs.watching.release_each.Given as goal
 use Rattle.salt_conflicts.specs.Calls.{is_unreleased}
 use Rattle.std.proofs.Common.{drop, length, ◌≡◌, ◌≤◌}
 use Rattle.std.specs.List.{filter}
