@@ -3,7 +3,7 @@
 ghost use Rattle.std.specs.Prelude.{◌≡◌, IfOk};
 ghost use Rattle.salt_ast.specs.ProgramJudgement.{line_fault};
 ghost use Rattle.salt_books.specs.Books.{seen};
-ghost use Rattle.salt_scheduler.specs.Refused.{IsCountFor, calls, refusal_by_state};
+ghost use Rattle.salt_scheduler.specs.Refused.{IsCountFor, calls, is_turn, refusal_by_state};
 ghost use Rattle.salt_scheduler.specs.Refusals.{HasFewParts, told};
 ghost use Rattle.law_states.specs.KeptWaits.{AreDistinct};
 ghost use Rattle.law_states.specs.Nexts.{refusal_of};
@@ -171,19 +171,33 @@ impl Scheduler {
         }
     }
 
-    /// What is refused of a line by what is defined and, of a call, how many programs are under way.
+    /// Whether a line is a turn of a program that goes on.
+    fn is_turn(&self, line: &Line) -> bool
+        ensures { (s : State) → StandsForState self.now s → result ≡ is_turn s.units.kept line.now }
+    {
+        match line {
+            Line::Go(base) => self.books.known().cont(*base).is_some(),
+            _ => false,
+        }
+    }
+
+    /// What is refused of a line by what is defined and, of a call, how many programs are under way. Of a turn nothing is, where its
+    /// program goes on; so this one alone is looked for, and behind that it is no matter which programs go on.
     fn fault(&self, line: &Line) -> Result<Option<Refusal>, AllocError>
         requires { HasFewParts line.now }
         ensures { IfOk result (λ refusal. (s : State) → StandsForState self.now s → AreDistinct s.watch.programs →
             refusal ≡ told (line_fault (known_in s.units (under_way_of s)) line.now)) }
     {
+        if self.is_turn(line) {
+            return Ok(None);
+        }
         let known = self.books.known();
         let count = self.count_for(line)?;
         line_refusal(
             self.alloc,
             known.schema(),
             known.catalogue(),
-            known.conts(),
+            &[],
             count,
             line,
         )
