@@ -1,0 +1,17 @@
+pub mod Applied
+pub mod Bounded
+pub mod Changing
+pub mod Device
+pub mod Few
+pub mod Flushed
+pub mod Kept
+pub mod OneChange
+pub mod Opened
+pub mod Pool
+pub mod Put
+pub mod Read
+pub mod Reading
+pub mod Replaced
+pub mod Standing
+pub mod Taken
+pub mod Written

@@ -1,0 +1,111 @@
+-- When a value keeps the rows of tables on the pages of a device.
+use Rattle.salt_bytes.specs.Page.{page_length, page_place}
+use Rattle.salt_bytes.specs.Spellable.{Every}
+use Rattle.salt_disk.specs.Disks.{View}
+use Rattle.salt_model.specs.Tables.{Tables, no_rows, with_changes}
+use Rattle.salt_model.specs.declared.places.Place.{Place}
+use Rattle.salt_pool.specs.Dirtied.{is_dirty}
+use Rattle.salt_pool.specs.Frames.{frame_count}
+use Rattle.salt_pool.specs.Pools.{IsPool}
+use Rattle.salt_pool.specs.declared.places.Dirty.{Dirty}
+use Rattle.salt_directory.specs.Directories.{HasPagesBelow}
+use Rattle.salt_directory.specs.Pages.{AreRowsOf, free_on}
+use Rattle.salt_rows.specs.Sides.{ArePages, spare_side}
+use Rattle.salt_rows.specs.Frames.{Frames}
+use Rattle.salt_rows.specs.declared.store.RowStore.{RowStore}
+use Rattle.salt_bytes.specs.Page.{TableRow}
+use Rattle.salt_stands.specs.Partition.{are_distinct, rows_from}
+use Rattle.salt_stands.specs.Tables.{change_of_row}
+use Rattle.std.specs.Map.{lookup}
+use Rattle.std.specs.Prelude.{Bool, IsTrue, List, None, Some, [], false, get_or, length, map, nat_eq, true, ℕ, ◌+◌, ◌<◌, ◌≡◌, ◌≤◌}
+
+abbrev pub IsSide : ℕ → Type 0
+IsSide side = side ≤ 1
+
+-- a page that is to be written stands in the list of sides, and is written to the side that the header does not name
+abbrev pub IsSpare : (named sides : List ℕ) → Dirty → Type 0
+IsSpare named sides d = (d.page < length sides) × (d.side ≡ spare_side named d.page) × (get_or sides d.page 0 ≡ d.side)
+
+-- What holds of pages in memory, whatever the disks tell: which are framed, which are to be written and where, and how long the
+-- device is at least.
+pub record AreKept (pool : Frames) (named sides space : List ℕ) (directory : List (Place × ℕ)) : Type 0 where
+  pub is_pool : IsPool pool
+  pub codec : pool.codec ≡ record { nulls = true }
+  pub named_low : Every IsSide named
+  pub sides_low : Every IsSide sides
+  pub listed : length named ≤ length sides
+  pub counted : length space ≡ length sides
+  pub spare : Every (IsSpare named sides) pool.dirty.items
+  pub beyond : (page : ℕ) → length sides ≤ page → lookup (nat_eq page) pool.frames.entries ≡ None
+  pub pointed : HasPagesBelow directory (length sides)
+  pub named_end : (page : ℕ) → page < length named → page_place page (get_or named page 0) + page_length ≤ pool.len
+  pub side_end : (page : ℕ) → page < length sides → is_dirty pool.dirty.items page ≡ false → page_place page (get_or sides page 0) + page_length ≤ pool.len
+
+abbrev pub IsKept : RowStore → Type 0
+IsKept x = AreKept x.pool x.named x.sides.items x.space x.directory.entries
+
+-- The rows on the pages are those of the tables, where their device has these bytes.
+pub record HavePages (bytes : List ℕ) (pool : Frames) (sides space : List ℕ) (directory : List (Place × ℕ)) (t : Tables) : Type 0 where
+  pub pages : List (List TableRow)
+  pub are : ArePages bytes pool.frames.entries pool.dirty.items sides pages
+  pub rows : AreRowsOf directory pages t
+  pub free : space ≡ map free_on pages
+  pub long : pool.len ≡ length bytes
+
+abbrev pub HasRows : List ℕ → RowStore → Tables → Type 0
+HasRows bytes x t = HavePages bytes x.pool x.sides.items x.space x.directory.entries t
+
+-- The value keeps the rows of these tables on the pages of device `dev`, of which the header names these sides.
+pub record IsStanding (d : View) (x : RowStore) (dev : ℕ) (named : List ℕ) (t : Tables) : Type 0 where
+  pub device : x.pool.dev ≡ dev
+  pub known : dev < d.count
+  pub names : x.named ≡ named
+  pub kept : IsKept x
+  pub told : IsTrue d.told → HasRows (d.bytes dev) x t
+
+-- and between calls it can frame a page without a write: at most 63 pages are to be written
+pub record IsRowStore (d : View) (x : RowStore) (dev : ℕ) (named : List ℕ) (t : Tables) : Type 0 where
+  pub is : IsStanding d x dev named t
+  pub few : length x.pool.dirty.items < frame_count
+
+-- some rows stand in it
+pub record Stands (d : View) (x : RowStore) : Type 0 where
+  pub dev : ℕ
+  pub named : List ℕ
+  pub t : Tables
+  pub is : IsStanding d x dev named t
+
+-- a store keeps some rows
+pub record StandsOnPages (d : View) (x : RowStore) : Type 0 where
+  pub dev : ℕ
+  pub named : List ℕ
+  pub t : Tables
+  pub is : IsRowStore d x dev named t
+
+-- nothing of it is to be written
+abbrev pub IsClean : RowStore → Type 0
+IsClean x = x.pool.dirty.items ≡ []
+
+-- WHAT LAYERS ABOVE SEE
+
+-- its device
+abbrev pub device_of : RowStore → ℕ
+device_of x = x.pool.dev
+
+-- the side of each page now, as a header would name them
+abbrev pub sides_of : RowStore → List ℕ
+sides_of x = x.sides.items
+
+abbrev pub page_count : RowStore → ℕ
+page_count x = length x.sides.items
+
+-- with a header that names these sides
+abbrev pub with_named : RowStore → List ℕ → RowStore
+with_named x sides = record x { named = sides }
+
+-- These sides have the rows of the tables, each place once; NULL is read or not.
+pub record HaveRows (nulls : Bool) (bytes : List ℕ) (sides : List ℕ) (t : Tables) : Type 0 where
+  pub rows : List TableRow
+  pub read : rows_from nulls bytes 0 sides ≡ Some rows
+  pub apart : are_distinct (map change_of_row rows) ≡ true
+  pub tables : with_changes (map change_of_row rows) no_rows ≡ t
