@@ -2,8 +2,9 @@
 use Rattle.salt_eval.proofs.InOrder.{less_is, parted}
 use Rattle.salt_eval.proofs.Nexts.{and_true, same_table}
 use Rattle.salt_eval.specs.Scans.{point_of, range_rows, row_list}
-use Rattle.salt_eval.specs.Views.{is_next}
+use Rattle.salt_eval.specs.Views.{is_next, next_row, rows_after}
 use Rattle.salt_model.specs.Tables.{Entry, Tables, place, place_cmp, place_total, row_at}
+use Rattle.salt_model.specs.Words.{first_of_list}
 use Rattle.salt_model.specs.declared.places.Place.{Place}
 use Rattle.salt_ranges.specs.Ranges.{has_key}
 use Rattle.salt_ranges.specs.declared.range.KeyRange.{KeyRange}
@@ -14,7 +15,7 @@ use Rattle.std.proofs.lemmas.Cmp.{alike_right}
 use Rattle.std.specs.FinMap.Entries.{below_all, find, is_sorted}
 use Rattle.std.specs.List.{filter}
 use Rattle.std.specs.Ordering.{eq_by_cmp, is_eq, is_gt, ordering_reverse, ordering_then}
-use Rattle.std.specs.Prelude.{Bool, List, None, Option, Some, [], cond, false, map, nat_lt, not, refl, true, ℕ, ◌&&◌, ◌==◌, ◌∷◌, ◌≡◌}
+use Rattle.std.specs.Prelude.{Bool, List, None, Option, Some, [], cond, false, map, nat_lt, not, option_map, refl, true, ℕ, ◌&&◌, ◌==◌, ◌∷◌, ◌≡◌}
 use Rattle.std.specs.declared.cmp.Ordering.TheVariants.{Equal, Greater, Less}
 use Rattle.std.specs.declared.cmp.Ordering.{Ordering}
 use lib.Dec.{T}
@@ -84,3 +85,15 @@ point-rows t range key es is = by range.lo range.hi refl refl is
             ap (map (λ (e : Entry). e.1)) (filter-alike (λ (e : Entry). is_next t range None e.0) (λ (e : Entry). eq_by_cmp place_cmp (place t lo) e.0) (λ e. at lo hi low high o e.0) es.list)
             ∙ filter-find (place t lo) es.list es.sorted
             ∙ ap (λ k. row_list (row_at (place t k) es)) same
+
+first-row : (l : List Entry) → option_map (λ (e : Entry). e.1) (first_of_list l) ≡ first_of_list (map (λ (e : Entry). e.1) l)
+first-row [] = refl
+first-row (e ∷ l) = refl
+
+first-listed : (row : Option (List Value)) → first_of_list (row_list row) ≡ row
+first-listed None = refl
+first-listed (Some row) = refl
+
+-- the first row of a range of one key is that of the key
+pub point-first : (t : ℕ) (range : KeyRange) (key : Value) (es : Tables) → point_of range ≡ Some key → row_at (place t key) es ≡ next_row t range None es
+point-first t range key es is = sym (first-row (rows_after t range None es) ∙ ap first_of_list (point-rows t range key es is) ∙ first-listed (row_at (place t key) es))

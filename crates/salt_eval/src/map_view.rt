@@ -1,15 +1,17 @@
 //! The view of rows in a map.
 
 ghost use Rattle.std.proofs.Props.{props};
-ghost use Rattle.std.specs.Prelude.{◌≡◌, IfOk, OnOk};
+ghost use Rattle.std.specs.Prelude.{◌≡◌, IfOk, IfSome, None, OnOk, Some};
 ghost use Rattle.std.specs.Option.{option_copied};
 ghost use Rattle.std.specs.BTreeMap.Range.{entries_between};
 ghost use Rattle.std.specs.declared.ops.Bound.TheVariants.{Unbounded};
 ghost use Rattle.salt_model.specs.Tables.{place_cmp};
 ghost use Rattle.salt_eval.specs.Cursors.{AreInOrder, IsCursorOf};
+ghost use Rattle.salt_eval.specs.Scans.{point_of};
 ghost use Rattle.salt_eval.specs.Views.{start_of, tables_of};
 
 use crate::cursor::{Cursor, first_of, rest_at};
+use crate::scan::point_of;
 use crate::view::{RowView, ViewErr};
 use salt_model::{Place, first_place};
 use salt_ranges::{KeyRange, is_above_low};
@@ -94,6 +96,16 @@ fn entries_after<'a>(
     }
 }
 
+/// The one key that a range can show, where it has no other and none was shown.
+fn only_key<'r>(range: &'r KeyRange, after: Option<&Key>) -> Option<&'r Key>
+    ensures { IfSome result (λ key. (option_copied after.entry ≡ None) × (point_of range.now ≡ Some key.now)) }
+{
+    match after {
+        Some(_) => None,
+        None => point_of(range),
+    }
+}
+
 impl<'a> RowView for MapView<'a> {
     ghost use Rattle.salt_eval.specs.MapViews.{shown_by};
 
@@ -119,6 +131,9 @@ impl<'a> RowView for MapView<'a> {
         range: &KeyRange,
         after: Option<&Key>,
     ) -> Result<Option<Row>, ViewErr> {
+        if let Some(key) = only_key(range, after) {
+            return self.get(table, key);
+        }
         let cursor = self.cursor.take();
         let entries = entries_after(self.alloc, self.rows, cursor, table, &range.lo, after)?;
         let Some(cursor) = first_of(entries) else {

@@ -54,7 +54,7 @@ pub fn key_of(alloc: Global, row: &[Value]) -> Result<Key, AllocError>
 }
 
 /// The one key of a range whose ends are equal.
-fn point_of(range: &KeyRange) -> Option<&Key>
+pub fn point_of(range: &KeyRange) -> Option<&Key>
     ensures { option_copied result ≡ point_of range.now }
 {
     match (&range.lo, &range.hi) {
