@@ -4,3 +4,4 @@ pub mod FieldNames
 pub mod Tables
 pub mod Rows
 pub mod Accepted
+pub mod Firsts

@@ -1,11 +1,12 @@
 //! Definitions in the order in which they were made, each found by its name or its number.
 
-ghost use Rattle.std.specs.Prelude.{◌≡◌, ◌<◌, ◌++◌, ◌∷◌, [], IfSome, None, OnErr, OnOk, find, length, slice_get};
+ghost use Rattle.std.specs.Prelude.{◌≡◌, ◌<◌, ◌++◌, ◌∷◌, [], IfSome, None, OnErr, OnOk, Some, find, length, slice_get};
 ghost use Rattle.std.specs.HashMap.{values};
 ghost use Rattle.std.specs.Option.{option_copied};
 ghost use Rattle.salt_schema.specs.Definitions.{AreDistinct, AreKeyed, definition_named, is_named, number_named};
 
 use crate::named::Named;
+use crate::names::is_same_name;
 use indexmap::IndexMap;
 use salt_values::Name;
 use std::alloc::{AllocError, Global};
@@ -54,12 +55,29 @@ impl<T: Named + Drop> Definitions<T> {
         self.entries.len()
     }
 
-    /// The number of the definition of this name.
+    /// The definition that was made first, if it has this name.
+    fn first_of(&self, name: &Name) -> Option<&T>
+        ensures within { IfSome result (λ def. 0 < length self.now) }
+        ensures number { IfSome result (λ def. number_named T.name name.now self.now ≡ Some 0) }
+        ensures named { IfSome result (λ def. Some def.now ≡ definition_named T.name name.now self.now) }
+    {
+        let def = self.get(0)?;
+        if is_same_name(name, def.name()) {
+            Some(def)
+        } else {
+            None
+        }
+    }
+
+    /// The number of the definition of this name. The first one is looked at before a name is hashed, which costs more.
     pub fn number(&self, name: &Name) -> Option<usize>
         ensures value { result ≡ number_named T.name name.now self.now }
         ensures within { IfSome result (λ n. n < length self.now) }
     {
-        self.entries.get_index_of(name.as_slice())
+        match self.first_of(name) {
+            Some(_) => Some(0),
+            None => self.entries.get_index_of(name.as_slice()),
+        }
     }
 
     /// The definition of this number.
@@ -76,7 +94,10 @@ impl<T: Named + Drop> Definitions<T> {
     pub fn named(&self, name: &Name) -> Option<&T>
         ensures { option_copied result ≡ definition_named T.name name.now self.now }
     {
-        self.entries.get(name.as_slice())
+        match self.first_of(name) {
+            Some(def) => Some(def),
+            None => self.entries.get(name.as_slice()),
+        }
     }
 
     /// Adds a definition of a new name, which takes the next number. An `Err` changes nothing.
