@@ -3,6 +3,7 @@
 ghost use Rattle.std.specs.Prelude.{◌≡◌, [], List, OnOk, ℕ};
 ghost use Rattle.salt_ast.specs.Prints.{Prints};
 ghost use Rattle.salt_ast.specs.Texts.{between_commas, preceded};
+ghost use Rattle.std.specs.Fmt.{decimal};
 
 use itoa::{Buffer, Integer};
 use salt_io::{IoFailed, Sink, WriteBuffer};
@@ -59,6 +60,17 @@ impl<K: Sink> Printer<'_, K> {
     {
         let mut buffer = Buffer::new();
         self.bytes(buffer.format(number).as_bytes());
+    }
+
+    /// Prints the decimal digits of a number from 0 on. A single digit, as most boots, sessions and counts have, is put as it is.
+    pub fn natural(&mut self, number: u64)
+        ensures { Prints K.held K.faults self.old self.new (decimal number) }
+    {
+        if number < 10 {
+            self.bytes(&[b'0' + number as u8]);
+        } else {
+            self.number(number);
+        }
     }
 
     /// Prints each item with these bytes before it.

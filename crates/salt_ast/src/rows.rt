@@ -13,9 +13,9 @@ impl<K: Sink> Printer<'_, K> {
     pub fn id(&mut self, id: Id)
         ensures { Prints K.held K.faults self.old self.new (id_text id) }
     {
-        self.number(id.boot);
+        self.natural(id.boot);
         self.bytes(b".");
-        self.number(id.seq);
+        self.natural(id.seq);
     }
 
     /// Prints the name of a BASE program, as `b1.2`.

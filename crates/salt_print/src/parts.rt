@@ -16,7 +16,7 @@ pub fn print_kind<K: Sink>(out: &mut Printer<'_, K>, kind: &UnitKind)
     match kind {
         UnitKind::Acid { session } => {
             out.bytes(b" began @");
-            out.number(*session);
+            out.natural(*session as u64);
         }
         UnitKind::Call {
             session,
@@ -81,7 +81,7 @@ pub fn print_answer<K: Sink>(out: &mut Printer<'_, K>, answer: &Answer)
     match answer {
         Answer::Count(count) => {
             out.bytes(b"count ");
-            out.number(*count);
+            out.natural(*count);
         }
         Answer::Rows(rows) => {
             out.bytes(b"rows");

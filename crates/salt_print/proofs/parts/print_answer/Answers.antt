@@ -2,7 +2,7 @@ use Rattle.salt_ast.proofs.Joins.{◌⨾◌}
 use Rattle.salt_print.proofs.parts.print_answer.Goals as goal
 
 pub returns-in-Count : goal.returns-in-Count
-returns-in-Count g c = rw c.in-Count.is (c.bytes.ensures ⨾ c.number.ensures)
+returns-in-Count g c = rw c.in-Count.is (c.bytes.ensures ⨾ c.natural.ensures)
 
 pub returns-in-Rows : goal.returns-in-Rows
 returns-in-Rows g c = rw (c.in-Rows.is, ← c.as_slice.ensures) (c.bytes-in-Rows.ensures ⨾ c.preceded.ensures)

@@ -2,4 +2,4 @@ use Rattle.salt_ast.proofs.Joins.{◌⨾◌}
 use Rattle.salt_ast.proofs.printer.Printer.id.Goals as goal
 
 pub returns : goal.returns
-returns g c = c.number.ensures ⨾ c.bytes.ensures ⨾ c.number-2.ensures
+returns g c = c.natural.ensures ⨾ c.bytes.ensures ⨾ c.natural-2.ensures
