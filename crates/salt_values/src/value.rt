@@ -99,6 +99,7 @@ impl Ord for Value {
 
     ghost matches_eq = { λ a b. refl };
 
+    #[inline(always)]
     fn cmp(&self, other: &Value) -> Ordering {
         match (self, other) {
             (Value::Int(a), Value::Int(b)) => a.cmp(b),
