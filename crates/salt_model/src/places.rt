@@ -52,7 +52,12 @@ impl Ord for Place {
     ghost matches_eq = { λ a b. refl };
 
     fn cmp(&self, other: &Place) -> Ordering {
-        self.table.cmp(&other.table).then(self.key.cmp(&other.key))
+        // keys are only compared within a table, which costs a search less than to compare both and choose
+        match self.table.cmp(&other.table) {
+            Ordering::Less => Ordering::Less,
+            Ordering::Equal => self.key.cmp(&other.key),
+            Ordering::Greater => Ordering::Greater,
+        }
     }
 }
 
