@@ -112,6 +112,10 @@ impl Disks for Recorder {
         self.disks.restart();
     }
 
+    fn is_told(&self) -> bool {
+        self.disks.is_told()
+    }
+
     fn can_stop(&self) -> bool {
         self.disks.can_stop()
     }

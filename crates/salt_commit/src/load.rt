@@ -42,7 +42,7 @@ fn put_row(alloc: Global, rows: &mut Tables, table: u16, row: Row) -> Result<Key
     Ok(behind)
 }
 
-/// A row that does not meet its table is none that was written: the disks have failed.
+/// A row that does not meet its table is none that was written: the disks have failed. Where disks tell their bytes there is none.
 fn judge<D: Disks>(
     alloc: Global,
     disks: &mut D,
@@ -56,6 +56,9 @@ fn judge<D: Disks>(
     ensures cause { HasCause (D.view disks.old) (D.view disks.new) (result_err result) }
     ensures answers { OnlyFails (result_err result) }
 {
+    if disks.is_told() {
+        return Ok(());
+    }
     if meets_table(alloc, schema, table, row)? {
         Ok(())
     } else {

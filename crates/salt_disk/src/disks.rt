@@ -90,6 +90,10 @@ pub trait Disks {
     fn restart(&mut self)
         ensures { IsRestarted (view self.old) (view self.new) };
 
+    /// Whether its bytes are told: what stands there is what was written.
+    fn is_told(&self) -> bool
+        ensures { result ≡ (view self.now).told };
+
     /// Whether a stop can be armed.
     fn can_stop(&self) -> bool
         ensures { result ≡ (view self.now).can_stop };

@@ -179,6 +179,10 @@ where
         }
     }
 
+    fn is_told(&self) -> bool {
+        false
+    }
+
     fn can_stop(&self) -> bool {
         false
     }
