@@ -23,6 +23,9 @@ asker_of w = record { unit = w.unit; base = w.base; family = w.family; asked = N
 abbrev pub askers : List Waiter → List Asker
 askers ws = map asker_of ws
 
+abbrev pub is_this : Id → Waiter → Bool
+is_this u w = is_same_id w.unit u
+
 abbrev pub is_another : Id → Waiter → Bool
 is_another u w = not (is_same_id w.unit u)
 

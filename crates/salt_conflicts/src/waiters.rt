@@ -1,11 +1,11 @@
 //! Units that wait.
 
-ghost use Rattle.salt_conflicts.specs.Waiters.{is_another, is_of_program};
+ghost use Rattle.salt_conflicts.specs.Waiters.{is_another, is_of_program, is_this};
 ghost use Rattle.std.specs.List.{filter, list_any};
 ghost use Rattle.std.specs.Prelude.{◌≡◌};
 
 use salt_model::{Family, Reach};
-use salt_values::Id;
+use salt_values::{Id, is_same_id};
 
 /// A waiting unit: its program, where it is a subtransaction, the family of its locks, and what the statement that it asks for
 /// would reach.
@@ -17,11 +17,20 @@ pub struct Waiter {
     pub reach: Option<Reach>,
 }
 
-/// The unit waits no more.
+/// Whether the unit is one of those that wait.
+fn is_waiting(waits: &[Waiter], unit: Id) -> bool
+    ensures { result ≡ list_any (is_this unit) waits.now }
+{
+    waits.iter().any(|waiter| is_same_id(waiter.unit, unit))
+}
+
+/// The unit waits no more. As a rule it does not wait, and then none is moved.
 pub fn leave(waits: &mut Vec<Waiter>, unit: Id)
     ensures { waits.new.items ≡ filter (is_another unit) waits.old.items }
 {
-    waits.retain(|waiter| waiter.unit != unit);
+    if is_waiting(waits.as_slice(), unit) {
+        waits.retain(|waiter| waiter.unit != unit);
+    }
 }
 
 fn is_of_program(waiter: &Waiter) -> bool
