@@ -1,4 +1,5 @@
 pub mod Clearing
+pub mod Counting
 pub mod Dropping
 pub mod Fits
 pub mod InTurn
@@ -11,4 +12,5 @@ pub mod Orders
 pub mod Parts
 pub mod Puts
 pub mod Runs
+pub mod SameSpot
 pub mod Spotting

@@ -1,5 +1,6 @@
 -- A lock that is just the one which is asked for is one that is held.
 use Rattle.law_states.specs.Members.{In}
+use Rattle.salt_locks.proofs.SameSpot.{low_is, value_is}
 use Rattle.salt_locks.proofs.Spotting.{owner-is}
 use Rattle.salt_locks.specs.Alike.{is_lock_of, is_same_family, is_same_mode, is_same_range}
 use Rattle.salt_locks.specs.Clear.{ends_no_later}
@@ -13,46 +14,10 @@ use Rattle.salt_model.specs.declared.locks.Mode.TheVariants.{Read, Write}
 use Rattle.salt_model.specs.declared.locks.Mode.{Mode}
 use Rattle.salt_model.specs.declared.locks.Reach.{Reach}
 use Rattle.salt_ranges.specs.declared.range.KeyRange.{KeyRange}
-use Rattle.salt_values.specs.Value.{is_value_at_most, value_cmp, value_total}
-use Rattle.salt_values.specs.declared.value.Value.TheVariants.{Int, Null, Text}
 use Rattle.salt_values.specs.declared.value.Value.{Value}
 use Rattle.std.proofs.Common.{ap, arith, inl, inr, refl, sym, ◌∙◌}
 use Rattle.std.proofs.lemmas.Bool.{and_parts, eqb-true}
-use Rattle.std.specs.FinMap.{int_cmp-IsAntisymmetric, nat_cmp-IsAntisymmetric, slice_cmp-IsAntisymmetric}
-use Rattle.std.specs.Ordering.{int_cmp, is_gt, ordering_reverse, ordering_then}
-use Rattle.std.specs.Prelude.{List, None, Option, Some, [], get_or, length, not, suc, true, zero, ℕ, ◌&&◌, ◌<◌, ◌==◌, ◌∷◌, ◌≡◌}
-use Rattle.std.specs.declared.cmp.Ordering.TheVariants.{Equal, Greater, Less}
-use Rattle.std.specs.declared.cmp.Ordering.{Ordering}
-
-then_first : (a b : Ordering) → ordering_then a b ≡ Equal → a ≡ Equal
-then_first Less b e = e
-then_first Equal b e = refl
-then_first Greater b e = e
-
-value_same : (v w : Value) → value_cmp v w ≡ Equal → v ≡ w
-value_same (Int x) (Int y) e = ap Value.Int (int_cmp-IsAntisymmetric x y (then_first (int_cmp x y) Equal e))
-value_same (Text s) (Text t) e = ap Value.Text (slice_cmp-IsAntisymmetric nat_cmp-IsAntisymmetric s t e)
-value_same Null Null e = refl
-value_same (Int x) (Text t) e = cc
-value_same (Int x) Null e = cc
-value_same (Text s) (Int y) e = cc
-value_same (Text s) Null e = cc
-value_same Null (Int y) e = cc
-value_same Null (Text t) e = cc
-
-neither_above : (r : Ordering) → not (is_gt r) ≡ true → not (is_gt (ordering_reverse r)) ≡ true → r ≡ Equal
-neither_above Less p q = cc
-neither_above Equal p q = refl
-neither_above Greater p q = cc
-
-value_is : (v w : Value) → is_value_at_most v w ≡ true → is_value_at_most w v ≡ true → v ≡ w
-value_is v w p q = value_same v w (neither_above (value_cmp v w) p (ap (λ r. not (is_gt r)) (sym (value_total.antisymm w v)) ∙ q))
-
-low_is : (a b : Option Value) → is_low_at_most a b ≡ true → is_low_at_most b a ≡ true → b ≡ a
-low_is None None p q = refl
-low_is None (Some b) p q = cc
-low_is (Some a) None p q = cc
-low_is (Some a) (Some b) p q = ap (λ (v : Value). Some v) (value_is b a q p)
+use Rattle.std.specs.Prelude.{List, None, Option, Some, [], get_or, length, suc, true, zero, ℕ, ◌&&◌, ◌<◌, ◌==◌, ◌∷◌, ◌≡◌}
 
 high_is : (a b : Option Value) → ends_no_later a b ≡ true → ends_no_later b a ≡ true → b ≡ a
 high_is None None p q = refl

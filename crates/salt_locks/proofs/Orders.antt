@@ -38,6 +38,14 @@ low_meets (Some a) None hi p q = cc
 low_meets (Some a) (Some b) None p q = refl
 low_meets (Some a) (Some b) (Some h) p q = value_chain a b h p q
 
+pub low_refl : (a : Option Value) → is_low_at_most a a ≡ true
+low_refl None = refl
+low_refl (Some v) = by (is_value_at_most v v) refl
+  where
+    by : (t : Bool) → is_value_at_most v v ≡ t → is_value_at_most v v ≡ true
+    by true e = e
+    by false e = value_other v v e
+
 low_other : (a b : Option Value) → is_low_at_most a b ≡ false → is_low_at_most b a ≡ true
 low_other None b h = cc
 low_other (Some a) None h = refl

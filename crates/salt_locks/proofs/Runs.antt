@@ -3,35 +3,27 @@ use Rattle.law_states.specs.KeptLocks.{is_owned_by, saline_of}
 use Rattle.law_states.specs.Members.{Ascends, In}
 use Rattle.law_story.proofs.Lists.{either}
 use Rattle.salt_locks.proofs.Clearing.{low_back}
-use Rattle.salt_locks.proofs.Near.{parted, up_to_below, up_to_low}
-use Rattle.salt_locks.proofs.Orders.{at_up_to, up_to_cases, value_other}
+use Rattle.salt_locks.proofs.Counting.{count-cons, count-le, count-some}
+use Rattle.salt_locks.proofs.Near.{below_closed, parted, up_to_below, up_to_low}
+use Rattle.salt_locks.proofs.Orders.{at_up_to, less_up_to, low_refl, up_to_cases}
+use Rattle.salt_locks.proofs.SameSpot.{is_spot, low_is, spot-is, spot-same}
 use Rattle.salt_locks.specs.Places.{AreInOrder, NoLater, is_low_at_most}
-use Rattle.salt_locks.specs.Spots.{AreAt, spot_of}
+use Rattle.salt_locks.specs.Spots.{AreAt, AreCounted, owned_at, spot_of}
 use Rattle.salt_locks.specs.Tables.{is_of_another, numbered, salted_lock}
 use Rattle.salt_locks.specs.declared.spots.Spot.{Spot}
 use Rattle.salt_model.specs.Words.{Every}
 use Rattle.salt_model.specs.declared.events.Owner.{Owner}
 use Rattle.salt_model.specs.declared.locks.Lock.{Lock}
-use Rattle.salt_values.specs.Value.{is_value_at_most}
 use Rattle.salt_values.specs.declared.id.Id.{Id}
-use Rattle.salt_values.specs.declared.value.Value.{Value}
 use Rattle.std.proofs.Common.{ap, arith, inl, inr, refl, subst, sym, ◌∙◌}
-use Rattle.std.proofs.lemmas.Bool.{both_ways, cases_order}
-use Rattle.std.proofs.lemmas.List.{get_or-map, get_or-set_other, get_or-set_same, get_or_default, length-map}
+use Rattle.std.proofs.lemmas.Bool.{and_from, and_parts, both_ways, cases_order}
+use Rattle.std.proofs.lemmas.List.{get_or_default}
 use Rattle.std.proofs.lemmas.List.Edits.{get_or-remove_above, get_or-remove_below, length-remove}
-use Rattle.std.proofs.lemmas.List.Sums.{prefix_len_passes, prefix_len_stops}
-use Rattle.std.specs.List.{filter, prefix_len, remove}
-use Rattle.std.specs.Prelude.{Bool, List, None, Option, Some, [], cond, false, get_or, length, map, nat_lt, not, set, suc, true, zero, ℕ, ◌&&◌, ◌+◌, ◌-◌, ◌<◌, ◌==◌, ◌||◌, ◌∷◌, ◌≡◌, ◌≤◌, ◌⊎◌}
+use Rattle.std.proofs.lemmas.List.Sums.{prefix_len-le-length, prefix_len_passes, prefix_len_stops, sum_by-set}
+use Rattle.std.specs.List.{count_by, filter, prefix_len, remove}
+use Rattle.std.specs.Prelude.{Bool, List, Option, [], cond, false, get_or, length, map, nat_lt, not, set, suc, true, zero, ℕ, ◌&&◌, ◌+◌, ◌-◌, ◌<◌, ◌==◌, ◌||◌, ◌∷◌, ◌≡◌, ◌≤◌, ◌⊎◌}
 
 -- WHERE A SPOT'S LOCKS STAND
-
-low_refl : (a : Option Value) → is_low_at_most a a ≡ true
-low_refl None = refl
-low_refl (Some v) = by (is_value_at_most v v) refl
-  where
-    by : (t : Bool) → is_value_at_most v v ≡ t → is_value_at_most v v ≡ true
-    by true e = e
-    by false e = value_other v v e
 
 -- no lock of the spot stands before a place, and none from one on
 abbrev pub NoneBefore : Spot → ℕ → List Lock → Type 0
@@ -124,6 +116,35 @@ none-own o ls none l i = by (is_owned_by o l) refl
 
 -- LOCKS THAT BECOME A PROGRAM'S
 
+not_below : (s : Spot) (ls : List Lock) (from k : ℕ) (d : Lock) → AreInOrder ls → from ≡ prefix_len (up_to_below s.table s.low) ls → from ≤ k → k < length ls →
+    up_to_below s.table s.low (get_or ls k d) ≡ false
+not_below s ls from k d o place h bound = stays (up_to_below s.table s.low (get_or ls k d)) refl
+  where
+    stays : (t : Bool) → up_to_below s.table s.low (get_or ls k d) ≡ t → t ≡ false
+    stays false e = refl
+    stays true e =
+        let p = up_to_below s.table s.low in
+        let n = prefix_len p ls in
+        absurd (both_ways (p (get_or ls n d)) (prefix_len_stops p ls d (omega (arith, h, place, bound))) (parted p (below_closed s.table s.low) ls o n k d (omega (arith, h, place)) bound e))
+
+-- from the one place to the other all are at the spot
+pub at_spot : (s : Spot) (ls : List Lock) (from to : ℕ) → AreInOrder ls → from ≡ prefix_len (up_to_below s.table s.low) ls → to ≡ prefix_len (up_to_low s.table s.low) ls →
+    (k : ℕ) (d : Lock) → from ≤ k → k < to → spot_of (get_or ls k d) ≡ s
+at_spot s ls from to o from_is to_is k d h g =
+    let p = up_to_low s.table s.low in
+    let end = prefix_len-le-length p ls in
+    by (get_or ls k d) (not_below s ls from k d o from_is h (omega (arith, end, g, to_is))) (prefix_len_passes p ls k d (omega (arith, g, to_is)))
+  where
+    by : (l : Lock) → up_to_below s.table s.low l ≡ false → up_to_low s.table s.low l ≡ true → spot_of l ≡ s
+    by l other here = either
+        (λ less. absurd (both_ways (up_to_below s.table s.low l) other (less_up_to s.table (λ lo. not (is_low_at_most s.low lo)) l less)))
+        (λ at. low (is_low_at_most s.low l.range.lo) refl at.0 at.1)
+        (up_to_cases s.table (λ lo. is_low_at_most lo s.low) l here)
+      where
+        low : (t : Bool) → is_low_at_most s.low l.range.lo ≡ t → l.table ≡ s.table → is_low_at_most l.range.lo s.low ≡ true → spot_of l ≡ s
+        low true e same back = λ i. record { table = same i; low = low_is s.low l.range.lo e back i }
+        low false e same back = absurd (both_ways (up_to_below s.table s.low l) other (at_up_to s.table (λ lo. not (is_low_at_most s.low lo)) l same (ap not e)))
+
 pub salted_spot : (u b : Id) (l : Lock) → spot_of (salted_lock u b l) ≡ spot_of l
 salted_spot u b l = by (is_owned_by (Owner.Unit u) l)
   where
@@ -150,61 +171,6 @@ map_set f [] k x y h is e = absurd (omega (arith, h))
 map_set f (z ∷ zs) zero x y h is e = ap (λ w. w ∷ map f zs) (e ∙ ap f is)
 map_set f (z ∷ zs) (suc k) x y h is e = ap (λ l. f z ∷ l) (map_set f zs k x y (omega (arith, h)) is e)
 
-in-set : {X : Type 0} (xs : List X) (k : ℕ) (y x : X) → In x (set xs k y) → In x xs ⊎ (x ≡ y)
-in-set [] k y x i = absurd i
-in-set (z ∷ zs) zero y x (inl e) = inr (sym e)
-in-set (z ∷ zs) zero y x (inr i) = inl (inr i)
-in-set (z ∷ zs) (suc k) y x (inl e) = inl (inl e)
-in-set (z ∷ zs) (suc k) y x (inr i) = either (λ j. inl (inr j)) (λ e. inr e) (in-set zs k y x i)
-
--- those of the unit that are left were there before
-pub still_own : (u b : Id) (old now : List Lock) (k : ℕ) (l y : Lock) → y ≡ salted_lock u b l → ((x : Lock) → In x now → is_owned_by (Owner.Unit u) x ≡ true → In x old) →
-    (x : Lock) → In x (set now k y) → is_owned_by (Owner.Unit u) x ≡ true → In x old
-still_own u b old now k l y is sub x i own = either
-    (λ j. sub x j own)
-    (λ e. absurd (both_ways (is_owned_by (Owner.Unit u) x) (ap (is_owned_by (Owner.Unit u)) (e ∙ is) ∙ salted_owner u b l) own))
-    (in-set now k y x i)
-
--- none of them stands between these places
-abbrev pub NoneOwn : Id → ℕ → ℕ → List Lock → Type 0
-NoneOwn u from to ls = (k : ℕ) (d : Lock) → from ≤ k → k < to → is_owned_by (Owner.Unit u) (get_or ls k d) ≡ false
-
-pub one_salted : (u b : Id) (now : List Lock) (from at : ℕ) (l y : Lock) → at < length now → y ≡ salted_lock u b l → NoneOwn u from at now → NoneOwn u from (at + 1) (set now at y)
-one_salted u b now from at l y h is none k d g f = either
-    (λ e. ap (is_owned_by (Owner.Unit u)) (ap (λ j. get_or (set now at y) j d) e ∙ (get_or-set_same now at y d h ∙ is)) ∙ salted_owner u b l)
-    (λ c. ap (is_owned_by (Owner.Unit u)) (get_or-set_other now at k y d (λ s. either (λ a. absurd (omega (arith, a, s))) (λ a. absurd (omega (arith, a, s))) c))
-    ∙ none k d g (either (λ a. a) (λ a. absurd (omega (arith, a, f))) c))
-    (cases_order k at)
-
-same_spot : (xs ys : List Lock) (k : ℕ) (d : Lock) → map spot_of xs ≡ map spot_of ys → k < length xs → (k < length ys) × (spot_of (get_or xs k d) ≡ spot_of (get_or ys k d))
-same_spot xs ys k d e h =
-    let m = length-map xs spot_of in
-    let n = length-map ys spot_of in
-    let s = ap length e in
-    let least : k < length ys = omega (arith, h, m, n, s) in (
-      least,
-      sym (get_or-map spot_of xs k d (spot_of d) h) ∙ (ap (λ (l : List Spot). get_or l k (spot_of d)) e ∙ get_or-map spot_of ys k d (spot_of d) least),
-    )
-
-pub spot_salted : (u : Id) (s : Spot) (old now : List Lock) (from to at : ℕ) → to ≤ at → map spot_of now ≡ map spot_of old → ((x : Lock) → In x now → is_owned_by (Owner.Unit u) x ≡ true → In x old) →
-    NoneOwn u from at now → NoneBefore s from old → NoneBehind s to old → (rest : List Spot) → AreAt (Owner.Unit u) (s ∷ rest) old → AreAt (Owner.Unit u) rest now
-spot_salted u s old now from to at end spots sub none before behind rest all x i own = later (all x (sub x i own) own)
-  where
-    later : In (spot_of x) (s ∷ rest) → In (spot_of x) rest
-    later (inl e) =
-        let p = in-at now x i in
-        let both = same_spot now old p.0 x spots p.1 in
-        let least = both.0 in
-        let here : spot_of (get_or old p.0 x) ≡ s = sym both.1 ∙ (ap spot_of p.2 ∙ sym e) in
-        absurd (either
-        (λ a. before p.0 x a here)
-        (λ a. either
-        (λ c. both_ways (is_owned_by (Owner.Unit u) x) (ap (is_owned_by (Owner.Unit u)) (sym p.2) ∙ none p.0 x a (omega (arith, c, end))) own)
-        (λ c. behind p.0 x c least here)
-        (under_or p.0 to))
-        (under_or p.0 from))
-    later (inr j) = j
-
 -- the order of locks is that of their spots
 abbrev Sooner : Spot → Spot → Type 0
 Sooner s t = (nat_lt s.table t.table || ((s.table == t.table) && is_low_at_most s.low t.low)) ≡ true
@@ -227,6 +193,66 @@ order_of_spots (x ∷ xs) o = (spots-every x xs o.0, order_of_spots xs o.1)
 
 pub order_stays : (xs ys : List Lock) → map spot_of ys ≡ map spot_of xs → AreInOrder xs → AreInOrder ys
 order_stays xs ys e o = order_of_spots ys (subst (Ascends Sooner) (sym e) (spots_of_order xs o))
+
+-- a lock that was the unit's at a spot is not any more
+pub one_counted : (u b : Id) (s : Spot) (rest : List Spot) (ls : List Lock) (k : ℕ) (l y : Lock) → k < length ls → l ≡ get_or ls k l → is_owned_by (Owner.Unit u) l ≡ true → spot_of l ≡ s →
+    y ≡ salted_lock u b l → AreCounted (Owner.Unit u) (s ∷ rest) ls → AreCounted (Owner.Unit u) rest (set ls k y)
+one_counted u b s rest ls k l y h is own at salted counted p =
+    let q = owned_at (Owner.Unit u) p in
+    let sums = sum_by-set (λ (x : Lock). cond (q x) 1 0) ls k y l h in
+    let was : ◌≡◌ {A = ℕ} (cond (q (get_or ls k l)) 1 0) (cond (p s) 1 0) = ap (λ x. cond (q x) 1 0) (sym is) ∙ (ap (λ t. cond (t && p (spot_of l)) 1 0) own ∙ ap (λ x. cond (p x) 1 0) at) in
+    let now : ◌≡◌ {A = ℕ} (cond (q y) 1 0) 0 = ap (λ t. cond (t && p (spot_of y)) 1 0) (ap (is_owned_by (Owner.Unit u)) salted ∙ salted_owner u b l) in
+    let all = counted p in
+    let more = count-cons p s rest in
+    omega (arith, sums, was, now, all, more)
+
+-- of those that pass the other spots
+abbrev besides : Spot → (Spot → Bool) → Spot → Bool
+besides s p t = p t && not (is_spot s t)
+
+and-false : (t : Bool) → (t && false) ≡ false
+and-false true = refl
+and-false false = refl
+
+-- where an owner has no lock at a spot, what is listed behind it is enough
+pub none_counted : (o : Owner) (s : Spot) (rest : List Spot) (ls : List Lock) (from to : ℕ) → NoneBefore s from ls → NoneBehind s to ls →
+    ((k : ℕ) (d : Lock) → from ≤ k → k < to → is_owned_by o (get_or ls k d) ≡ false) → AreCounted o (s ∷ rest) ls → AreCounted o rest ls
+none_counted o s rest ls from to before behind none counted p =
+    let a = count-le (owned_at o p) (owned_at o (besides s p)) ls apart in
+    let b = counted (besides s p) in
+    let c = count-cons (besides s p) s rest in
+    let d : ◌≡◌ {A = ℕ} (cond (besides s p s) 1 0) 0 = ap (λ t. cond t 1 0) (ap (λ t. p s && not t) (spot-same s) ∙ and-false (p s)) in
+    let e = count-le (besides s p) p rest (λ x i h. (and_parts (p x) (not (is_spot s x)) h).0) in
+    omega (arith, a, b, c, d, e)
+  where
+    absent : (x : Lock) → In x ls → is_owned_by o x ≡ true → spot_of x ≡ s → ⊥
+    absent x i own at =
+        let m = in-at ls x i in
+        let h = m.1 in
+        let here : spot_of (get_or ls m.0 x) ≡ s = ap spot_of m.2 ∙ at in
+        either
+        (λ a. before m.0 x a here)
+        (λ a. either
+        (λ c. both_ways (is_owned_by o x) (ap (is_owned_by o) (sym m.2) ∙ none m.0 x a c) own)
+        (λ c. behind m.0 x c h here)
+        (under_or m.0 to))
+        (under_or m.0 from)
+
+    apart : (x : Lock) → In x ls → owned_at o p x ≡ true → owned_at o (besides s p) x ≡ true
+    apart x i h =
+        let parts = and_parts (is_owned_by o x) (p (spot_of x)) h in
+        by (is_spot s (spot_of x)) refl parts.0 parts.1
+      where
+        by : (t : Bool) → is_spot s (spot_of x) ≡ t → is_owned_by o x ≡ true → p (spot_of x) ≡ true → owned_at o (besides s p) x ≡ true
+        by true e own pass = absurd (absent x i own (spot-is s (spot_of x) e))
+        by false e own pass = and_from (is_owned_by o x) (besides s p (spot_of x)) own (and_from (p (spot_of x)) (not (is_spot s (spot_of x))) pass (ap not e))
+
+-- none is left where nothing is listed
+pub none_left : (o : Owner) (ls : List Lock) → AreCounted o [] ls → AreAt o [] ls
+none_left o ls counted l i own =
+    let some = count-some (owned_at o (λ x. true)) ls l i (and_from (is_owned_by o l) true own refl) in
+    let none : count_by (owned_at o (λ x. true)) ls ≤ 0 = counted (λ x. true) in
+    absurd (omega (arith, some, none))
 
 -- where none is left of the unit
 pub none_salted : (u b : Id) (ls : List Lock) → AreAt (Owner.Unit u) [] ls → map (salted_lock u b) ls ≡ ls

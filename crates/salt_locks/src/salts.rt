@@ -1,12 +1,11 @@
 //! A unit's locks become saline ones of its program.
 
 ghost use Rattle.salt_locks.specs.Places.{AreInOrder};
-ghost use Rattle.salt_locks.specs.Spots.{AreAt, spot_of};
+ghost use Rattle.salt_locks.specs.Spots.{AreCounted, IsOwnBetween};
 ghost use Rattle.salt_locks.specs.Tables.{salted_lock};
 ghost use Rattle.salt_model.specs.declared.events.Owner.{Owner};
-ghost use Rattle.salt_model.specs.declared.locks.Lock.{Lock};
 ghost use Rattle.salt_locks.specs.declared.spots.Spot.{Spot};
-ghost use Rattle.std.specs.Prelude.{List, get_or, length, map, true, ℕ, ◌<◌, ◌∷◌, ◌≡◌, ◌≤◌};
+ghost use Rattle.std.specs.Prelude.{List, length, map, true, ◌∷◌, ◌≡◌, ◌≤◌};
 
 use crate::owners::is_same_owner;
 use crate::places::{count_below, count_no_later};
@@ -35,38 +34,40 @@ fn salt_all(unit: Id, base: Id, locks: &mut VecDeque<Lock>)
     }
 }
 
-/// Looks at the locks of one spot, which stand between these places.
-fn salt_between(unit: Id, base: Id, spot: &Spot, from: usize, to: usize, locks: &mut VecDeque<Lock>)
-    requires within { to ≤ length locks.old.items }
-    requires before { (k : ℕ) (d : Lock) → k < from → spot_of (get_or locks.old.items k d) ≡ spot.now → ⊥ }
-    requires behind { (k : ℕ) (d : Lock) → to ≤ k → k < length locks.old.items → spot_of (get_or locks.old.items k d) ≡ spot.now → ⊥ }
-    ensures spots { map spot_of locks.new.items ≡ map spot_of locks.old.items }
-    ensures salted { map (salted_lock unit base) locks.new.items ≡ map (salted_lock unit base) locks.old.items }
-    ensures gone { (rest : List Spot) → AreAt (Owner.Unit unit) (spot.now ∷ rest) locks.old.items → AreAt (Owner.Unit unit) rest locks.new.items }
+/// The place of one of an owner's locks between these places, the last of them.
+fn last_own(owner: Owner, from: usize, to: usize, locks: &VecDeque<Lock>) -> Option<usize>
+    requires { to ≤ length locks.now.items }
+    ensures { IsOwnBetween owner from to locks.now.items result }
 {
-    let mut at = from;
-    while at < to {
-        salt_lock(unit, base, &mut locks[at]);
-        at += 1;
+    let mut left = to;
+    while left > from {
+        left -= 1;
+        if is_same_owner(owner, locks[left].owner) {
+            return Some(left);
+        }
     }
+    None
 }
 
-/// Looks at the locks of one spot.
+/// Looks for one lock at a spot. The newest stands last, and is the unit's as a rule.
 fn salt_spot(unit: Id, base: Id, spot: &Spot, locks: &mut VecDeque<Lock>)
     requires { AreInOrder locks.old.items }
     ensures order { AreInOrder locks.new.items }
     ensures salted { map (salted_lock unit base) locks.new.items ≡ map (salted_lock unit base) locks.old.items }
-    ensures gone { (rest : List Spot) → AreAt (Owner.Unit unit) (spot.now ∷ rest) locks.old.items → AreAt (Owner.Unit unit) rest locks.new.items }
+    ensures gone { (rest : List Spot) → AreCounted (Owner.Unit unit) (spot.now ∷ rest) locks.old.items → AreCounted (Owner.Unit unit) rest locks.new.items }
 {
     let from = count_below(locks, spot.table, &spot.low);
     let to = count_no_later(locks, spot.table, &spot.low);
-    salt_between(unit, base, spot, from, to, locks);
+    match last_own(Owner::Unit(unit), from, to, locks) {
+        Some(at) => salt_lock(unit, base, &mut locks[at]),
+        None => {}
+    }
 }
 
-/// Looks at the locks of these spots, at which all of the unit's begin.
+/// Looks for as many locks as there are entries: the unit has no more at any of these spots, and none at others.
 fn salt_at(unit: Id, base: Id, spots: &[Spot], locks: &mut VecDeque<Lock>)
     requires order { AreInOrder locks.old.items }
-    requires all { AreAt (Owner.Unit unit) spots.now locks.old.items }
+    requires all { AreCounted (Owner.Unit unit) spots.now locks.old.items }
     ensures { locks.new.items ≡ map (salted_lock unit base) locks.old.items }
 {
     for spot in spots {
@@ -74,10 +75,10 @@ fn salt_at(unit: Id, base: Id, spots: &[Spot], locks: &mut VecDeque<Lock>)
     }
 }
 
-/// A unit's locks become saline ones of its program. Where all of them are listed, only the locks of their spots are looked at.
+/// A unit's locks become saline ones of its program. Where all of them are listed, one is looked for at each entry's spot.
 pub fn salt(unit: Id, base: Id, listed: bool, spots: &[Spot], locks: &mut VecDeque<Lock>)
     requires order { AreInOrder locks.old.items }
-    requires all { listed ≡ true → AreAt (Owner.Unit unit) spots.now locks.old.items }
+    requires all { listed ≡ true → AreCounted (Owner.Unit unit) spots.now locks.old.items }
     ensures { locks.new.items ≡ map (salted_lock unit base) locks.old.items }
 {
     if listed {

@@ -1,14 +1,13 @@
-use Rattle.law_states.specs.Members.{In}
 use Rattle.salt_locks.proofs.Clearing.{put_marked}
 use Rattle.salt_locks.proofs.Puts.{put_invariant, put_view}
-use Rattle.salt_locks.proofs.Spotting.{in-put, spotted-part}
+use Rattle.salt_locks.proofs.Spotting.{count-put, spotted-part}
 use Rattle.salt_locks.proofs.table.LockTable.put.Goals as goal
 use Rattle.salt_locks.specs.Clear.{IsMarked}
 use Rattle.salt_locks.specs.Tables.{put}
 use Rattle.salt_model.specs.declared.locks.Lock.{Lock}
-use Rattle.std.proofs.Common.{ap, subst, sym, ◌∷◌, ◌∙◌}
+use Rattle.std.proofs.Common.{ap, subst, sym, ◌∷◌, ◌∙◌, ◌≤◌}
 use Rattle.std.proofs.lemmas.List.Edits.{get_or-insert_at}
-use Rattle.std.specs.List.{insert}
+use Rattle.std.specs.List.{count_by, insert}
 use Rattle.std.specs.Prelude.{List, get_or}
 
 pub invariant_of-self-2 : goal.invariant_of-self-2
@@ -31,8 +30,8 @@ invariant_of-self-2 c =
       subst (IsMarked c.insert-2.new.self.items) (sym c.in_ok-insert.ensures.items)
           (subst (λ xs. IsMarked xs (insert ls place l)) (sym (c.in_ok-insert-2.ensures.items ∙ ap (λ xs. insert xs place flag) c.reserve-2.ensures.items)) marked),
       spotted-part c.list.new.self (c.index.result.now ∷ ls) c.insert.new.self.items
-          (λ x i. subst (λ (y : Lock). In x (y ∷ ls)) (sym (c.index.ensures ∙ (ap (λ (xs : List Lock). get_or xs place c.index.result.now) c.in_ok-insert.ensures.items ∙ get_or-insert_at ls place l c.index.result.now bound)))
-          (in-put ls place l x (subst (In x) c.in_ok-insert.ensures.items i)))
+          (λ q. subst (λ (y : Lock). count_by q c.insert.new.self.items ≤ count_by q (y ∷ ls)) (sym (c.index.ensures ∙ (ap (λ (xs : List Lock). get_or xs place c.index.result.now) c.in_ok-insert.ensures.items ∙ get_or-insert_at ls place l c.index.result.now bound)))
+          (subst (λ (xs : List Lock). count_by q xs ≤ count_by q (l ∷ ls)) (sym c.in_ok-insert.ensures.items) (count-put q ls place l)))
           (c.list.ensures ls inv.3),
     )
 

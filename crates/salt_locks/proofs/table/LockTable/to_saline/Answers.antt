@@ -1,8 +1,7 @@
 use Rattle.salt_locks.proofs.Clearing.{salted_marked}
 use Rattle.salt_locks.proofs.Puts.{salted_beside, salted_invariant}
-use Rattle.salt_locks.proofs.Spotting.{at-spots}
 use Rattle.salt_locks.proofs.table.LockTable.to_saline.Goals as goal
-use Rattle.salt_locks.specs.Spots.{AreAt, AreSpotted}
+use Rattle.salt_locks.specs.Spots.{AreCounted, AreSpotted}
 use Rattle.salt_locks.specs.Tables.{numbered, salted}
 use Rattle.salt_model.specs.declared.events.Owner.TheVariants.{Unit}
 use Rattle.std.proofs.Common.{ap, map, subst, sym, ◌∙◌}
@@ -24,5 +23,4 @@ returns c =
 
 pub salt-requires-clause-all : goal.salt-requires-clause-all
 salt-requires-clause-all c listed =
-    subst (λ ss. AreAt (Unit c.args.unit) ss c.self.inside.locks.items) (sym c.of_owner.ensures)
-    (at-spots c.self.inside.spots (Unit c.args.unit) c.self.inside.locks.items (c.are_few-few.ensures listed) c.self.invariant.3)
+    subst (λ ss. AreCounted (Unit c.args.unit) ss c.self.inside.locks.items) (sym c.of_owner.ensures) (c.self.invariant.3 (c.are_few-few.ensures listed) (Unit c.args.unit))
