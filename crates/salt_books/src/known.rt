@@ -19,7 +19,7 @@ use crate::bindings::{vars_at_call, vars_at_cont};
 use crate::blocks::{block_of_call, block_of_part, is_base_program};
 use crate::conts::{cont_among, make_move};
 use crate::going::Going;
-use crate::ids::bases_in_order;
+use crate::ids::bases_among;
 use crate::moves::{move_of_branch, move_of_commit};
 use crate::tables::base_tables;
 use crate::texts::{program_text, table_text};
@@ -170,7 +170,7 @@ impl Known {
     pub fn bases(&self) -> Result<Vec<Id>, AllocError>
         ensures { IfOk result (λ ids. (k : Kept) → IsKnown self.now k → ids.items ≡ in_order (map (λ (c : Cont). c.base) k.conts)) }
     {
-        bases_in_order(self.alloc, self.conts.as_slice())
+        bases_among(self.alloc, self.conts.as_slice(), self.rising)
     }
 
     /// The numbers of the base tables, rising.
