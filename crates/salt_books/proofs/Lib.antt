@@ -1,4 +1,5 @@
 pub mod AtParts
+pub mod ByName
 pub mod Calls
 pub mod CanMoves
 pub mod Cuts

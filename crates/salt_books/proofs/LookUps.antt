@@ -1,17 +1,18 @@
 -- Units that are looked up among those that are held.
 use Rattle.salt_books.specs.Books.{seen}
+use Rattle.salt_books.specs.Names.{has_name}
 use Rattle.salt_books.specs.declared.held.Held.{Held}
 use Rattle.law_states.specs.OpenUnits.{OpenUnit, names_in, unit_named}
 use Rattle.law_states.specs.Readings.{first_parts}
 use Rattle.law_story.proofs.Ids.{is_same_id-true}
+use Rattle.law_story.proofs.NextFits.{find-in}
 use Rattle.salt_model.specs.Units.{program_begun}
 use Rattle.salt_values.specs.Id.{is_same_id}
 use Rattle.salt_values.specs.declared.id.Id.{Id}
 use Rattle.std.proofs.Common.{ap, arith, subst, sym, ◌∙◌}
 use Rattle.std.proofs.lemmas.Bool.Decides.{nat_tests}
-use Rattle.std.proofs.lemmas.List.Quantifiers.{position-Some}
 use Rattle.std.specs.List.{cons_option, filter_map, find, position, position_or_len}
-use Rattle.std.specs.Prelude.{Bool, IsSome, List, None, Some, [], cond, get_or, length, map, nat_lt, not, option_map, refl, suc, true, false, ℕ, ◌+◌, ◌<◌, ◌∷◌, ◌≡◌}
+use Rattle.std.specs.Prelude.{Bool, IsSome, List, None, Some, [], cond, get_or, length, map, nat_lt, not, option_map, refl, suc, true, false, ℕ, ◌+◌, ◌∷◌, ◌≡◌}
 
 pub find-seen : (p : OpenUnit → Bool) (hs : List Held) → option_map seen (find (λ (h : Held). p (seen h)) hs) ≡ find p (map seen hs)
 find-seen p [] = refl
@@ -32,36 +33,22 @@ absent {A = A} p (x ∷ xs) h = by (p x) (absent p xs) h
     by false more h = more (grind (arith, nat_tests))
 
 -- what has no place is not there
-none-found : {A : Type 0} (p : A → Bool) (xs : List A) → position p xs ≡ None → find p xs ≡ None
+pub none-found : {A : Type 0} (p : A → Bool) (xs : List A) → position p xs ≡ None → find p xs ≡ None
 none-found p xs h = absent p xs (by (nat_lt (position_or_len p xs) (length xs)) h)
   where
     by : (t : Bool) → cond t (Some (position_or_len p xs)) None ≡ None → t ≡ false
     by false e = refl
     by true e = absurd (cc)
 
--- where a search has come to
-pub found-within : {A : Type 0} (p : A → Bool) (xs : List A) (at : ℕ) → position p xs ≡ Some at → at < length xs
-found-within p xs at h = by (nat_lt (position_or_len p xs) (length xs)) refl h
-  where
-    by : (t : Bool) → nat_lt (position_or_len p xs) (length xs) ≡ t → cond t (Some (position_or_len p xs)) None ≡ Some at → at < length xs
-    by true e g = let same : position_or_len p xs ≡ at = cc in grind (arith, nat_tests)
-    by false e g = absurd cc
-
 -- a search by name
 module _ (u : Id) (hs : List Held) where
-  abbrev is_it : Held → Bool
-  is_it h = is_same_id (seen h).unit u
+  pub named : (at : ℕ) (d : Held) → find (has_name u) hs ≡ Some (get_or hs at d) → (get_or hs at d).open.unit ≡ u
+  named at d e = is_same_id-true (get_or hs at d).open.unit u (find-in (has_name u) (get_or hs at d) hs e).1
 
-  pub within : (at : ℕ) → position (λ (h : Held). is_same_id (seen h).unit u) hs ≡ Some at → at < length hs
-  within at e = found-within is_it hs at e
-
-  pub named : (at : ℕ) (d : Held) → position (λ (h : Held). is_same_id (seen h).unit u) hs ≡ Some at → (get_or hs at d).open.unit ≡ u
-  named at d e = is_same_id-true (get_or hs at d).open.unit u (position-Some is_it hs at d e).1
-
-  pub not-there : (os : List OpenUnit) → map seen hs ≡ os → IsSome (unit_named u os) → position (λ (h : Held). is_same_id (seen h).unit u) hs ≡ None → ⊥
+  pub not-there : (os : List OpenUnit) → map seen hs ≡ os → IsSome (unit_named u os) → find (has_name u) hs ≡ None → ⊥
   not-there os same there e =
       let none : unit_named u os ≡ None =
-      sym (ap (unit_named u) same) ∙ sym (find-seen (λ (o : OpenUnit). is_same_id o.unit u) hs) ∙ ap (option_map seen) (none-found is_it hs e) in
+      sym (ap (unit_named u) same) ∙ sym (find-seen (λ (o : OpenUnit). is_same_id o.unit u) hs) ∙ ap (option_map seen) e in
       let none_is = subst IsSome none there in cc
 
 pub names-seen : (hs : List Held) → map (λ (h : Held). (seen h).unit) hs ≡ names_in (map seen hs)

@@ -6,4 +6,5 @@ pub mod Coming
 pub mod Ends
 pub mod Known
 pub mod Moves
+pub mod Names
 pub mod Sound

@@ -1,6 +1,5 @@
 //! The books, and how units begin and wait.
 
-ghost use Rattle.salt_books.specs.Books.{AreBooks, HaveUnit, begun_in, known_in, seen};
 ghost use Rattle.law_states.specs.OpenUnits.{UnitState, names_in};
 ghost use Rattle.law_states.specs.Rising.{Rising};
 ghost use Rattle.law_states.specs.Steps.{units_after};
@@ -13,14 +12,15 @@ ghost use Rattle.salt_model.specs.declared.events.Event.{Event};
 ghost use Rattle.salt_model.specs.declared.events.Owner.{Owner};
 ghost use Rattle.salt_ast.specs.declared.lines.Line.{Line};
 ghost use Rattle.salt_books.specs.declared.held.Held.{Held};
+ghost use Rattle.salt_books.specs.Bases.{AreInOrder};
 ghost use Rattle.salt_books.specs.Known.{IsKnown};
-ghost use Rattle.salt_values.specs.Id.{is_same_id};
-ghost use Rattle.std.specs.List.{position};
+ghost use Rattle.salt_books.specs.Names.{names_held};
 ghost use Rattle.salt_values.specs.declared.id.Id.{Id};
-ghost use Rattle.std.specs.Prelude.{IfOk, List, OnOk, [], false, get_or, length, ◌<◌, ◌≡◌};
+ghost use Rattle.std.specs.Prelude.{IfOk, IsTrue, List, OnOk, [], false, get_or, length, ◌<◌, ◌≡◌};
 
 use crate::held::{Held, count_bases};
 use crate::known::Known;
+use crate::places::{place_among, stays_in_order};
 use salt_ast::Statement;
 use salt_model::UnitKind;
 use salt_queue::Queue;
@@ -28,19 +28,22 @@ use salt_units::OpenUnit;
 use salt_values::{Id, Ids, next_number};
 use std::alloc::{AllocError, Global};
 
-/// The open units in order of their names, how many units and programs have begun in this boot, the programs to which `go all`
-/// has still to turn, whether openings may be early, the programs that the last early one names, whether one of these is to have
-/// a turn behind the line, and what is known of the database. An `AllocError` leaves them in no state that is told.
+/// The open units in order of their names and whether it is known that these rise, how many units and programs have begun in this
+/// boot, the programs to which `go all` has still to turn, whether openings may be early, the programs that the last early one
+/// names, whether one of these is to have a turn behind the line, and what is known of the database. An `AllocError` leaves them in
+/// no state that is told.
 pub struct Books {
     pub(crate) alloc: Global,
     pub(crate) known: Known,
     pub(crate) units: Vec<Held>,
+    pub(crate) rising: bool,
     pub(crate) unit_count: u64,
     pub(crate) base_count: u64,
     pub(crate) to_go: Queue<Id>,
     pub(crate) early: bool,
     pub(crate) named: Ids,
     pub(crate) owes: bool,
+    ghost ordered: { IsTrue rising → AreInOrder (names_held units.items) },
 }
 
 impl Drop for Books {
@@ -49,6 +52,7 @@ impl Drop for Books {
             alloc: _alloc,
             known: _known,
             units: _units,
+            rising: _rising,
             unit_count: _unit_count,
             base_count: _base_count,
             to_go: _to_go,
@@ -59,13 +63,9 @@ impl Drop for Books {
     }
 }
 
-fn place_in(units: &[Held], unit: Id) -> Option<usize>
-    ensures { result ≡ position (λ (h : Held). is_same_id (seen h).unit unit) units.now }
-{
-    units.iter().position(|held| held.is_named(unit))
-}
-
 impl Books {
+    ghost use Rattle.salt_books.specs.Books.{AreBooks, HaveUnit, begun_in, known_in};
+
     /// No units, and what is known of a database; so many units have begun in this boot, and no program. Whether openings may be
     /// early is told; none has been.
     pub fn new(alloc: Global, known: Known, begun: u64, early: bool) -> Books
@@ -86,6 +86,7 @@ impl Books {
             alloc,
             known,
             units: Vec::new(alloc),
+            rising: true,
             unit_count: begun,
             base_count: 0,
             to_go: Queue::new(alloc),
@@ -104,6 +105,7 @@ impl Books {
             alloc: _alloc,
             known,
             units: _units,
+            rising: _rising,
             unit_count,
             base_count: _base_count,
             to_go: _to_go,
@@ -120,7 +122,7 @@ impl Books {
         ensures within { result < length self.now.units.items }
         ensures named { (d : Held) → (get_or self.now.units.items result d).open.unit ≡ unit }
     {
-        match place_in(self.units.as_slice(), unit) {
+        match place_among(self.units.as_slice(), self.rising, unit) {
             Some(at) => at,
             None => unreachable!(),
         }
@@ -137,6 +139,8 @@ impl Books {
         let base_count = count_bases(&kind, self.base_count)?;
         let boot = self.known.boot();
         let unit = Id { boot, seq };
+        let rising = stays_in_order(self.units.as_slice(), self.rising, unit);
+        self.rising = false;
         self.units.push(Held {
             open: OpenUnit::new(self.alloc, unit, vars),
             kind,
@@ -145,6 +149,7 @@ impl Books {
             asks: None,
             done: 0,
         })?;
+        self.rising = rising;
         self.unit_count = seq;
         self.base_count = base_count;
         Ok(unit)

@@ -90,6 +90,7 @@ impl Held {
         ensures done { IfOk result (λ answer. (k : Kept) → schema.now ≡ schema_of k
             → AreLoaded (reach (schema_of k) self.old.open.vars statement.now) (tables_of rows.now.entries) k.tables
             → HasActed k statement.now (seen self.old) answer (seen self.new)) }
+        ensures unit { self.new.open.unit ≡ self.old.open.unit }
     {
         statements_are_done_under_edits();
         let mut view = MapView::new(alloc, rows);

@@ -19,6 +19,7 @@ mod laws;
 mod looks;
 mod moves;
 mod openings;
+mod places;
 mod tables;
 mod texts;
 mod turns;

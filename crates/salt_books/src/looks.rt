@@ -10,7 +10,6 @@ ghost use Rattle.law_states.specs.UnitFacts.{reach_under};
 ghost use Rattle.salt_model.specs.Kept.{block_of_kind};
 ghost use Rattle.salt_model.specs.Units.{program_begun};
 ghost use Rattle.salt_model.specs.Waiting.{statement_of_line};
-ghost use Rattle.salt_values.specs.Id.{is_same_id};
 ghost use Rattle.std.specs.List.{filter_map, find};
 ghost use Rattle.std.specs.Option.{option_copied};
 ghost use Rattle.std.specs.Prelude.{IfOk, None, length, map, option_map, ◌≡◌};
@@ -19,6 +18,7 @@ use crate::books::Books;
 use crate::held::Held;
 use crate::kinds::program_begun;
 use crate::known::Known;
+use crate::places::named_among;
 use salt_ast::{Act, Line, Statement};
 use salt_model::Reach;
 use salt_values::{Id, next_number};
@@ -71,12 +71,6 @@ fn ends_block(held: &Held, block: Option<&[Statement]>) -> bool
     }
 }
 
-fn named_in(units: &[Held], unit: Id) -> Option<&Held>
-    ensures { option_copied result ≡ find (λ (h : Held). is_same_id (seen h).unit unit) units.now }
-{
-    units.iter().find(|held| held.is_named(unit))
-}
-
 fn session_in(units: &[Held], session: u8) -> Option<&Held>
     ensures { option_copied result ≡ find (is_of_session session) units.now }
 {
@@ -119,11 +113,11 @@ impl Books {
         &self.known
     }
 
-    /// The open unit of a name. It looks through the units.
+    /// The open unit of a name. It is looked for by halves where names are known to rise.
     pub fn unit_named(&self, unit: Id) -> Option<&Held>
         ensures { (s : UnitState) → AreBooks self.now s → option_map seen (option_copied result) ≡ unit_named unit s.units }
     {
-        named_in(self.units.as_slice(), unit)
+        named_among(self.units.as_slice(), self.rising, unit)
     }
 
     /// The open unit of a session. It looks through the units.

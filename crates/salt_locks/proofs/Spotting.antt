@@ -205,7 +205,7 @@ handed x y unit base ls same units bases h whole = at
         let a = was (Base b) p in
         let c = was (Unit unit) p in
         let sum : count_by p (spots_at x (Base b) ++ spots_at x (Unit unit)) ≡ count_by p (spots_at x (Base b)) + count_by p (spots_at x (Unit unit)) =
-            sum_by-append (λ (s : Spot). cond (p s) 1 0) (spots_at x (Base b)) (spots_at x (Unit unit)) in
+        sum_by-append (λ (s : Spot). cond (p s) 1 0) (spots_at x (Base b)) (spots_at x (Unit unit)) in
         omega (arith, n, a, c, sum)
     joined b p false k =
         let z = count-none (λ (l : Lock). false && owned_at (Unit unit) p l) ls (λ l i. refl) in

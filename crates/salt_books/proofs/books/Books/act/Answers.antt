@@ -1,5 +1,7 @@
+use Rattle.salt_books.proofs.ByName.{names-set}
 use Rattle.salt_books.proofs.OneHeld.{changed, held-named}
 use Rattle.salt_books.proofs.books.Books.act.Goals as goal
+use Rattle.salt_books.specs.Bases.{AreInOrder}
 use Rattle.salt_books.specs.Books.{AreLoaded, seen}
 use Rattle.salt_eval.specs.Views.{tables_of}
 use Rattle.law_states.specs.OpenUnits.{OpenUnit}
@@ -42,4 +44,13 @@ returns-clause-state c = λ s o answer h rises named loaded.
       early = h.early;
       named = h.named;
       owes = h.owes;
+    }
+
+pub invariant_of-self : goal.invariant_of-self
+invariant_of-self c =
+    let held = c.index_mut.result.now in
+    record {
+      ordered = λ is. subst AreInOrder
+          (sym (names-set c.args.self.now.units.items c.place-at.result held c.act.new.self c.place-at.ensures.within c.index_mut.ensures.value c.act.ensures.unit))
+          (c.args.self.now.ordered is);
     }

@@ -1,10 +1,14 @@
+use Rattle.salt_books.proofs.ByName.{order-begun}
 use Rattle.salt_books.proofs.books.Books.begin.Goals as goal
+use Rattle.salt_books.specs.Bases.{AreInOrder}
 use Rattle.salt_books.specs.Books.{seen}
+use Rattle.salt_books.specs.Names.{names_held}
+use Rattle.salt_books.specs.declared.held.Held.{Held}
 use Rattle.law_states.specs.Overlays.{edits_of}
 use Rattle.law_states.specs.Told.{next_unit}
 use Rattle.salt_model.specs.Units.{program_begun}
 use Rattle.salt_values.specs.declared.id.Id.{Id}
-use Rattle.std.proofs.Common.{None, [], ap, false, ◌+◌, ◌++◌, ◌∙◌, ◌∷◌, ◌≡◌}
+use Rattle.std.proofs.Common.{List, None, [], ap, false, subst, sym, true, ◌+◌, ◌++◌, ◌∙◌, ◌∷◌, ◌≡◌}
 use Rattle.std.proofs.lemmas.List.{map-append}
 use Rattle.std.specs.Prelude.{if◌then◌else◌, is_some, map}
 
@@ -39,4 +43,21 @@ returns-clause-state c = λ s h single.
       early = h.early;
       named = h.named;
       owes = h.owes;
+    }
+
+pub stays_in_order-rising-requires : goal.stays_in_order-rising-requires
+stays_in_order-rising-requires c = λ is. subst (λ (hs : List Held). AreInOrder (names_held hs)) (sym c.as_slice.ensures.value) (c.args.self.now.ordered is)
+
+never : false ≡ true → ⊥
+never h = cc
+
+pub invariant_of-self : goal.invariant_of-self
+invariant_of-self c = record { ordered = λ is. absurd (never is) }
+
+pub invariant_of-self-2 : goal.invariant_of-self-2
+invariant_of-self-2 c =
+    let name : Id = record { boot = c.boot-boot.result; seq = c.in_ok-seq.seq } in
+    record {
+      ordered = λ is. order-begun c.args.self.now.units.items c.push.new.self.items _ name c.in_ok-push.ensures.items c.new.ensures.unit
+          (subst (λ (hs : List Held). AreInOrder (names_held hs ++ name ∷ [])) c.as_slice.ensures.value (c.stays_in_order-rising.ensures is));
     }

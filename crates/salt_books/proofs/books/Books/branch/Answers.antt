@@ -1,12 +1,16 @@
+use Rattle.salt_books.proofs.ByName.{order-left}
 use Rattle.salt_books.proofs.OneHeld.{left}
 use Rattle.salt_books.proofs.books.Books.branch.Goals as goal
+use Rattle.salt_books.specs.Bases.{AreInOrder}
 use Rattle.salt_books.specs.Books.{seen}
+use Rattle.salt_books.specs.Names.{names_held}
+use Rattle.salt_books.specs.declared.held.Held.{Held}
 use Rattle.law_states.specs.Steps.{kept_ended}
 use Rattle.law_states.specs.Told.{next_decision}
 use Rattle.salt_books.specs.Known.{IsKnown}
 use Rattle.salt_model.specs.Kept.{Kept}
 use Rattle.salt_model.specs.declared.events.End.TheVariants.{Branched}
-use Rattle.std.proofs.Common.{ap, subst, sym, ◌+◌, ◌∙◌}
+use Rattle.std.proofs.Common.{List, ap, subst, sym, ◌+◌, ◌∙◌}
 use Rattle.std.specs.Prelude.{map}
 
 pub returns-clause-number : goal.returns-clause-number
@@ -30,3 +34,8 @@ returns-clause-state c = λ s o conts cause h rises named moves are.
       named = h.named;
       owes = h.owes;
     }
+
+pub invariant_of-self : goal.invariant_of-self
+invariant_of-self c = record {
+  ordered = λ is. subst (λ (hs : List Held). AreInOrder (names_held hs)) (sym c.remove-held.ensures.items) (order-left c.args.self.now.units.items c.place-at.result (c.args.self.now.ordered is));
+}

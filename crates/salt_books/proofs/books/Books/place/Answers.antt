@@ -1,19 +1,25 @@
 use Rattle.salt_books.proofs.LookUps.{named, not-there}
 use Rattle.salt_books.proofs.books.Books.place.Goals as goal
-use Rattle.salt_books.specs.Books.{seen}
+use Rattle.salt_books.specs.Bases.{AreInOrder}
+use Rattle.salt_books.specs.Names.{has_name, names_held}
 use Rattle.salt_books.specs.declared.held.Held.{Held}
-use Rattle.salt_values.specs.Id.{is_same_id}
-use Rattle.std.proofs.Common.{List, None, ap, sym, ◌∙◌, ◌≡◌}
-use Rattle.std.specs.List.{position}
+use Rattle.std.proofs.Common.{List, Some, ap, length, subst, sym, ◌<◌, ◌∙◌, ◌≡◌}
+use Rattle.std.specs.List.{find}
+use Rattle.std.specs.Prelude.{get_or}
+
+pub place_among-requires : goal.place_among-requires
+place_among-requires c = λ is. subst (λ (hs : List Held). AreInOrder (names_held hs)) (sym c.as_slice.ensures.value) (c.args.self.now.ordered is)
 
 pub unreachable-requires : goal.unreachable-requires
 unreachable-requires c =
     let known = c.requires in
-    let none : position (λ (h : Held). is_same_id (seen h).unit c.args.unit) c.args.self.now.units.items ≡ None =
-    ap (λ (hs : List Held). position (λ (h : Held). is_same_id (seen h).unit c.args.unit) hs) (sym c.as_slice.ensures.value) ∙ sym c.place_in.ensures ∙ c.in-None.is in
-    not-there c.args.unit c.args.self.now.units.items known.state.units known.books.units known.named none
+    not-there c.args.unit c.args.self.now.units.items known.state.units known.books.units known.named
+    (ap (λ (hs : List Held). find (has_name c.args.unit) hs) (sym c.as_slice.ensures.value) ∙ c.in-None.ensures)
+
+pub returns-clause-within : goal.returns-clause-within
+returns-clause-within c = subst (λ (hs : List Held). c.in-Some.at < length hs) c.as_slice.ensures.value c.in-Some.ensures.0
 
 pub returns-clause-named : goal.returns-clause-named
 returns-clause-named c = λ d.
     named c.args.unit c.args.self.now.units.items c.in-Some.at d
-    (ap (λ (hs : List Held). position (λ (h : Held). is_same_id (seen h).unit c.args.unit) hs) (sym c.as_slice.ensures.value) ∙ sym c.place_in.ensures ∙ c.in-Some.is)
+    (subst (λ (hs : List Held). find (has_name c.args.unit) hs ≡ Some (get_or hs c.in-Some.at d)) c.as_slice.ensures.value (c.in-Some.ensures.1 d))

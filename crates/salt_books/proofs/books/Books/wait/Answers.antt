@@ -1,8 +1,11 @@
+use Rattle.salt_books.proofs.ByName.{names-set}
 use Rattle.salt_books.proofs.OneHeld.{changed}
 use Rattle.salt_books.proofs.books.Books.wait.Goals as goal
+use Rattle.salt_books.specs.Bases.{AreInOrder}
 use Rattle.salt_books.specs.Books.{seen}
 use Rattle.law_states.specs.OpenUnits.{OpenUnit}
 use Rattle.law_states.specs.Steps.{waiting_by}
+use Rattle.std.proofs.Common.{refl, subst, sym}
 use Rattle.std.specs.Prelude.{true}
 
 pub returns : goal.returns
@@ -19,4 +22,13 @@ returns c = λ s owners h rises same.
       early = h.early;
       named = h.named;
       owes = h.owes;
+    }
+
+pub invariant_of-self : goal.invariant_of-self
+invariant_of-self c =
+    let held = c.index_mut-held.result.now in
+    record {
+      ordered = λ is. subst AreInOrder
+          (sym (names-set c.args.self.now.units.items c.place-at.result held (record held { waiting = true; asks = c.args.asks }) c.place-at.ensures.within c.index_mut-held.ensures.value refl))
+          (c.args.self.now.ordered is);
     }

@@ -35,4 +35,5 @@ returns-in-Ok c = record {
           changes = (d.edits ∙ ap (λ (x : Done). put_all x.changes old.changes) same) i;
         };
       };
+  unit = c.in-Ok.ensures.unit;
 }
