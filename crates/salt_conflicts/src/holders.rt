@@ -2,24 +2,12 @@
 
 ghost use Rattle.law_states.specs.Members.{In};
 ghost use Rattle.salt_conflicts.specs.Holders.{is_among};
-ghost use Rattle.salt_model.specs.Locks.{is_same_owner};
 ghost use Rattle.salt_model.specs.declared.events.Owner.{Owner};
 ghost use Rattle.std.specs.Prelude.{OnOk, not, ◌&&◌, ◌≡◌};
 
+use salt_locks::is_same_owner;
 use salt_model::Owner;
-use salt_values::is_same_id;
 use std::alloc::AllocError;
-
-/// Whether both are one unit, or both one program.
-fn is_same_owner(left: Owner, right: Owner) -> bool
-    ensures { result ≡ is_same_owner left right }
-{
-    match (left, right) {
-        (Owner::Unit(unit), Owner::Unit(other)) => is_same_id(unit, other),
-        (Owner::Base(base), Owner::Base(other)) => is_same_id(base, other),
-        _ => false,
-    }
-}
 
 /// Whether an owner is one of these.
 fn is_among(owners: &[Owner], owner: Owner) -> bool

@@ -35,15 +35,12 @@ use crate::served::{clashing, holds, served};
 use crate::shown::lock_items;
 use crate::waiters::{Waiter, has_program, leave};
 use salt_deps::{Deps, set_of};
-use salt_locks::LockTable;
+use salt_locks::{FEW, LockTable};
 use salt_model::{Family, Items, Owner, Owners, Reach};
 use salt_values::{Change, Id, Ids, next_number};
 use salt_waits::victim;
 use std::alloc::{AllocError, Global};
 use std::collections::VecDeque;
-
-/// Of so many programs the locks are looked for at their places; where there are more, all that are held are looked at once.
-const FEW: usize = 8;
 
 /// The locks that are held and how many were taken, the waiting units, the longest first, the accepted programs that are not
 /// released, in order of their names, and who wrote, read and has finished. A call that wants memory may leave it anywhere.

@@ -18,7 +18,7 @@ use crate::spots::Spot;
 use salt_model::{Lock, Owner};
 use std::collections::VecDeque;
 
-/// So many locks go one after another; where there are more, all are moved at once.
+/// So many locks, and the locks of so many programs, go one after another; where there are more, all go in one pass.
 pub const FEW: usize = 8;
 
 /// The lock at a place goes. Whether it was on more than one key.

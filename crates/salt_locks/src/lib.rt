@@ -16,6 +16,8 @@ mod table;
 mod turns;
 
 pub use clash::clashes;
+pub use drops::FEW;
 pub use laws::{clashes_fit, drops_fit, takes_fit, to_saline_fits, turns_fit};
+pub use owners::is_same_owner;
 pub use table::{LockTable, TakeErr};
 pub use turns::TakenLock;
