@@ -191,7 +191,7 @@ fn is_accepted(alloc: Global, state: &State, line: &Line) -> Result<bool, AllocE
     requires { HasFewParts line.now }
     ensures { IfOk result (λ may. may ≡ may_define_by state.now (Some line.now)) }
 {
-    let refusal = line_refusal(alloc, &state.schema, &state.catalogue, &[], 0, line)?;
+    let refusal = line_refusal(alloc, &state.schema, &state.catalogue, 0, line)?;
     Ok(refusal.is_none())
 }
 

@@ -10,14 +10,9 @@ use Rattle.salt_program.specs.Refusals as program
 use Rattle.salt_program.specs.declared.error.DefineErr.TheVariants as define
 use Rattle.salt_schema.specs.Refusals.{fault_error, statement_refusal, table_refusal}
 use Rattle.salt_schema.specs.declared.error.SchemaErr.TheVariants as error
-use Rattle.salt_values.specs.Id.{is_same_id}
-use Rattle.salt_values.specs.declared.cont.Cont.{Cont}
-use Rattle.salt_values.specs.declared.id.Id.{Id}
-use Rattle.std.proofs.Common.{ap}
 use Rattle.std.specs.Bool.{then_some}
-use Rattle.std.specs.List.{list_any}
 use Rattle.std.specs.Option.{option_or}
-use Rattle.std.specs.Prelude.{Bool, List, None, Option, Some, [], false, length, map, nat_le, option_and_then, option_map, refl, true, ◌||◌, ◌∷◌, ◌≡◌}
+use Rattle.std.specs.Prelude.{Bool, List, None, Option, Some, false, length, nat_le, option_and_then, option_map, refl, true, ◌≡◌}
 
 fault-told : (fault : Option Fault) → option_and_then told_by_schema (option_map fault_error fault) ≡ told (option_map faulty fault)
 fault-told None = refl
@@ -58,7 +53,3 @@ program-told schema catalogue p = by (nat_le 256 (length catalogue)) (program_fa
         ≡ told (option_or (option_map kept (then_some full limit.Programs)) (option_map of_program_fault fault))
     by true fault = refl
     by false fault = program-fault-told fault
-
-pub any_base : (b : Id) (cs : List Cont) → list_any (is_same_id b) (map (λ (c : Cont). c.base) cs) ≡ list_any (λ (c : Cont). is_same_id b c.base) cs
-any_base b [] = refl
-any_base b (c ∷ cs) = ap (λ t. is_same_id b c.base || t) (any_base b cs)

@@ -4,9 +4,8 @@ ghost use Rattle.salt_ast.specs.Judgement.{kept_limit, statement_fault, table_fa
 ghost use Rattle.salt_ast.specs.ProgramJudgement.{act_fault, faulty, kept, of_program_fault, program_fault, program_kept_limit, session_scope};
 ghost use Rattle.salt_scheduler.specs.Refusals.{HasFewParts, known_by, line_refusal, told};
 ghost use Rattle.salt_program.specs.Refusals.{parts_in};
-ghost use Rattle.salt_values.specs.declared.cont.Cont.{Cont};
 ghost use Rattle.std.specs.Option.{option_or};
-ghost use Rattle.std.specs.Prelude.{IfOk, List, length, option_map, ◌<◌, ◌^◌, ◌≡◌};
+ghost use Rattle.std.specs.Prelude.{IfOk, [], length, option_map, ◌<◌, ◌^◌, ◌≡◌};
 
 use crate::answers::{refusal_by_definition, refusal_by_schema};
 use crate::programs::{call_refusal, go_refusal};
@@ -14,7 +13,6 @@ use salt_ast::{Act, Line, ProgramDef, Scope, Statement, TableDef};
 use salt_model::Refusal;
 use salt_program::Catalogue;
 use salt_schema::Schema;
-use salt_values::Cont;
 use sqlite_items::Items;
 use std::alloc::{AllocError, Global};
 
@@ -62,8 +60,7 @@ fn act_refusal(
     unreleased: usize,
     act: &Act,
 ) -> Result<Option<Refusal>, AllocError>
-    ensures { IfOk result (λ refusal. (conts : List Cont) →
-        refusal ≡ told (act_fault (known_by schema.now catalogue.now conts unreleased) act.now)) }
+    ensures { IfOk result (λ refusal. refusal ≡ told (act_fault (known_by schema.now catalogue.now [] unreleased) act.now)) }
 {
     match act {
         Act::Call { program, args } => call_refusal(alloc, catalogue, unreleased, program, args),
@@ -72,27 +69,26 @@ fn act_refusal(
     }
 }
 
-/// Why a line is refused that passes no limit of its text, as far as the tables and programs defined tell it, the programs
-/// that go on, and how many BASE programs are in their first part, or accepted and not released. The first applies of:
-/// a limit of tables, programs or BASE programs; `Unknown` with the first name that is not known, which for `go` is that
-/// of its program; `Exists`; `Mistyped`; `Branch`. `AllocError` is want of memory for a name.
+/// Why a line is refused that passes no limit of its text and is no turn of a program that goes on, as far as the tables
+/// and programs defined tell it, and how many BASE programs are in their first part, or accepted and not released. The
+/// first applies of: a limit of tables, programs or BASE programs; `Unknown` with the first name that is not known, which
+/// for `go` is that of its program; `Exists`; `Mistyped`; `Branch`. `AllocError` is want of memory for a name.
 #[tactic(auto, unfolding(salt_ast::specs::ProgramJudgement::line_fault))]
 pub fn line_refusal(
     alloc: Global,
     schema: &Schema,
     catalogue: &Catalogue,
-    conts: &[Cont],
     unreleased: usize,
     line: &Line,
 ) -> Result<Option<Refusal>, AllocError>
     requires { HasFewParts line.now }
-    ensures { IfOk result (λ refusal. refusal ≡ line_refusal (known_by schema.now catalogue.now conts.now unreleased) line.now) }
+    ensures { IfOk result (λ refusal. refusal ≡ line_refusal (known_by schema.now catalogue.now [] unreleased) line.now) }
 {
     match line {
         Line::Table(def) => table_refusal(schema, def),
         Line::Program(def) => program_refusal(schema, catalogue, def),
         Line::Session { act, .. } => act_refusal(alloc, schema, catalogue, unreleased, act),
-        Line::Go(base) => go_refusal(alloc, conts, *base),
+        Line::Go(base) => go_refusal(alloc, *base),
         Line::Nothing
         | Line::GoAll
         | Line::ShowLocks

@@ -4,18 +4,15 @@ ghost use Rattle.salt_ast.specs.ProgramJudgement.{call_fault, call_kept_limit, f
 ghost use Rattle.salt_ast.specs.ProgramJudgement as judged;
 ghost use Rattle.salt_ast.specs.ProgramTexts.{base_text};
 ghost use Rattle.salt_scheduler.specs.Refusals.{told};
-ghost use Rattle.salt_values.specs.declared.cont.Cont.{Cont};
-ghost use Rattle.salt_values.specs.Id.{is_same_id};
-ghost use Rattle.std.specs.List.{list_any};
 ghost use Rattle.std.specs.Option.{option_or};
-ghost use Rattle.std.specs.Prelude.{IfOk, map, option_map, ◌≡◌};
+ghost use Rattle.std.specs.Prelude.{IfOk, [], option_map, ◌≡◌};
 
 use itoa::Buffer;
 use salt_ast::{Body, LimitName, ProgramDef};
 use salt_model::Refusal;
 use salt_program::Catalogue;
 use salt_values::limits::BASES_MOST;
-use salt_values::{Cont, Id, Name, Row, TryCopy};
+use salt_values::{Id, Name, Row, TryCopy};
 use sqlite_items::Items;
 use std::alloc::{AllocError, Global};
 
@@ -65,21 +62,9 @@ fn base_name(alloc: Global, base: Id) -> Result<Name, AllocError>
     Ok(Items::from_vec(text))
 }
 
-/// Whether the program is among those that go on.
-fn goes_on(conts: &[Cont], base: Id) -> bool
-    ensures { result ≡ list_any (λ (c : Cont). is_same_id base c.base) conts.now }
+/// The refusal of a turn of a program that does not go on.
+pub fn go_refusal(alloc: Global, base: Id) -> Result<Option<Refusal>, AllocError>
+    ensures { IfOk result (λ refusal. refusal ≡ told (option_map faulty (go_fault [] base))) }
 {
-    conts.iter().any(|cont| base == cont.base)
-}
-
-/// The refusal of a turn of a program, where these go on.
-#[tactic(auto, using(crate::proofs::Told::any_base))]
-pub fn go_refusal(alloc: Global, conts: &[Cont], base: Id) -> Result<Option<Refusal>, AllocError>
-    ensures { IfOk result (λ refusal. refusal ≡ told (option_map faulty (go_fault (map (λ (c : Cont). c.base) conts.now) base))) }
-{
-    if goes_on(conts, base) {
-        Ok(None)
-    } else {
-        Ok(Some(Refusal::Unknown(base_name(alloc, base)?)))
-    }
+    Ok(Some(Refusal::Unknown(base_name(alloc, base)?)))
 }

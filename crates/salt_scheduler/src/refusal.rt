@@ -193,14 +193,7 @@ impl Scheduler {
         }
         let known = self.books.known();
         let count = self.count_for(line)?;
-        line_refusal(
-            self.alloc,
-            known.schema(),
-            known.catalogue(),
-            &[],
-            count,
-            line,
-        )
+        line_refusal(self.alloc, known.schema(), known.catalogue(), count, line)
     }
 
     /// What is refused of a line without a fault, by the state of sessions, programs, disks and messages.
