@@ -9,7 +9,7 @@ use Rattle.salt_events.proofs.PartLaws.{IsWhole, either_if, map_some, number_who
 use Rattle.salt_events.specs.Fronts.{behind, id_at}
 use Rattle.salt_events.specs.Names.{name_at}
 use Rattle.salt_events.specs.Reading.{if_empty, number_in}
-use Rattle.salt_events.specs.Refusing.{base_in, branch_in, branch_of, exists_in, id_in, limit_in, name_in, plain_refusal_in, refusal_in, unknown_in}
+use Rattle.salt_events.specs.Refusing.{all_limits, base_in, branch_in, branch_of, exists_in, id_in, limit_in, name_in, plain_refusal_in, refusal_in, unknown_in}
 use Rattle.salt_model.specs.EventTexts.{refusal_text}
 use Rattle.salt_model.specs.Naming.{IsName}
 use Rattle.salt_model.specs.Printable.{IsPrintableRefusal}
@@ -22,6 +22,8 @@ use Rattle.std.proofs.Common.{Bool, IfSome, List, None, Option, Some, [], ap, ap
 use Rattle.std.proofs.lemmas.Bool.Decides.{nat_tests}
 use Rattle.std.specs.Bool.{then_some}
 use Rattle.std.specs.Fmt.{decimal}
+use Rattle.std.specs.Prelude.{find}
+use Rattle.salt_tokens.specs.Spelling.{same_bytes}
 
 limit_read : (l : LimitName) → limit_in (limit_word l) ≡ Some l
 limit_read limit.Session = refl
@@ -45,28 +47,12 @@ limit_read limit.Net = refl
 limit_read limit.Act = refl
 limit_read limit.Bases = refl
 
+limit_among : (bytes : List ℕ) (limits : List LimitName) → IfSome (find (λ l. same_bytes bytes (limit_word l)) limits) (λ l. bytes ≡ limit_word l)
+limit_among bytes [] = tt
+limit_among bytes (l ∷ limits) = word_if bytes (limit_word l) l (find (λ m. same_bytes bytes (limit_word m)) limits) (λ m. bytes ≡ limit_word m) (λ e. e) (limit_among bytes limits)
+
 limit_back : (bytes : List ℕ) → IfSome (limit_in bytes) (λ l. bytes ≡ limit_word l)
-limit_back bytes =
-    word_if bytes (codes "session") limit.Session _ (λ l. bytes ≡ limit_word l) (λ e. e)
-    (word_if bytes (codes "name") limit.Name _ (λ l. bytes ≡ limit_word l) (λ e. e)
-    (word_if bytes (codes "number") limit.Number _ (λ l. bytes ≡ limit_word l) (λ e. e)
-    (word_if bytes (codes "text") limit.Text _ (λ l. bytes ≡ limit_word l) (λ e. e)
-    (word_if bytes (codes "tables") limit.Tables _ (λ l. bytes ≡ limit_word l) (λ e. e)
-    (word_if bytes (codes "columns") limit.Columns _ (λ l. bytes ≡ limit_word l) (λ e. e)
-    (word_if bytes (codes "checks") limit.Checks _ (λ l. bytes ≡ limit_word l) (λ e. e)
-    (word_if bytes (codes "programs") limit.Programs _ (λ l. bytes ≡ limit_word l) (λ e. e)
-    (word_if bytes (codes "parts") limit.Parts _ (λ l. bytes ≡ limit_word l) (λ e. e)
-    (word_if bytes (codes "retry") limit.Retry _ (λ l. bytes ≡ limit_word l) (λ e. e)
-    (word_if bytes (codes "statements") limit.Statements _ (λ l. bytes ≡ limit_word l) (λ e. e)
-    (word_if bytes (codes "parameters") limit.Parameters _ (λ l. bytes ≡ limit_word l) (λ e. e)
-    (word_if bytes (codes "variables") limit.Variables _ (λ l. bytes ≡ limit_word l) (λ e. e)
-    (word_if bytes (codes "depth") limit.Depth _ (λ l. bytes ≡ limit_word l) (λ e. e)
-    (word_if bytes (codes "crash") limit.Crash _ (λ l. bytes ≡ limit_word l) (λ e. e)
-    (word_if bytes (codes "pick") limit.Pick _ (λ l. bytes ≡ limit_word l) (λ e. e)
-    (word_if bytes (codes "pairs") limit.Pairs _ (λ l. bytes ≡ limit_word l) (λ e. e)
-    (word_if bytes (codes "net") limit.Net _ (λ l. bytes ≡ limit_word l) (λ e. e)
-    (word_if bytes (codes "act") limit.Act _ (λ l. bytes ≡ limit_word l) (λ e. e)
-    (word_if bytes (codes "bases") limit.Bases None (λ l. bytes ≡ limit_word l) (λ e. e) tt)))))))))))))))))))
+limit_back bytes = limit_among bytes all_limits
 
 -- NAMES
 

@@ -1,4 +1,5 @@
 -- Refusals, by their texts.
+use Rattle.salt_ast.specs.Limits.{limit_word}
 use Rattle.salt_ast.specs.declared.limit.LimitName.TheVariants as limit
 use Rattle.salt_ast.specs.declared.limit.LimitName.{LimitName}
 use Rattle.salt_events.specs.Fronts.{behind, id_at}
@@ -10,30 +11,17 @@ use Rattle.salt_tokens.specs.Spelling.{same_bytes}
 use Rattle.salt_values.specs.declared.id.Id.{Id}
 use Rattle.salt_values.specs.declared.limits.TheConstants.{PARTS_MOST}
 use Rattle.std.specs.Bool.{then_some}
-use Rattle.std.specs.Prelude.{List, None, Option, Some, codes, if◌then◌else◌, is_some, nat_le, option_and_then, option_map, ℕ, ◌&&◌, ◌||◌}
+use Rattle.std.specs.Prelude.{List, None, Option, Some, [], codes, find, if◌then◌else◌, is_some, nat_le, option_and_then, option_map, ℕ, ◌&&◌, ◌∷◌, ◌||◌}
 
+abbrev pub all_limits : List LimitName
+all_limits =
+    limit.Session ∷ limit.Name ∷ limit.Number ∷ limit.Text ∷ limit.Tables ∷ limit.Columns ∷ limit.Checks ∷
+    limit.Programs ∷ limit.Parts ∷ limit.Retry ∷ limit.Statements ∷ limit.Parameters ∷ limit.Variables ∷ limit.Depth ∷
+    limit.Crash ∷ limit.Pick ∷ limit.Pairs ∷ limit.Net ∷ limit.Act ∷ limit.Bases ∷ []
+
+-- the limit that has this word
 abbrev pub limit_in : List ℕ → Option LimitName
-limit_in bytes =
-    if same_bytes bytes (codes "session") then Some limit.Session else
-    if same_bytes bytes (codes "name") then Some limit.Name else
-    if same_bytes bytes (codes "number") then Some limit.Number else
-    if same_bytes bytes (codes "text") then Some limit.Text else
-    if same_bytes bytes (codes "tables") then Some limit.Tables else
-    if same_bytes bytes (codes "columns") then Some limit.Columns else
-    if same_bytes bytes (codes "checks") then Some limit.Checks else
-    if same_bytes bytes (codes "programs") then Some limit.Programs else
-    if same_bytes bytes (codes "parts") then Some limit.Parts else
-    if same_bytes bytes (codes "retry") then Some limit.Retry else
-    if same_bytes bytes (codes "statements") then Some limit.Statements else
-    if same_bytes bytes (codes "parameters") then Some limit.Parameters else
-    if same_bytes bytes (codes "variables") then Some limit.Variables else
-    if same_bytes bytes (codes "depth") then Some limit.Depth else
-    if same_bytes bytes (codes "crash") then Some limit.Crash else
-    if same_bytes bytes (codes "pick") then Some limit.Pick else
-    if same_bytes bytes (codes "pairs") then Some limit.Pairs else
-    if same_bytes bytes (codes "net") then Some limit.Net else
-    if same_bytes bytes (codes "act") then Some limit.Act else
-    if same_bytes bytes (codes "bases") then Some limit.Bases else None
+limit_in bytes = find (λ l. same_bytes bytes (limit_word l)) all_limits
 
 abbrev pub name_in : List ℕ → Option (List ℕ)
 name_in bytes = option_and_then (λ r. if_empty r.0 r.1) (name_at bytes)

@@ -1,6 +1,8 @@
 //! Refusals, by their texts.
 
 ghost use Rattle.std.specs.Prelude.{◌≡◌, IfOk, is_some, option_map};
+ghost use Rattle.salt_ast.specs.Limits.{limit_word};
+ghost use Rattle.salt_tokens.specs.Spelling.{same_bytes};
 ghost use Rattle.salt_model.specs.declared.events.Refusal.TheVariants as refused;
 ghost use Rattle.salt_events.specs.Refusing.{base_in, branch_in, branch_of, exists_in, id_in, limit_in, name_in, plain_refusal_in, refusal_in, unknown_in};
 
@@ -14,70 +16,40 @@ use salt_values::limits::PARTS_MOST;
 use sqlite_items::Items;
 use std::alloc::{AllocError, Global};
 
+const LIMITS: [LimitName; 20] = [
+    LimitName::Session,
+    LimitName::Name,
+    LimitName::Number,
+    LimitName::Text,
+    LimitName::Tables,
+    LimitName::Columns,
+    LimitName::Checks,
+    LimitName::Programs,
+    LimitName::Parts,
+    LimitName::Retry,
+    LimitName::Statements,
+    LimitName::Parameters,
+    LimitName::Variables,
+    LimitName::Depth,
+    LimitName::Crash,
+    LimitName::Pick,
+    LimitName::Pairs,
+    LimitName::Net,
+    LimitName::Act,
+    LimitName::Bases,
+];
+
+fn has_word(limit: LimitName, bytes: &[u8]) -> bool
+    ensures { result ≡ same_bytes bytes.now (limit_word limit) }
+{
+    same_bytes(bytes, limit.word())
+}
+
+/// The limit that has this word.
 fn limit(bytes: &[u8]) -> Option<LimitName>
     ensures { result ≡ limit_in bytes.now }
 {
-    if same_bytes(bytes, b"session") {
-        return Some(LimitName::Session);
-    }
-    if same_bytes(bytes, b"name") {
-        return Some(LimitName::Name);
-    }
-    if same_bytes(bytes, b"number") {
-        return Some(LimitName::Number);
-    }
-    if same_bytes(bytes, b"text") {
-        return Some(LimitName::Text);
-    }
-    if same_bytes(bytes, b"tables") {
-        return Some(LimitName::Tables);
-    }
-    if same_bytes(bytes, b"columns") {
-        return Some(LimitName::Columns);
-    }
-    if same_bytes(bytes, b"checks") {
-        return Some(LimitName::Checks);
-    }
-    if same_bytes(bytes, b"programs") {
-        return Some(LimitName::Programs);
-    }
-    if same_bytes(bytes, b"parts") {
-        return Some(LimitName::Parts);
-    }
-    if same_bytes(bytes, b"retry") {
-        return Some(LimitName::Retry);
-    }
-    if same_bytes(bytes, b"statements") {
-        return Some(LimitName::Statements);
-    }
-    if same_bytes(bytes, b"parameters") {
-        return Some(LimitName::Parameters);
-    }
-    if same_bytes(bytes, b"variables") {
-        return Some(LimitName::Variables);
-    }
-    if same_bytes(bytes, b"depth") {
-        return Some(LimitName::Depth);
-    }
-    if same_bytes(bytes, b"crash") {
-        return Some(LimitName::Crash);
-    }
-    if same_bytes(bytes, b"pick") {
-        return Some(LimitName::Pick);
-    }
-    if same_bytes(bytes, b"pairs") {
-        return Some(LimitName::Pairs);
-    }
-    if same_bytes(bytes, b"net") {
-        return Some(LimitName::Net);
-    }
-    if same_bytes(bytes, b"act") {
-        return Some(LimitName::Act);
-    }
-    if same_bytes(bytes, b"bases") {
-        return Some(LimitName::Bases);
-    }
-    None
+    LIMITS.iter().copied().find(|limit| has_word(*limit, bytes))
 }
 
 fn is_name(bytes: &[u8]) -> bool
