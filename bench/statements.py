@@ -3,28 +3,34 @@
 
 Both programs read a script that fills a table, in an order of keys by chance, and then does one kind of statement again and again, each
 statement a transaction of its own. What they print goes nowhere. The time of the script that only fills the table is taken off, and there
-is work enough to take about as long. Times are of the processor, the least of five rounds, which other work on the machine disturbs least.
+is work enough to take about as long. Times are of the processor in the programs themselves, the least of several rounds in which both take
+turns, which other work on the machine disturbs least.
 
 Prints for each kind and size the statements per second of both (of a sum, the rows per second), the ratio, and how much a statement's
-cost grew from the size before. Ends with 1 where Salt is slower than half of sqlite3, or where a statement on one row costs more than
-twice as much at the last size as at the first.
+cost grew from the size before. Ends with 1 where Salt is slower than sqlite3 at a statement on one row of up to 10,000, or slower than half
+of it at any, or where a statement on one row costs more than twice as much at the last size as at the first.
 
     bench/statements.py [PROGRAM]                    with the program of another commit
+    bench/statements.py --points [PROGRAM]           statements on one row alone, over up to 10,000 rows
     bench/statements.py --instructions [PROGRAM]     what a statement on one row costs, in instructions, which do not vary; judges nothing
 """
 import random, sys
 from pathlib import Path
 
-from timing import instructions, made, processor_seconds
+from timing import instructions, made, usage
 
 ROUNDS = 5
+# Of statements on one row, which take less, there are more rounds.
+POINT_ROUNDS = 20
 SIZES = [1_000, 10_000, 100_000]
-POINTS = 100_000
+POINTS = 30_000
 RANGES = 10_000
 SUMMED = 10_000_000
 WIDTH = 100
 GROWTH = 2.0
 SLOWEST = 0.5
+# How fast statements on one row have to be over tables of the first two sizes, where sqlite3 is 1.
+POINTS_SLOWEST = 1.0
 # Statements that are counted of each kind, and the seconds that a count may take.
 COUNTED = 2_000
 LIMIT = 60
@@ -37,6 +43,7 @@ KINDS = {
     "range of 100": (lambda rows: RANGES, lambda key: f"select * from t where key between {key} and {key + WIDTH - 1} and n < 500"),
     "sum of all": (lambda rows: SUMMED // rows, lambda key: "select sum(n) from t"),
 }
+ON_ONE_ROW = ["point select", "point update", "delete"]
 
 
 def inserts(rows):
@@ -71,14 +78,18 @@ class Measured:
     def __init__(self, command, script_of):
         self.command, self.script_of, self.costs = command, script_of, {}
 
-    def seconds(self, statements):
-        return processor_seconds(self.command, self.script_of(statements), ROUNDS)
-
     def growth(self, kind, cost):
         """How much the cost of a statement grew from the size before."""
         costs = self.costs.setdefault(kind, [])
         costs.append(cost)
         return f"{costs[-1] / costs[-2]:5.2f}" if len(costs) > 1 else "    -"
+
+
+def least_seconds(programs, statements, rounds):
+    """The least time of each program, of so many rounds in which they take turns."""
+    scripts = [program.script_of(statements) for program in programs]
+    times = [[usage(program.command, text).ru_utime for program, text in zip(programs, scripts)] for _ in range(rounds)]
+    return [min(each) for each in zip(*times)]
 
 
 def tell(kind, rows, count, programs, took):
@@ -95,7 +106,7 @@ def counted(program):
     for rows in SIZES[:2]:
         filled = inserts(rows)
         more = [f"insert into t values ({rows + key}, {key % 1_000}, 'item {key}')" for key in range(COUNTED)]
-        points = {kind: asked(kind, rows)[:COUNTED] for kind in KINDS if kind in ("point select", "point update", "delete")}
+        points = {kind: asked(kind, rows)[:COUNTED] for kind in ON_ONE_ROW}
         for kind, work in {"insert": more, **points}.items():
             costs = []
             for command, script_of in [([program, "run"], salt_script), (["sqlite3", ":memory:"], sqlite_script)]:
@@ -104,28 +115,35 @@ def counted(program):
             print(f"{kind:12} {rows:7} rows: {costs[0]:7.0f} instructions, sqlite3 {costs[1]:7.0f}, ratio {costs[1] / costs[0]:5.2f}", flush=True)
 
 
+def timed(programs, sizes, kinds, rounds):
+    """Prints how fast the programs are; answers the ratios of each kind, size by size."""
+    ratios = {}
+    for rows in sizes:
+        filled = inserts(rows)
+        filling, nothing = least_seconds(programs, filled, rounds), least_seconds(programs, [], rounds)
+        ratios.setdefault("insert", []).append(tell("insert", rows, rows, programs, [whole - start for whole, start in zip(filling, nothing)]))
+        for kind in kinds:
+            work = asked(kind, rows)
+            took = [whole - start for whole, start in zip(least_seconds(programs, filled + work, rounds), filling)]
+            count = len(work) * rows if kind == "sum of all" else len(work)
+            ratios.setdefault(kind, []).append(tell(kind, rows, count, programs, took))
+    return ratios
+
+
 def main():
-    words = [word for word in sys.argv[1:] if word != "--instructions"]
+    words = [word for word in sys.argv[1:] if not word.startswith("--")]
     salt = Path(words[0]) if words else made("salt", "run")
     if "--instructions" in sys.argv:
         counted(salt)
         return 0
     programs = [Measured([salt, "run"], salt_script), Measured(["sqlite3", ":memory:"], sqlite_script)]
-    ratios = []
-    for rows in SIZES:
-        filled = inserts(rows)
-        filling = [program.seconds(filled) for program in programs]
-        nothing = [program.seconds([]) for program in programs]
-        ratios.append(tell("insert", rows, rows, programs, [whole - start for whole, start in zip(filling, nothing)]))
-        for kind in KINDS:
-            work = asked(kind, rows)
-            took = [program.seconds(filled + work) - start for program, start in zip(programs, filling)]
-            count = len(work) * rows if kind == "sum of all" else len(work)
-            ratios.append(tell(kind, rows, count, programs, took))
-    points = ["insert", "point select", "point update", "delete"]
+    points = ["insert", *ON_ONE_ROW]
+    ratios = timed(programs, SIZES[:2], ON_ONE_ROW, POINT_ROUNDS) if "--points" in sys.argv else timed(programs, SIZES, KINDS, ROUNDS)
+    slowest, slowest_point = min(map(min, ratios.values())), min(min(ratios[kind][:2]) for kind in points)
     growth = max(programs[0].costs[kind][-1] / programs[0].costs[kind][0] for kind in points)
-    print(f"the slowest ratio is {min(ratios):.2f} (allowed: {SLOWEST}); a statement on one row costs {growth:.2f} times as much at {SIZES[-1]} rows as at {SIZES[0]} (allowed: {GROWTH})")
-    return 1 if min(ratios) < SLOWEST or growth > GROWTH else 0
+    print(f"the slowest ratio is {slowest:.2f} (allowed: {SLOWEST}), on one row of up to {SIZES[1]} {slowest_point:.2f} (allowed: {POINTS_SLOWEST})")
+    print(f"a statement on one row costs {growth:.2f} times as much over the most rows as over the fewest (allowed: {GROWTH})")
+    return 1 if slowest < SLOWEST or slowest_point < POINTS_SLOWEST or growth > GROWTH else 0
 
 
 if __name__ == "__main__":

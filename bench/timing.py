@@ -33,20 +33,22 @@ def seconds(command, script):
     return best
 
 
-def processor_seconds(command, script, rounds=ROUNDS):
-    """The least time of the processor that a command takes on a script, of a few rounds; one that fails ends the measure."""
-    best = None
+def usage(command, script):
+    """What a command takes of the machine on a script; one that fails ends the measure."""
     with tempfile.TemporaryFile() as file:
         file.write(script)
-        for _ in range(rounds):
-            file.seek(0)
-            running = subprocess.Popen(command, stdin=file, stdout=subprocess.DEVNULL)
-            _, status, usage = os.wait4(running.pid, 0)
-            if status != 0:
-                sys.exit(f"bench: {command} ends with {status}")
-            took = usage.ru_utime + usage.ru_stime
-            best = took if best is None else min(best, took)
-    return best
+        file.seek(0)
+        running = subprocess.Popen(command, stdin=file, stdout=subprocess.DEVNULL)
+        _, status, used = os.wait4(running.pid, 0)
+    if status != 0:
+        sys.exit(f"bench: {command} ends with {status}")
+    return used
+
+
+def processor_seconds(command, script, rounds=ROUNDS):
+    """The least time of the processor that a command takes on a script, of a few rounds."""
+    each = [usage(command, script) for _ in range(rounds)]
+    return min(used.ru_utime + used.ru_stime for used in each)
 
 
 def instructions(command, script, limit):
