@@ -1,0 +1,3 @@
+pub mod Amid
+pub mod Begun
+pub mod Turned

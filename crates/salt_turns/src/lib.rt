@@ -1,0 +1,6 @@
+//! The turns of a unit's commit over messages, one event after another: what each does is told before it is done.
+#![tactic(auto)]
+
+mod coming;
+
+pub use coming::{Next, begin, go_on, has_next, is_voting, next_of, pass};
