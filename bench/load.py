@@ -2,17 +2,25 @@
 """Times `salt load N` beside sqlite3 in memory on the same units, each a transaction of its own.
 
 A workload has 100 deposits, N transfers, each a BASE program of two parts, and a sum behind each fiftieth; sqlite3 gets a statement for each unit. Prints units per
-second for each size, the ratio, how much a unit's cost grew from the first size to the last, and the memory that a unit takes, with
-its story. Ends with 1 where the total is wrong, two runs differ, Salt is slower than sqlite3 at the last size, or the cost grew by
-more than 1.2.
+second of the processor for each size, the least of rounds in turns, the ratio, what sqlite3 does with statements that it has prepared, how much a unit's cost grew from
+the first size to the last, and the memory that a unit takes, with its story. Ends with 1 where the total is wrong, two runs differ, Salt is at the last size less
+than 1.2 times as fast as sqlite3, or the cost grew by more than 1.2.
 """
-import subprocess, sys
+import sqlite3, subprocess, sys, time
 
-from timing import made, seconds
+from timing import least_in_turns, made, usage
 
 SIZES = [2_000, 20_000]
 GROWTH = 1.2
+RATIO = 1.2
+ROUNDS = 12
 ACCOUNTS = 100
+TABLE = "create table acct (id integer primary key, bal int, check (bal >= 0));"
+STATEMENTS = {
+    "take": "update acct set bal = bal - ? where id = ? and bal >= ?",
+    "bring": "update acct set bal = bal + ? where id = ?",
+    "sum": "select sum(bal) from acct",
+}
 
 
 def summary(program, calls):
@@ -22,28 +30,53 @@ def summary(program, calls):
 
 
 def units(calls):
-    """A statement for each unit; the transfer is not made whose account has too little."""
+    """The statement of each unit, by its name, with its values; the transfer is not made whose account has too little."""
     balances, under_way = [1000] * ACCOUNTS, []
     for call in range(1, calls + 1):
         taken, brought, amount = 7 * call % ACCOUNTS, (7 * call + 13) % ACCOUNTS, 1 + call % 50
-        yield f"update acct set bal = bal - {amount} where id = {taken} and bal >= {amount};"
+        yield "take", (amount, taken, amount)
         if balances[taken] >= amount:
             balances[taken] -= amount
             under_way.append((brought, amount))
         if call % 8 == 0 or call % 50 == 0 or call == calls:
             for account, brings in under_way:
                 balances[account] += brings
-                yield f"update acct set bal = bal + {brings} where id = {account};"
+                yield "bring", (brings, account)
             under_way = []
         if call % 50 == 0:
-            yield "select sum(bal) from acct;"
+            yield "sum", ()
+
+
+def text_of(name, values):
+    """The statement as the shell reads it."""
+    parts = STATEMENTS[name].split("?")
+    return "".join(part + str(value) for part, value in zip(parts, [*values, ";"]))
 
 
 def sqlite_script(calls):
-    yield "create table acct (id integer primary key, bal int, check (bal >= 0));"
+    yield TABLE
     for account in range(ACCOUNTS):
         yield f"insert into acct values ({account}, 1000);"
-    yield from units(calls)
+    for name, values in units(calls):
+        yield text_of(name, values)
+
+
+def prepared_seconds(calls):
+    """The time of the processor in which sqlite3 does the units with statements that it has prepared, called by Python's own module: what Python does
+    for a call is in it."""
+    database = sqlite3.connect(":memory:", isolation_level=None)
+    database.execute(TABLE)
+    database.executemany("insert into acct values (?, 1000)", [(account,) for account in range(ACCOUNTS)])
+    work = [(STATEMENTS[name], values) for name, values in units(calls)]
+    start = time.process_time()
+    for text, values in work:
+        database.execute(text, values).fetchall()
+    return time.process_time() - start
+
+
+def processor_seconds(command, script):
+    used = usage(command, script)
+    return used.ru_utime + used.ru_stime
 
 
 def peak_memory(program, calls):
@@ -63,14 +96,19 @@ def main():
         if told != summary(program, calls) or told["total"] != str(1000 * ACCOUNTS):
             print(f"load {calls}: {told}", flush=True)
             failed = 1
-        units_done = int(told["units"])
-        script = [*sqlite_script(calls)]
-        salt = seconds([program, "load", str(calls)], b"")
-        sqlite = seconds(["sqlite3", ":memory:"], "\n".join(script).encode())
-        costs.append(salt / units_done)
-        sizes.append((units_done, peak_memory(program, calls)))
-        print(f"load {calls:6}: {units_done:6} units, {units_done / salt:8.0f} a second; sqlite3 {len(script) - 1:6}, {(len(script) - 1) / sqlite:8.0f} a second", flush=True)
-    failed |= sqlite / (len(script) - 1) < costs[-1]
+        done, script = int(told["units"]), [*sqlite_script(calls)]
+        runs = [
+            lambda: processor_seconds([program, "load", str(calls)], b""),
+            lambda: processor_seconds(["sqlite3", ":memory:"], "\n".join(script).encode()),
+            lambda: prepared_seconds(calls),
+        ]
+        salt, shell, prepared = least_in_turns(runs, ROUNDS)
+        units_of_shell, count = len(script) - 1, len([*units(calls)])
+        costs.append(salt / done)
+        sizes.append((done, peak_memory(program, calls)))
+        ratio = (done / salt) / (units_of_shell / shell)
+        print(f"load {calls:6}: {done:6} units, {done / salt:8.0f} a second; sqlite3 {units_of_shell:6}, {units_of_shell / shell:8.0f} a second, ratio {ratio:.2f}; with prepared statements {count / prepared:8.0f}", flush=True)
+    failed |= ratio < RATIO
     (few, least), (many, most) = sizes
     print(f"a unit takes {(most - least) / (many - few):.0f} bytes of memory, with its story")
     growth = costs[-1] / costs[0]

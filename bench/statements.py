@@ -17,7 +17,7 @@ of it at any, or where a statement on one row costs more than twice as much at t
 import random, sys
 from pathlib import Path
 
-from timing import instructions, made, usage
+from timing import instructions, least_in_turns, made, usage
 
 ROUNDS = 5
 # Of statements on one row, which take less, there are more rounds.
@@ -86,10 +86,9 @@ class Measured:
 
 
 def least_seconds(programs, statements, rounds):
-    """The least time of each program, of so many rounds in which they take turns."""
-    scripts = [program.script_of(statements) for program in programs]
-    times = [[usage(program.command, text).ru_utime for program, text in zip(programs, scripts)] for _ in range(rounds)]
-    return [min(each) for each in zip(*times)]
+    """The least time in each program, of so many rounds in which they take turns."""
+    scripts = [(program.command, program.script_of(statements)) for program in programs]
+    return least_in_turns([lambda script=script: usage(*script).ru_utime for script in scripts], rounds)
 
 
 def tell(kind, rows, count, programs, took):

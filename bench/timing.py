@@ -51,6 +51,12 @@ def processor_seconds(command, script, rounds=ROUNDS):
     return min(used.ru_utime + used.ru_stime for used in each)
 
 
+def least_in_turns(runs, rounds):
+    """The least of what each of these calls gives, of so many rounds in which they take turns."""
+    times = [[run() for run in runs] for _ in range(rounds)]
+    return [min(each) for each in zip(*times)]
+
+
 def instructions(command, script, limit):
     """How many instructions of the processor a command takes on a script, as valgrind counts them; none where that takes it more than so many
     seconds of the processor.
