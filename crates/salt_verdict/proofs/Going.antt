@@ -41,7 +41,7 @@ use Rattle.std.proofs.Common.{Bool, List, None, Option, Some, [], ap, false, if�
 abbrev pub kind_noted : Option Begun → Option UnitKind
 kind_noted o = option_map (λ (n : Begun). n.kind) o
 
-kind_same : (trace : Trace) (u : Id) (o : Option Begun) → TellsUnit trace u o → kind_of u trace ≡ kind_noted o
+pub kind_same : (trace : Trace) (u : Id) (o : Option Begun) → TellsUnit trace u o → kind_of u trace ≡ kind_noted o
 kind_same trace u None t = t.there
 kind_same trace u (Some n) t = t.kind
 
@@ -91,7 +91,7 @@ record Tells (u : Id) (t : Trace) (o : Option Act) : Type 0 where
   answers : answers_of u t ≡ answers_in o
 
 module _ (l : Ledger) (trace : Trace) (h : Holds l trace) where
-  run_same : (u : Id) → run_of u trace ≡ run_by l u
+  pub run_same : (u : Id) → run_of u trace ≡ run_by l u
   run_same u = λ i. serial (h.knows.schema i) (h.tables i) (h.vars u i) (h.done u i)
 
   kind_is : (u : Id) → kind_of u trace ≡ kind_noted (begun_in u l.state.units)

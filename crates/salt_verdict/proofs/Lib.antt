@@ -1,6 +1,10 @@
+mod Chaining
 mod Commits
 mod Doing
 mod Faithful
 mod Going
+mod Judging
+mod Meeting
 mod Named
 mod Putting
+mod Reading

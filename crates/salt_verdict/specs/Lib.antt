@@ -1,6 +1,10 @@
 pub mod After
 pub mod Again
 pub mod Goings
+pub mod Judging
 pub mod Ledger
 pub mod Made
+pub mod Meetings
+pub mod ReadAfter
+pub mod Reads
 pub mod Variables

@@ -44,7 +44,7 @@ fn commit_of(unit: Id, end: &End) -> Option<Commit>
 }
 
 /// The commit that an event tells.
-fn commit_in(event: &Event) -> Option<Commit>
+pub fn commit_in(event: &Event) -> Option<Commit>
     ensures { result ≡ commit_in event.now }
 {
     match event {

@@ -1,0 +1,11 @@
+use Rattle.salt_verdict.proofs.start.no_reads.Goals as goal
+use Rattle.salt_verdict.specs.Reads.{freed_in, writing_told}
+use Rattle.std.proofs.Common.{ap, map, sym}
+
+pub returns : goal.returns
+returns c = record {
+  last = ap (map writing_told) (sym c.new.ensures);
+  sources = λ u. sym (c.no_sources.ensures u);
+  released = sym c.new-2.ensures;
+  freed = λ bs. ap (freed_in bs) (sym c.new-3.ensures);
+}
