@@ -1,10 +1,11 @@
-mod Chaining
 mod Commits
 mod Doing
 mod Faithful
 mod Going
 mod Judging
+mod Listed
 mod Meeting
 mod Named
 mod Putting
 mod Reading
+mod Searching

@@ -1,42 +1,48 @@
 -- What is known of who read from whom goes on, and is judged as the trace is.
 use Rattle.law_states.specs.Overlays.{Edit}
+use Rattle.salt_audit.specs.Formed.{is_formed_by, may_begin}
 use Rattle.salt_audit.specs.Laws.{changed_in, changers_in, in_chains, is_tied, read_from, unsalted, written_from}
 use Rattle.salt_audit.specs.Retelling.{told}
 use Rattle.salt_audit.specs.Standing.{begun_in}
 use Rattle.salt_audit.specs.declared.state.Begun.{Begun}
 use Rattle.salt_model.specs.After.{reach_now, run_of}
 use Rattle.salt_model.specs.Isolation.{is_program_released}
+use Rattle.salt_model.specs.Phases.{has_opened}
 use Rattle.salt_model.specs.Programs.{freed_by, released_in, shares}
 use Rattle.salt_model.specs.Reaches.{reach}
 use Rattle.salt_model.specs.Reads as model
 use Rattle.salt_model.specs.Reads.{last_of_each, is_written_at, written_at}
 use Rattle.salt_model.specs.Tables.{is_within}
 use Rattle.salt_model.specs.Trace.{Trace, ◌says◌}
-use Rattle.salt_model.specs.Units.{is_of_program, program_of, program_of_kind, units_begun}
+use Rattle.salt_model.specs.Units.{is_of_program, kind_of, program_of, program_of_kind, units_begun}
 use Rattle.salt_model.specs.Words.{widened}
 use Rattle.salt_model.specs.declared.events.End.TheVariants as end
 use Rattle.salt_model.specs.declared.events.End.{End}
 use Rattle.salt_model.specs.declared.events.Event.TheVariants as event
 use Rattle.salt_model.specs.declared.events.Event.{Event}
+use Rattle.salt_model.specs.declared.events.UnitKind.{UnitKind}
 use Rattle.salt_model.specs.declared.locks.Reach.{Reach}
 use Rattle.salt_values.specs.Id.{has_id, is_same_id, without}
 use Rattle.salt_values.specs.declared.id.Id.{Id}
 use Rattle.salt_verdict.proofs.Going.{kind_noted, kind_same, run_same}
+use Rattle.salt_verdict.proofs.Listed.{begun_listed}
 use Rattle.salt_verdict.specs.Ledger.{Holds, run_by}
-use Rattle.salt_verdict.specs.ReadAfter.{IsReadAfter, changers, is_written_within, last_by, openings_by, put_edits, reach_by, released_by, sources_as, sources_by, writing_of}
+use Rattle.salt_verdict.specs.ReadAfter.{IsReadAfter, changers, is_written_within, last_by, openings_by, parts_by, put_edits, reach_by, released_by, sources_as, sources_by, writing_of}
 use Rattle.salt_verdict.specs.Reads.{HoldsReads, chained, freed_in, is_free, is_named, is_tied_by, program_in, program_noted, shares_program, sources_in, ties_of, unsalted_by, unsalted_of, units_read, writing_told}
+use Rattle.salt_verdict.specs.Searching.{IsLinked}
 use Rattle.salt_verdict.specs.declared.ledger.Ledger.{Ledger}
 use Rattle.salt_verdict.specs.declared.reads.Opening.{Opening}
 use Rattle.salt_verdict.specs.declared.reads.Reads.{Reads}
 use Rattle.salt_verdict.specs.declared.reads.Sources.{Sources}
 use Rattle.salt_verdict.specs.declared.reads.Writing.{Writing}
-use Rattle.salt_audit.proofs.Amiss.{id_is}
+use Rattle.salt_audit.proofs.Amiss.{both_true, id_is}
 use Rattle.salt_audit.specs.Order.{id_cmp}
 use Rattle.std.specs.BTreeMap.{BTreeMap, get}
-use Rattle.std.proofs.Common.{Bool, List, None, Option, Some, [], ap, cond, false, if◌then◌else◌, is_none, length, map, not, option_and_then, refl, sym, true, ◌&&◌, ◌++◌, ◌∙◌, ◌∷◌, ◌≡◌, ◌||◌}
+use Rattle.std.proofs.Common.{Bool, List, None, Option, Some, [], absurd, ap, cond, false, if◌then◌else◌, is_none, is_some, length, map, not, option_and_then, refl, sym, true, ◌&&◌, ◌++◌, ◌∙◌, ◌∷◌, ◌≡◌, ◌||◌}
 use Rattle.std.proofs.lemmas.List.Elements.{filter_agree}
 use Rattle.std.specs.List.{filter, list_all}
-use Rattle.std.specs.Option.{option_map_or}
+use Rattle.std.specs.Bool.{then_some}
+use Rattle.std.specs.Option.{option_map_or, option_or}
 
 -- WRITINGS
 
@@ -69,6 +75,24 @@ pub sources_put : (old : BTreeMap Id Sources) (u v : Id) (more units : List Id) 
 sources_put old u v more units true same is = is ∙ ap (λ (x : Id). more ++ sources_in x old) (sym (id_is u v same))
 sources_put old u v more units false other is = refl
 
+-- PROGRAMS
+
+named_same : (b : Id) (o : Option Id) → (elim o as (λ _. Bool) [ None ↦ false | Some c ↦ is_same_id b c ]) ≡ is_named b o
+named_same b None = refl
+named_same b (Some c) = refl
+
+none_there : (o : Option UnitKind) → is_none o ≡ true → o ≡ None
+none_there None e = refl
+none_there (Some kind) e = absurd cc
+
+-- a unit that may begin has not begun
+new_unit : (trace : Trace) (v : Id) (kind : UnitKind) → is_formed_by trace (event.Began v kind) ≡ true → kind_of v trace ≡ None
+new_unit trace v kind f = by (has_opened trace) f
+  where
+    by : (t : Bool) → (if t then is_none (kind_of v trace) && may_begin trace kind else false) ≡ true → kind_of v trace ≡ None
+    by true g = none_there (kind_of v trace) (both_true (is_none (kind_of v trace)) (may_begin trace kind) g).0
+    by false g = absurd cc
+
 -- THE STEP
 
 module _ (l : Ledger) (r : Reads) (trace : Trace) (h : Holds l trace) (k : HoldsReads r trace) where
@@ -89,14 +113,33 @@ module _ (l : Ledger) (r : Reads) (trace : Trace) (h : Holds l trace) (k : Holds
   last_end u end.RolledBack = k.last
   last_end u end.Victim = k.last
 
+  -- the subtransactions of a program, with a unit that begins
+  began_parts : (v : Id) (kind : UnitKind) → kind_of v trace ≡ None → (b w : Id) → is_of_program b (told trace (event.Began v kind)) w ≡ has_id w (parts_by (event.Began v kind) r.parts b)
+  began_parts v kind none b w =
+      named_same b (option_and_then program_of_kind (option_or (then_some (is_same_id w v) kind) (kind_of w trace)))
+      ∙ by (is_same_id w v) refl (is_named b (program_of_kind kind)) refl
+    where
+      before : is_named b (program_of w trace) ≡ has_id w (sources_in b r.parts)
+      before = sym (named_same b (program_of w trace)) ∙ k.parts b w
+
+      by : (t : Bool) → is_same_id w v ≡ t → (s : Bool) → is_named b (program_of_kind kind) ≡ s →
+          is_named b (option_and_then program_of_kind (option_or (then_some t kind) (kind_of w trace))) ≡ has_id w (if s then v ∷ sources_in b r.parts else sources_in b r.parts)
+      by true same true is = is ∙ sym (ap (λ (t : Bool). t || has_id w (sources_in b r.parts)) same)
+      by true same false is =
+          let nothing : kind_of w trace ≡ None = subst (λ (u : Id). kind_of u trace ≡ None) (sym (id_is w v same)) none in
+          is ∙ sym (ap (λ (o : Option UnitKind). is_named b (option_and_then program_of_kind o)) nothing) ∙ before
+      by false other true is = before ∙ sym (ap (λ (t : Bool). t || has_id w (sources_in b r.parts)) other)
+      by false other false is = before
+
   record Goes (e : Event) : Type 0 where
     last : last_of_each (changed_in (told trace e)) ≡ map writing_told (last_by e l r.last.items)
     sources : (u : Id) → read_from u (told trace e) ≡ sources_by e l r.last.items r.sources u
     released : released_in (told trace e) ≡ released_by e l.state.bases r.openings r.released
     freed : (bs : List Id) → freed_by bs (told trace e) ≡ freed_in bs (openings_by e l.state.bases r.openings)
+    parts : (b v : Id) → is_of_program b (told trace e) v ≡ has_id v (parts_by e r.parts b)
 
-  goes : (e : Event) → Goes e
-  goes (event.Did v st x) = record {
+  goes : (e : Event) → is_formed_by trace e ≡ true → Goes e
+  goes (event.Did v st x) f = record {
     last = k.last;
     sources = λ u.
         let at : changers_in trace (reach_now v trace st) ≡ changers r.last.items (reach_by l v st) =
@@ -104,51 +147,68 @@ module _ (l : Ledger) (r : Reads) (trace : Trace) (h : Holds l trace) (k : Holds
         (λ i. if is_same_id u v then at i ++ k.sources u i else k.sources u i);
     released = k.released;
     freed = k.freed;
+    parts = k.parts;
   }
-  goes (event.Ended u e) = record { last = last_end u e; sources = k.sources; released = k.released; freed = k.freed }
-  goes (event.Released bs) = record { last = k.last; sources = k.sources; released = λ i. k.freed bs i ++ (k.released i ++ bs); freed = k.freed }
-  goes (event.Early names) = record {
+  goes (event.Ended u e) f = record { last = last_end u e; sources = k.sources; released = k.released; freed = k.freed; parts = k.parts }
+  goes (event.Released bs) f = record { last = k.last; sources = k.sources; released = λ i. k.freed bs i ++ (k.released i ++ bs); freed = k.freed; parts = k.parts }
+  goes (event.Early names) f = record {
     last = k.last;
     sources = k.sources;
     released = k.released;
     freed = λ bs. λ i. if shares names bs then without names (h.knows.bases i) ++ k.freed bs i else k.freed bs i;
+    parts = k.parts;
   }
-  goes event.Ready = record { last = k.last; sources = k.sources; released = λ i. k.released i ++ h.knows.bases i; freed = k.freed }
-  goes (event.Began u kind) = record { last = k.last; sources = k.sources; released = k.released; freed = k.freed }
-  goes (event.Waits u os) = record { last = k.last; sources = k.sources; released = k.released; freed = k.freed }
-  goes (event.Accepted b) = record { last = k.last; sources = k.sources; released = k.released; freed = k.freed }
-  goes (event.Finished b) = record { last = k.last; sources = k.sources; released = k.released; freed = k.freed }
-  goes (event.Down w) = record { last = k.last; sources = k.sources; released = k.released; freed = k.freed }
-  goes (event.Opened boot n) = record { last = k.last; sources = k.sources; released = k.released; freed = k.freed }
-  goes (event.Defined n text) = record { last = k.last; sources = k.sources; released = k.released; freed = k.freed }
-  goes (event.Refused x) = record { last = k.last; sources = k.sources; released = k.released; freed = k.freed }
-  goes (event.Armed pairs) = record { last = k.last; sources = k.sources; released = k.released; freed = k.freed }
-  goes (event.Shown items) = record { last = k.last; sources = k.sources; released = k.released; freed = k.freed }
+  goes event.Ready f = record { last = k.last; sources = k.sources; released = λ i. k.released i ++ h.knows.bases i; freed = k.freed; parts = k.parts }
+  goes (event.Began u kind) f = record {
+    last = k.last;
+    sources = k.sources;
+    released = k.released;
+    freed = k.freed;
+    parts = began_parts u kind (new_unit trace u kind f);
+  }
+  goes (event.Waits u os) f = record { last = k.last; sources = k.sources; released = k.released; freed = k.freed; parts = k.parts }
+  goes (event.Accepted b) f = record { last = k.last; sources = k.sources; released = k.released; freed = k.freed; parts = k.parts }
+  goes (event.Finished b) f = record { last = k.last; sources = k.sources; released = k.released; freed = k.freed; parts = k.parts }
+  goes (event.Down w) f = record { last = k.last; sources = k.sources; released = k.released; freed = k.freed; parts = k.parts }
+  goes (event.Opened boot n) f = record { last = k.last; sources = k.sources; released = k.released; freed = k.freed; parts = k.parts }
+  goes (event.Defined n text) f = record { last = k.last; sources = k.sources; released = k.released; freed = k.freed; parts = k.parts }
+  goes (event.Refused x) f = record { last = k.last; sources = k.sources; released = k.released; freed = k.freed; parts = k.parts }
+  goes (event.Armed pairs) f = record { last = k.last; sources = k.sources; released = k.released; freed = k.freed; parts = k.parts }
+  goes (event.Shown items) f = record { last = k.last; sources = k.sources; released = k.released; freed = k.freed; parts = k.parts }
 
-  pub reads_on : (s : Reads) (e : Event) → IsReadAfter l r s e → HoldsReads s (told trace e)
-  reads_on s e after =
-      let g = goes e in
+  pub reads_on : (s : Reads) (e : Event) → is_formed_by trace e ≡ true → IsReadAfter l r s e → HoldsReads s (told trace e)
+  reads_on s e f after =
+      let g = goes e f in
       record {
         last = g.last ∙ ap (map writing_told) (sym after.last);
         sources = λ u. g.sources u ∙ sym (after.sources u);
         released = g.released ∙ sym after.released;
         freed = λ bs. g.freed bs ∙ ap (freed_in bs) (sym after.openings);
+        parts = λ b v. g.parts b v ∙ ap (has_id v) (sym (after.parts b));
       }
 
 -- THE JUDGE
+
+is_noted : (o : Option Begun) → is_some (kind_noted o) ≡ is_some o
+is_noted None = refl
+is_noted (Some n) = refl
 
 noted_program : (o : Option Begun) → option_and_then program_of_kind (kind_noted o) ≡ program_noted o
 noted_program None = refl
 noted_program (Some n) = refl
 
-named_same : (b : Id) (o : Option Id) → (elim o as (λ _. Bool) [ None ↦ false | Some c ↦ is_same_id b c ]) ≡ is_named b o
-named_same b None = refl
-named_same b (Some c) = refl
-
 module _ (l : Ledger) (r : Reads) (trace : Trace) (h : Holds l trace) (k : HoldsReads r trace) where
-  program_same : (u : Id) → program_of u trace ≡ program_in l u
+  pub program_same : (u : Id) → program_of u trace ≡ program_in l u
   program_same u =
       ap (option_and_then program_of_kind) (kind_same trace u (begun_in u l.state.units) (h.knows.units u)) ∙ noted_program (begun_in u l.state.units)
+
+  pub linked : IsLinked l r
+  linked = record {
+    begun = λ v.
+        sym (is_noted (begun_in v l.state.units)) ∙ ap (λ (o : Option UnitKind). is_some o) (sym (kind_same trace v (begun_in v l.state.units) (h.knows.units v)))
+        ∙ begun_listed trace v ∙ ap (has_id v) h.order;
+    parts = λ b v. sym (k.parts b v) ∙ named_same b (program_of v trace) ∙ ap (is_named b) (program_same v);
+  }
 
   shares_same : (v : Id) (o : Option Id) → option_map_or (λ b. is_of_program b trace v) o false ≡ shares_program l o v
   shares_same v None = refl
@@ -162,7 +222,7 @@ module _ (l : Ledger) (r : Reads) (trace : Trace) (h : Holds l trace) (k : Holds
   chains_same : (a : Id) → in_chains trace a ≡ chained l r a
   chains_same a = λ i. widened (λ u. filter (λ v. tied_same u v i) (h.order i)) (length (h.order i)) (a ∷ [])
 
-  free_same : (o : Option Id) → is_program_released trace o ≡ is_free r.released o
+  pub free_same : (o : Option Id) → is_program_released trace o ≡ is_free r.released o
   free_same None = refl
   free_same (Some b) = ap (has_id b) k.released
 

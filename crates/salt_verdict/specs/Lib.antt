@@ -7,4 +7,5 @@ pub mod Made
 pub mod Meetings
 pub mod ReadAfter
 pub mod Reads
+pub mod Searching
 pub mod Variables

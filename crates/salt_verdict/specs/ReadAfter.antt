@@ -2,15 +2,16 @@
 use Rattle.law_states.specs.Overlays.{Edit}
 use Rattle.salt_ast.specs.declared.trees.Statement.{Statement}
 use Rattle.salt_model.specs.Reaches.{reach}
+use Rattle.salt_model.specs.Units.{program_of_kind}
 use Rattle.salt_model.specs.Tables.{is_within, place, place_cmp}
 use Rattle.salt_model.specs.declared.events.End.TheVariants.{Committed}
-use Rattle.salt_model.specs.declared.events.Event.TheVariants.{Did, Early, Ended, Ready, Released}
+use Rattle.salt_model.specs.declared.events.Event.TheVariants.{Began, Did, Early, Ended, Ready, Released}
 use Rattle.salt_model.specs.declared.events.Event.{Event}
 use Rattle.salt_model.specs.declared.locks.Reach.{Reach}
 use Rattle.salt_values.specs.Id.{is_same_id, without}
 use Rattle.salt_values.specs.declared.id.Id.{Id}
 use Rattle.salt_verdict.specs.Ledger.{run_by}
-use Rattle.salt_verdict.specs.Reads.{freed_in, sources_in}
+use Rattle.salt_verdict.specs.Reads.{freed_in, is_named, sources_in}
 use Rattle.salt_verdict.specs.declared.ledger.Ledger.{Ledger}
 use Rattle.salt_verdict.specs.declared.reads.Opening.{Opening}
 use Rattle.salt_verdict.specs.declared.reads.Reads.{Reads}
@@ -70,8 +71,14 @@ abbrev pub openings_by : Event → List Id → List Opening → List Opening
 openings_by (Early named) bases os = opened_early bases named ∷ os
 openings_by e bases os = os
 
+-- a unit begins, maybe of a program
+abbrev pub parts_by : Event → BTreeMap Id Sources → Id → List Id
+parts_by (Began v kind) parts b = if is_named b (program_of_kind kind) then v ∷ sources_in b parts else sources_in b parts
+parts_by e parts b = sources_in b parts
+
 pub record IsReadAfter (l : Ledger) (r s : Reads) (e : Event) : Type 0 where
   pub last : s.last.items ≡ last_by e l r.last.items
   pub sources : (u : Id) → sources_in u s.sources ≡ sources_by e l r.last.items r.sources u
   pub released : s.released ≡ released_by e l.state.bases r.openings r.released
   pub openings : s.openings ≡ openings_by e l.state.bases r.openings
+  pub parts : (b : Id) → sources_in b s.parts ≡ parts_by e r.parts b

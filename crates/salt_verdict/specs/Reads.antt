@@ -7,7 +7,7 @@ use Rattle.salt_model.specs.Programs.{freed_by, released_in, shares}
 use Rattle.salt_model.specs.Reads.{last_of_each}
 use Rattle.salt_model.specs.Reads as model
 use Rattle.salt_model.specs.Trace.{Trace}
-use Rattle.salt_model.specs.Units.{program_of_kind}
+use Rattle.salt_model.specs.Units.{is_of_program, program_of_kind}
 use Rattle.salt_model.specs.Words.{widened}
 use Rattle.salt_model.specs.declared.events.Event.TheVariants.{Did}
 use Rattle.salt_model.specs.declared.events.Event.{Event}
@@ -44,6 +44,7 @@ pub record HoldsReads (r : Reads) (trace : Trace) : Type 0 where
   pub sources : (u : Id) → read_from u trace ≡ sources_in u r.sources
   pub released : released_in trace ≡ r.released
   pub freed : (bs : List Id) → freed_by bs trace ≡ freed_in bs r.openings
+  pub parts : (b v : Id) → is_of_program b trace v ≡ has_id v (sources_in b r.parts)
 
 -- THE JUDGE
 
@@ -64,6 +65,15 @@ shares_program l (Some b) v = is_named b (program_in l v)
 
 abbrev pub is_tied_by : Ledger → Reads → Id → Id → Bool
 is_tied_by l r u v = has_id v (sources_in u r.sources) || shares_program l (program_in l u) v
+
+-- the subtransactions of a program
+abbrev pub parts_near : Reads → Option Id → List Id
+parts_near r None = []
+parts_near r (Some b) = sources_in b r.parts
+
+-- whom the unit is tied to, by what is noted
+abbrev pub near : Ledger → Reads → Id → List Id
+near l r u = sources_in u r.sources ++ parts_near r (program_in l u)
 
 -- whom the unit is tied to
 abbrev pub ties_of : Ledger → Reads → Id → List Id

@@ -10,6 +10,7 @@ ghost use Rattle.salt_model.specs.Words.{first_of_list};
 ghost use Rattle.salt_verdict.specs.Judging.{HoldsAll, broken_in};
 ghost use Rattle.salt_verdict.specs.Meetings.{HoldsMeetings};
 ghost use Rattle.salt_verdict.specs.Reads.{HoldsReads};
+ghost use Rattle.salt_verdict.specs.Searching.{IsLinked};
 ghost use Rattle.std.specs.Prelude.{IfOk, OnOk, [], true, ◌≡◌};
 
 use crate::honest::{amiss, unfaithful};
@@ -84,7 +85,7 @@ fn broken(
     amiss: Ids,
     event: &Event,
 ) -> Result<Option<(Law, Id)>, ViewErr>
-    ensures { IfOk result (λ found. found ≡ broken_in judge.now amiss event.now) }
+    ensures { IfOk result (λ found. IsLinked judge.now.ledger judge.now.reads → found ≡ broken_in judge.now amiss event.now) }
 {
     let mut ids = unfaithful(alloc, &judge.ledger)?;
     ids.append(amiss)?;

@@ -10,6 +10,7 @@ ghost use Rattle.salt_verdict.specs.Ledger.{Holds, dishonest_by};
 ghost use Rattle.salt_verdict.specs.Meetings.{HoldsMeetings, IsMetAfter, unwhole_by};
 ghost use Rattle.salt_verdict.specs.ReadAfter.{IsReadAfter};
 ghost use Rattle.salt_verdict.specs.Reads.{HoldsReads, unsalted_by};
+ghost use Rattle.salt_verdict.specs.Searching.{IsLinked};
 ghost use Rattle.salt_verdict.specs.declared.ledger.Ledger.{Ledger};
 ghost use Rattle.salt_verdict.specs.declared.met.Meetings.{Meetings};
 ghost use Rattle.salt_verdict.specs.declared.reads.Reads.{Reads};
@@ -46,12 +47,13 @@ pub fn runs_make_the_tables()
 
 /// The units that break salted by what is known behind an event are those that break it in the trace with it.
 pub fn salted_is_exact()
-    ensures { (l : Ledger) (r : Reads) (trace : Trace) (e : Event) → Holds l (told trace e) → HoldsReads r (told trace e) → unsalted_by l r e ≡ unsalted trace e }
+    ensures linked { (l : Ledger) (r : Reads) (trace : Trace) → Holds l trace → HoldsReads r trace → IsLinked l r }
+    ensures exact { (l : Ledger) (r : Reads) (trace : Trace) (e : Event) → Holds l (told trace e) → HoldsReads r (told trace e) → unsalted_by l r e ≡ unsalted trace e }
 {}
 
 /// What is known of who read from whom is, behind an event, what the trace with it tells.
 pub fn reading_goes_on()
-    ensures { (l : Ledger) (r s : Reads) (trace : Trace) (e : Event) → Holds l trace → HoldsReads r trace → IsReadAfter l r s e → HoldsReads s (told trace e) }
+    ensures { (l : Ledger) (r s : Reads) (trace : Trace) (e : Event) → Holds l trace → HoldsReads r trace → is_formed_by trace e ≡ true → IsReadAfter l r s e → HoldsReads s (told trace e) }
 {}
 
 /// The units that break whole by what is known behind an event are those that break it in the trace with it.

@@ -16,6 +16,7 @@ mod readers;
 mod reads;
 mod rows;
 mod salted;
+mod search;
 mod start;
 mod steps;
 mod variables;

@@ -5,8 +5,8 @@ ghost use Rattle.salt_model.specs.Tables.{place, place_cmp};
 ghost use Rattle.salt_values.specs.Id.{is_same_id};
 ghost use Rattle.salt_values.specs.declared.id.Id.{Id};
 ghost use Rattle.salt_verdict.specs.Ledger.{run_by};
-ghost use Rattle.salt_verdict.specs.ReadAfter.{IsReadAfter, changers, is_elsewhere, is_written_within, last_by, opened_early, openings_by, put_edits, reach_by, released_by, sources_by, writing_of, written_first};
-ghost use Rattle.salt_verdict.specs.Reads.{freed_in, sources_in, units_read};
+ghost use Rattle.salt_verdict.specs.ReadAfter.{IsReadAfter, changers, is_elsewhere, is_written_within, last_by, opened_early, openings_by, parts_by, put_edits, reach_by, released_by, sources_by, writing_of, written_first};
+ghost use Rattle.salt_verdict.specs.Reads.{freed_in, is_named, sources_in, units_read};
 ghost use Rattle.salt_model.specs.Programs.{shares};
 ghost use Rattle.salt_values.specs.Id.{without};
 ghost use Rattle.std.specs.Option.{option_copied};
@@ -18,6 +18,7 @@ use crate::reads::{Opening, Reads, Sources, Writing};
 use crate::salted::add_if;
 use crate::steps::{commit_in, run_again};
 use salt_ast::Statement;
+use salt_books::program_of;
 use salt_eval::ViewErr;
 use salt_model::{Event, Reach};
 use salt_values::{Change, Id, Ids, TryCopy, drop_ids, has_id};
@@ -293,6 +294,36 @@ fn note_opening(
     }
 }
 
+fn note_part(
+    alloc: Global,
+    parts: &mut BTreeMap<Id, Sources>,
+    unit: Id,
+    program: Option<Id>,
+) -> Result<(), AllocError>
+    ensures { OnOk result ((b : Id) → sources_in b parts.new ≡ (if is_named b program then unit ∷ sources_in b parts.old else sources_in b parts.old)) }
+{
+    match program {
+        Some(base) => {
+            let units = Items::from_slice(alloc, &[unit])?;
+            put_sources(alloc, parts, base, units)
+        }
+        None => Ok(()),
+    }
+}
+
+fn note_parts(
+    alloc: Global,
+    parts: &mut BTreeMap<Id, Sources>,
+    event: &Event,
+) -> Result<(), AllocError>
+    ensures { OnOk result ((b : Id) → sources_in b parts.new ≡ parts_by event.now parts.old b) }
+{
+    match event {
+        Event::Began { unit, kind } => note_part(alloc, parts, *unit, program_of(kind)),
+        _ => Ok(()),
+    }
+}
+
 /// Takes over an event by what is known before it: what is known of who read from whom is then what is known behind it. An `Err`
 /// leaves it in no state that is told.
 pub fn take_reads(
@@ -319,5 +350,6 @@ pub fn take_reads(
         event,
     )?;
     note_opening(alloc, ledger, &mut reads.openings, event)?;
+    note_parts(alloc, &mut reads.parts, event)?;
     Ok(())
 }

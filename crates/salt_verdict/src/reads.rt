@@ -12,7 +12,7 @@ pub struct Writing {
     pub key: Key,
 }
 
-/// Whom a unit has read from.
+/// The units that are noted for a name: those from whom a unit has read, or those of a program.
 #[derive(Drop)]
 pub struct Sources {
     pub units: Ids,
@@ -31,6 +31,8 @@ pub struct Reads {
     /// The latest first.
     pub last: Vec<Writing>,
     pub sources: BTreeMap<Id, Sources>,
+    /// The subtransactions of each program.
+    pub parts: BTreeMap<Id, Sources>,
     /// The programs that are released.
     pub released: Ids,
     /// The latest first.

@@ -50,6 +50,7 @@ pub fn no_reads(alloc: Global) -> Reads
     Reads {
         last: Vec::new(alloc),
         sources: no_sources(alloc),
+        parts: no_sources(alloc),
         released: Items::new(alloc),
         openings: Items::new(alloc),
     }

@@ -15,4 +15,5 @@ returns c =
       sources = λ u. c.in_ok-note_sources.ensures u ∙ ap (λ (ws : List Writing). sources_by e l ws r.sources u) c.as_slice.ensures;
       released = c.in_ok-note_released.ensures ∙ ap (λ (os : List Opening). released_by e l.state.bases os r.released) c.as_slice-2.ensures;
       openings = c.in_ok-note_opening.ensures;
+      parts = λ b. c.in_ok-note_parts.ensures b;
     }

@@ -1,3 +1,4 @@
+use Rattle.salt_values.specs.Id.{has_id}
 use Rattle.salt_verdict.proofs.start.no_reads.Goals as goal
 use Rattle.salt_verdict.specs.Reads.{freed_in, writing_told}
 use Rattle.std.proofs.Common.{ap, map, sym}
@@ -8,4 +9,5 @@ returns c = record {
   sources = λ u. sym (c.no_sources.ensures u);
   released = sym c.new-2.ensures;
   freed = λ bs. ap (freed_in bs) (sym c.new-3.ensures);
+  parts = λ b v. ap (has_id v) (sym (c.no_sources-2.ensures b));
 }

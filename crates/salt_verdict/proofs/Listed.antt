@@ -1,0 +1,52 @@
+-- Names in lists of units.
+use Rattle.salt_model.specs.Trace.{Trace, from, ◌asks◌, ◌says◌, ◌turns◌}
+use Rattle.salt_model.specs.Units.{kind_of, units_begun}
+use Rattle.salt_model.specs.declared.events.Event.TheVariants as event
+use Rattle.salt_model.specs.declared.events.UnitKind.{UnitKind}
+use Rattle.salt_values.specs.Id.{has_id, is_same_id}
+use Rattle.salt_values.specs.declared.id.Id.{Id}
+use Rattle.std.proofs.Common.{Bool, List, None, Option, Some, [], ap, false, is_some, refl, sym, true, ◌++◌, ◌∙◌, ◌∷◌, ◌≡◌, ◌||◌}
+use Rattle.std.specs.Bool.{then_some}
+use Rattle.std.specs.Option.{option_or}
+
+or_turn : (a b c : Bool) → (a || (b || c)) ≡ (b || (a || c))
+or_turn true true c = refl
+or_turn true false c = refl
+or_turn false b c = refl
+
+or_group : (a b c : Bool) → (a || (b || c)) ≡ ((a || b) || c)
+or_group true b c = refl
+or_group false b c = refl
+
+pub has_more : (u v : Id) (us : List Id) → has_id u (us ++ v ∷ []) ≡ (is_same_id u v || has_id u us)
+has_more u v [] = refl
+has_more u v (w ∷ us) = ap (λ (t : Bool). is_same_id u w || t) (has_more u v us) ∙ or_turn (is_same_id u w) (is_same_id u v) (has_id u us)
+
+pub has_app : (u : Id) (us vs : List Id) → has_id u (us ++ vs) ≡ (has_id u us || has_id u vs)
+has_app u [] vs = refl
+has_app u (w ∷ us) vs = ap (λ (t : Bool). is_same_id u w || t) (has_app u us vs) ∙ or_group (is_same_id u w) (has_id u us) (has_id u vs)
+
+-- the units that have begun are listed
+pub begun_listed : (trace : Trace) (v : Id) → is_some (kind_of v trace) ≡ has_id v (units_begun trace)
+begun_listed (from k) v = refl
+begun_listed (trace asks asked) v = begun_listed trace v
+begun_listed (trace turns b) v = begun_listed trace v
+begun_listed (trace says event.Began u kind) v = by (is_same_id v u) ∙ ap (λ (t : Bool). is_same_id v u || t) (begun_listed trace v) ∙ sym (has_more v u (units_begun trace))
+  where
+    by : (t : Bool) → is_some (option_or (then_some t kind) (kind_of v trace)) ≡ (t || is_some (kind_of v trace))
+    by true = refl
+    by false = refl
+begun_listed (trace says event.Did u st a) v = begun_listed trace v
+begun_listed (trace says event.Ended u e) v = begun_listed trace v
+begun_listed (trace says event.Waits u os) v = begun_listed trace v
+begun_listed (trace says event.Accepted b) v = begun_listed trace v
+begun_listed (trace says event.Finished b) v = begun_listed trace v
+begun_listed (trace says event.Released bs) v = begun_listed trace v
+begun_listed (trace says event.Early bs) v = begun_listed trace v
+begun_listed (trace says event.Down w) v = begun_listed trace v
+begun_listed (trace says event.Opened boot n) v = begun_listed trace v
+begun_listed (trace says event.Ready) v = begun_listed trace v
+begun_listed (trace says event.Defined n text) v = begun_listed trace v
+begun_listed (trace says event.Refused r) v = begun_listed trace v
+begun_listed (trace says event.Armed pairs) v = begun_listed trace v
+begun_listed (trace says event.Shown items) v = begun_listed trace v
