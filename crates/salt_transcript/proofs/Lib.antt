@@ -1,0 +1,7 @@
+mod Cutting
+mod Ending
+mod Finding
+mod Longest
+mod Onward
+mod Pieces
+mod Taking

@@ -1,0 +1,12 @@
+//! The verdict on a transcript: its lines are read, and each event is judged.
+#![tactic(auto)]
+
+mod front;
+mod judged;
+mod reader;
+mod source;
+mod words;
+
+pub use judged::verdict_on;
+pub use source::{AuditErr, audit};
+pub use words::print_verdict;
