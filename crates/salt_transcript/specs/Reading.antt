@@ -13,8 +13,8 @@ use Rattle.salt_model.specs.declared.events.Event.{Event}
 use Rattle.salt_model.specs.declared.shown.Item.{Item}
 use Rattle.salt_transcript.specs.declared.reader.Reader.{Reader}
 use Rattle.salt_values.specs.declared.id.Id.{Id}
-use Rattle.salt_verdict.specs.Judging.{HoldsAll}
-use Rattle.salt_verdict.specs.declared.judge.Judge.{Judge}
+use Rattle.salt_judge.specs.Judging.{HoldsAll}
+use Rattle.salt_judge.specs.declared.judge.Judge.{Judge}
 use Rattle.std.specs.Prelude.{Bool, List, Option, [], false, length, suc, true, ℕ, ◌++◌, ◌+◌, ◌<◌, ◌^◌, ◌∷◌, ◌≡◌}
 
 -- what is known is that of a sound story, whose tables have names, each another

@@ -14,9 +14,9 @@ use salt_audit::{
 };
 use salt_eval::ViewErr;
 use salt_events::{ReadErr, lines_are_read, read_line};
+use salt_judge::{Judge, judge_event, nothing_judged};
 use salt_model::{Event, Item, Items as Shown};
 use salt_values::{Id, next_number};
-use salt_verdict::{Judge, judge_event, nothing_judged};
 use sqlite_items::Items;
 use std::alloc::{AllocError, Global};
 

@@ -1,50 +1,26 @@
 -- What is dishonest by what is known is so of the trace.
 use Rattle.salt_audit.specs.Laws.{dishonest, fails_amiss, fits_end, is_same_answer, replays, same_all}
-use Rattle.salt_audit.specs.Knowing.{TellsUnit}
 use Rattle.salt_audit.specs.Retelling.{told}
-use Rattle.salt_audit.specs.Standing.{begun_in, is_open_unit}
-use Rattle.salt_audit.specs.declared.state.Begun.{Begun}
 use Rattle.salt_model.specs.Honest.{cause_among}
 use Rattle.salt_model.specs.Statements.{serial}
 use Rattle.salt_model.specs.Trace.{Trace}
-use Rattle.salt_model.specs.Units.{answers_of, is_open, open_units, units_begun}
+use Rattle.salt_model.specs.Units.{answers_of, open_units}
 use Rattle.salt_model.specs.declared.events.Answer.{Answer}
 use Rattle.salt_model.specs.declared.events.Event.TheVariants as event
 use Rattle.salt_model.specs.declared.events.Event.{Event}
 use Rattle.salt_values.specs.declared.id.Id.{Id}
-use Rattle.salt_verdict.specs.Ledger.{Holds, amiss_by, dishonest_by, is_unfaithful, replays_by, unfaithful_in}
+use Rattle.salt_verdict.specs.Ledger.{Holds, amiss_by, dishonest_by, replays_by, unfaithful_in}
 use Rattle.salt_verdict.specs.declared.ledger.Ledger.{Ledger}
 use Rattle.std.proofs.Common.{Bool, List, None, Option, Some, [], ap, cond, false, if◌then◌else◌, not, refl, sym, true, ◌&&◌, ◌++◌, ◌∙◌, ◌∷◌, ◌≡◌}
-use Rattle.std.proofs.lemmas.List.Elements.{filter_agree}
 use Rattle.std.specs.List.{filter}
 use Rattle.std.specs.Prelude.{is_some}
-
--- FILTERS
-
-filter_twice : {A : Type 0} (p q : A → Bool) (xs : List A) → filter p (filter q xs) ≡ filter (λ x. q x && p x) xs
-filter_twice p q [] = refl
-filter_twice {A} p q (x ∷ xs) = by (q x) (filter_twice p q xs)
-  where
-    by : (b : Bool) → filter p (filter q xs) ≡ filter (λ y. q y && p y) xs →
-        filter p (cond b (x ∷ filter q xs) (filter q xs)) ≡ cond (b && p x) (x ∷ filter (λ y. q y && p y) xs) (filter (λ y. q y && p y) xs)
-    by true more = ap (λ (l : List A). cond (p x) (x ∷ l) l) more
-    by false more = more
-
--- UNITS
-
-open_same : (trace : Trace) (u : Id) (o : Option Begun) → TellsUnit trace u o → is_open trace u ≡ is_open_unit o
-open_same trace u None t = t.standing
-open_same trace u (Some n) t = t.standing
 
 module _ (l : Ledger) (trace : Trace) (h : Holds l trace) where
   replay_same : (u : Id) → replays trace u ≡ replays_by l u
   replay_same u = λ i. same_all is_same_answer (h.answers u i) (serial (h.knows.schema i) (h.tables i) (h.vars u i) (h.done u i)).answers
 
   unfaithful_same : unfaithful_in l ≡ filter (λ u. not (replays trace u)) (open_units trace)
-  unfaithful_same =
-      sym (filter_twice (λ u. not (replays trace u)) (is_open trace) (units_begun trace)
-      ∙ filter_agree (λ u. is_open trace u && not (replays trace u)) (is_unfaithful l) (λ u. λ i. open_same trace u (begun_in u l.state.units) (h.knows.units u) i && not (replay_same u i)) (units_begun trace)
-      ∙ ap (filter (is_unfaithful l)) h.order)
+  unfaithful_same = sym (λ i. filter (λ u. not (replay_same u i)) (h.active i))
 
   turned : (u : Id) (b : Bool) → (if b then [] else u ∷ []) ≡ (if not b then u ∷ [] else [])
   turned u true = refl

@@ -1,6 +1,7 @@
 -- What is known goes on.
 use Rattle.salt_ast.specs.ProgramJudgement.{program_named}
 use Rattle.salt_ast.specs.declared.programs.ProgramDef.{ProgramDef}
+use Rattle.salt_audit.specs.Formed.{is_formed_by}
 use Rattle.salt_audit.specs.Knowing.{Knows, TellsUnit, stand_of}
 use Rattle.salt_audit.specs.Retelling.{told}
 use Rattle.salt_audit.specs.Standing.{begun_in, cont_named}
@@ -12,7 +13,7 @@ use Rattle.salt_books.proofs.Found.{cont_in-find}
 use Rattle.salt_model.specs.After.{conts_at, branched, kept, run_of, tables_after, vars_of}
 use Rattle.salt_model.specs.Statements.{Run, serial}
 use Rattle.salt_model.specs.Trace.{Trace}
-use Rattle.salt_model.specs.Units.{answers_of, done_of, kind_of, units_begun}
+use Rattle.salt_model.specs.Units.{answers_of, done_of, kind_of, open_units, units_begun}
 use Rattle.salt_model.specs.declared.events.Answer.{Answer}
 use Rattle.salt_model.specs.declared.events.Cause.{Cause}
 use Rattle.salt_model.specs.declared.events.End.TheVariants as end
@@ -29,7 +30,8 @@ use Rattle.salt_model.specs.declared.events.UnitKind.TheVariants.{Acid, Call, Fi
 use Rattle.salt_model.specs.declared.vars.Binding.{Binding}
 use Rattle.salt_values.specs.declared.cont.Cont.{Cont}
 use Rattle.salt_values.specs.declared.value.Value.{Value}
-use Rattle.salt_verdict.specs.After.{IsAfter, act_by, conts_after, fresh, one_more, order_by, rows_by}
+use Rattle.salt_verdict.proofs.Active.{open_units_on}
+use Rattle.salt_verdict.specs.After.{IsAfter, act_by, active_by, conts_after, fresh, one_more, order_by, rows_by}
 use Rattle.salt_verdict.specs.Goings.{begun_with, conts_kept, conts_noted, moved_with}
 use Rattle.salt_verdict.specs.Variables.{vars_begun, vars_called, vars_going, vars_placed}
 use Rattle.salt_verdict.specs.declared.ledger.Act.{Act}
@@ -269,8 +271,11 @@ module _ (l : Ledger) (trace : Trace) (h : Holds l trace) where
     finished = k.finished;
   }
 
-  pub holds_on : (m : Ledger) (e : Event) → Knows (record m.state { conts = conts_by e l.state }) (told trace e) → IsAfter l m e → Holds m (told trace e)
-  holds_on m e knows after =
+  active_on : (e : Event) → is_formed_by trace e ≡ true → open_units (told trace e) ≡ active_by e l.active.items
+  active_on e f = open_units_on trace e f ∙ ap (active_by e) h.active
+
+  pub holds_on : (m : Ledger) (e : Event) → is_formed_by trace e ≡ true → Knows (record m.state { conts = conts_by e l.state }) (told trace e) → IsAfter l m e → Holds m (told trace e)
+  holds_on m e f knows after =
       let conts : (kept (told trace e)).conts ≡ m.state.conts = conts_on e ∙ sym after.conts in
       record {
         knows = knows_on m.state e (conts_by e l.state) knows conts;
@@ -280,4 +285,5 @@ module _ (l : Ledger) (trace : Trace) (h : Holds l trace) where
         done = λ u. (acts_on e u).done ∙ ap done_in (sym (after.acts u));
         answers = λ u. (acts_on e u).answers ∙ ap answers_in (sym (after.acts u));
         order = order_on e ∙ sym after.order;
+        active = active_on e f ∙ sym after.active;
       }

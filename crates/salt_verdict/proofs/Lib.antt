@@ -1,11 +1,8 @@
+pub mod Active
 mod Commits
 mod Doing
 mod Faithful
-mod Going
-mod Judging
-mod Listed
-mod Meeting
-mod Named
+pub mod Going
+pub mod Listed
+pub mod Named
 mod Putting
-mod Reading
-mod Searching

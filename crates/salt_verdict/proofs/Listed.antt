@@ -14,9 +14,15 @@ or_turn true true c = refl
 or_turn true false c = refl
 or_turn false b c = refl
 
-or_group : (a b c : Bool) → (a || (b || c)) ≡ ((a || b) || c)
+pub or_group : (a b c : Bool) → (a || (b || c)) ≡ ((a || b) || c)
 or_group true b c = refl
 or_group false b c = refl
+
+pub or_swap : (a b : Bool) → (a || b) ≡ (b || a)
+or_swap true true = refl
+or_swap true false = refl
+or_swap false true = refl
+or_swap false false = refl
 
 pub has_more : (u v : Id) (us : List Id) → has_id u (us ++ v ∷ []) ≡ (is_same_id u v || has_id u us)
 has_more u v [] = refl

@@ -10,7 +10,7 @@ use Rattle.salt_model.specs.declared.events.End.{End}
 use Rattle.salt_model.specs.declared.events.Event.TheVariants.{Began, Did, Ended}
 use Rattle.salt_model.specs.declared.events.Event.{Event}
 use Rattle.salt_model.specs.declared.vars.Binding.{Binding}
-use Rattle.salt_values.specs.Id.{is_same_id}
+use Rattle.salt_values.specs.Id.{is_same_id, without}
 use Rattle.salt_values.specs.declared.cont.Cont.{Cont}
 use Rattle.salt_values.specs.declared.id.Id.{Id}
 use Rattle.salt_verdict.specs.Goings.{conts_noted}
@@ -55,6 +55,11 @@ abbrev pub order_by : Event → List Id → List Id
 order_by (Began u kind) order = order ++ u ∷ []
 order_by e order = order
 
+abbrev pub active_by : Event → List Id → List Id
+active_by (Began u kind) us = us ++ u ∷ []
+active_by (Ended u end) us = without (u ∷ []) us
+active_by e us = us
+
 -- where programs go on, with their variables
 abbrev pub conts_after : Event → Ledger → List Cont
 conts_after (Ended u (Committed n)) l = conts_noted l.state.catalogue n (run_by l u).vars (begun_in u l.state.units) l.state.conts
@@ -67,3 +72,4 @@ pub record IsAfter (l m : Ledger) (e : Event) : Type 0 where
   pub conts : m.state.conts ≡ conts_after e l
   pub acts : (u : Id) → act_in u m.acts ≡ act_by e l.state l.acts u
   pub order : m.order ≡ order_by e l.order
+  pub active : m.active.items ≡ active_by e l.active.items

@@ -4,11 +4,10 @@ use Rattle.salt_audit.specs.Order.{id_cmp}
 use Rattle.salt_audit.specs.Laws.{is_same_answer, same_all}
 use Rattle.salt_audit.specs.Knowing.{Knows}
 use Rattle.salt_audit.specs.Replaying.{is_amiss}
-use Rattle.salt_audit.specs.Standing.{begun_in, is_open_unit}
 use Rattle.salt_model.specs.After.{kept, tables_after, vars_of}
 use Rattle.salt_model.specs.Statements.{Run, serial}
 use Rattle.salt_model.specs.Trace.{Trace}
-use Rattle.salt_model.specs.Units.{answers_of, done_of, units_begun}
+use Rattle.salt_model.specs.Units.{answers_of, done_of, open_units, units_begun}
 use Rattle.salt_model.specs.declared.events.Answer.{Answer}
 use Rattle.salt_model.specs.declared.events.Event.TheVariants.{Did, Ended}
 use Rattle.salt_model.specs.declared.events.Event.{Event}
@@ -19,7 +18,7 @@ use Rattle.salt_verdict.specs.declared.ledger.Act.{Act}
 use Rattle.salt_verdict.specs.declared.ledger.Ledger.{Ledger}
 use Rattle.std.specs.BTreeMap.{BTreeMap, get}
 use Rattle.std.specs.List.{filter}
-use Rattle.std.specs.Prelude.{Bool, List, None, Option, Some, [], if◌then◌else◌, not, ◌&&◌, ◌++◌, ◌∷◌, ◌≡◌}
+use Rattle.std.specs.Prelude.{Bool, List, None, Option, Some, [], if◌then◌else◌, not, ◌++◌, ◌∷◌, ◌≡◌}
 
 -- what the unit of this name has done
 abbrev pub act_in : Id → BTreeMap Id Act → Option Act
@@ -45,12 +44,13 @@ run_by l u = let act = act_in u l.acts in serial l.state.schema (tables_made l.r
 abbrev pub replays_by : Ledger → Id → Bool
 replays_by l u = same_all is_same_answer (answers_in (act_in u l.acts)) (run_by l u).answers
 
--- the unit is open, and a replay does not give its answers
+-- a replay does not give the unit's answers
 abbrev pub is_unfaithful : Ledger → Id → Bool
-is_unfaithful l u = is_open_unit (begun_in u l.state.units) && not (replays_by l u)
+is_unfaithful l u = not (replays_by l u)
 
+-- the open units of which that is so
 abbrev pub unfaithful_in : Ledger → List Id
-unfaithful_in l = filter (is_unfaithful l) l.order
+unfaithful_in l = filter (is_unfaithful l) l.active.items
 
 abbrev pub amiss_of : Ledger → Id → Event → List Id
 amiss_of l u e = if is_amiss e (answers_in (act_in u l.acts)) then u ∷ [] else []
@@ -74,3 +74,4 @@ pub record Holds (l : Ledger) (trace : Trace) : Type 0 where
   pub done : (u : Id) → done_of u trace ≡ done_in (act_in u l.acts)
   pub answers : (u : Id) → answers_of u trace ≡ answers_in (act_in u l.acts)
   pub order : units_begun trace ≡ l.order
+  pub active : open_units trace ≡ l.active.items

@@ -1,11 +1,6 @@
 pub mod After
 pub mod Again
 pub mod Goings
-pub mod Judging
 pub mod Ledger
 pub mod Made
-pub mod Meetings
-pub mod ReadAfter
-pub mod Reads
-pub mod Searching
 pub mod Variables

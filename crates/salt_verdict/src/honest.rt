@@ -1,13 +1,12 @@
 //! Which units are not honest.
 
 ghost use Rattle.salt_verdict.specs.Ledger.{amiss_by, amiss_of, is_unfaithful, replays_by, unfaithful_in};
-ghost use Rattle.salt_audit.specs.Standing.{begun_in, is_open_unit};
 ghost use Rattle.std.specs.Prelude.{IfOk, OnOk, [], if◌then◌else◌, ◌++◌, ◌∷◌, ◌≡◌};
 
 use crate::acts::{act_of, copy_vars};
 use crate::answers::are_same_answers;
 use crate::ledger::Ledger;
-use salt_audit::{begun, is_amiss};
+use salt_audit::is_amiss;
 use salt_eval::ViewErr;
 use salt_model::Event;
 use salt_values::{Id, Ids};
@@ -28,23 +27,11 @@ fn replays(alloc: Global, ledger: &Ledger, unit: Id) -> Result<bool, ViewErr>
     Ok(are_same_answers(act.answers.as_slice(), again.answers.as_slice()))
 }
 
-fn is_open(ledger: &Ledger, unit: Id) -> bool
-    ensures { result ≡ is_open_unit (begun_in unit ledger.now.state.units) }
-{
-    match begun(&ledger.state.units, unit) {
-        Some(note) => note.is_open,
-        None => false,
-    }
-}
-
-/// Whether a unit is open, and a replay does not give its answers.
+/// Whether a replay does not give a unit's answers.
 fn is_unfaithful(alloc: Global, ledger: &Ledger, unit: Id) -> Result<bool, ViewErr>
     ensures { IfOk result (λ is. is ≡ is_unfaithful ledger.now unit) }
 {
-    if is_open(ledger, unit) {
-        return Ok(!replays(alloc, ledger, unit)?);
-    }
-    Ok(false)
+    Ok(!replays(alloc, ledger, unit)?)
 }
 
 fn add_if(ids: &mut Ids, unit: Id, is: bool) -> Result<(), AllocError>
@@ -61,7 +48,7 @@ pub fn unfaithful(alloc: Global, ledger: &Ledger) -> Result<Ids, ViewErr>
     ensures { IfOk result (λ ids. ids ≡ unfaithful_in ledger.now) }
 {
     let mut ids = Items::new(alloc);
-    for unit in ledger.order.as_slice() {
+    for unit in ledger.active.as_slice() {
         let is = is_unfaithful(alloc, ledger, *unit)?;
         add_if(&mut ids, *unit, is)?;
     }

@@ -31,4 +31,6 @@ pub struct Ledger {
     pub acts: Acts,
     /// The units, in the order in which they began.
     pub order: Ids,
+    /// Those of them that are open.
+    pub active: Vec<Id>,
 }

@@ -5,7 +5,7 @@ ghost use Rattle.salt_cont.specs.Catalogues.{AllLeadOn};
 ghost use Rattle.salt_model.specs.declared.events.End.TheVariants.{Committed};
 ghost use Rattle.salt_model.specs.declared.events.Event.TheVariants.{Began, Did, Ended};
 ghost use Rattle.salt_values.specs.declared.id.Id.{Id};
-ghost use Rattle.salt_verdict.specs.After.{IsAfter, act_by, commit_in, commit_of, order_by};
+ghost use Rattle.salt_verdict.specs.After.{IsAfter, act_by, active_by, commit_in, commit_of, order_by};
 ghost use Rattle.salt_verdict.specs.Again.{Gives};
 ghost use Rattle.salt_verdict.specs.Ledger.{act_in, run_by};
 ghost use Rattle.std.specs.Prelude.{IfOk, None, OnOk, [], true, ◌++◌, ◌∷◌, ◌≡◌};
@@ -20,7 +20,7 @@ use salt_ast::Statement;
 use salt_audit::{State, tell};
 use salt_eval::ViewErr;
 use salt_model::{Answer, End, Event, UnitKind};
-use salt_values::{Id, Ids, TryCopy};
+use salt_values::{Id, Ids, TryCopy, drop_ids};
 use sqlite_items::{Boxed, Items};
 use std::alloc::{AllocError, Global};
 
@@ -44,7 +44,7 @@ fn commit_of(unit: Id, end: &End) -> Option<Commit>
 }
 
 /// The commit that an event tells.
-pub fn commit_in(event: &Event) -> Option<Commit>
+fn commit_in(event: &Event) -> Option<Commit>
     ensures { result ≡ commit_in event.now }
 {
     match event {
@@ -124,6 +124,20 @@ fn note_event(
     }
 }
 
+/// What an event tells of the units that are open.
+fn note_active(active: &mut Vec<Id>, event: &Event) -> Result<(), AllocError>
+    ensures { OnOk result (active.new.items ≡ active_by event.now active.old.items) }
+{
+    match event {
+        Event::Began { unit, .. } => active.push(*unit),
+        Event::Ended { unit, .. } => {
+            drop_ids(active, &[*unit]);
+            Ok(())
+        }
+        _ => Ok(()),
+    }
+}
+
 /// A unit commits.
 fn take_commit(alloc: Global, ledger: &mut Ledger, unit: Id, number: u64) -> Result<(), ViewErr>
     requires formed { is_formed_at ledger.old.state (Ended unit (Committed number)) ≡ true }
@@ -139,6 +153,7 @@ fn take_commit(alloc: Global, ledger: &mut Ledger, unit: Id, number: u64) -> Res
     } = again;
     tell_commit(alloc, &mut ledger.state, unit, number, done.vars.as_slice())?;
     ledger.rows.commit(alloc, done.into_changes())?;
+    drop_ids(&mut ledger.active, &[unit]);
     Ok(())
 }
 
@@ -157,6 +172,7 @@ fn take_other(alloc: Global, ledger: &mut Ledger, event: &Event) -> Result<(), A
         &mut ledger.order,
         event,
     )?;
+    note_active(&mut ledger.active, event)?;
     tell(alloc, &mut ledger.state, event)?;
     Ok(())
 }

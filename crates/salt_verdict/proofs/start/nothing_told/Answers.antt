@@ -18,6 +18,7 @@ returns-clause-holds c = record {
   done = λ u. sym (ap done_in (c.no_acts.ensures u));
   answers = λ u. sym (ap answers_in (c.no_acts.ensures u));
   order = sym c.new.ensures;
+  active = sym c.new-2.ensures.items;
 }
 
 pub returns-clause-leads : goal.returns-clause-leads

@@ -25,4 +25,5 @@ returns-clause-after c =
           ∙ ap (λ (vars : List Binding). conts_noted l.state.catalogue c.args.number vars (begun_in u l.state.units) l.state.conts) (c.as_slice.ensures ∙ ap (λ (o : Outcome). o.vars) same);
       acts = λ v. refl;
       order = refl;
+      active = c.drop_ids.ensures;
     }

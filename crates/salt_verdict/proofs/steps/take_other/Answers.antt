@@ -14,4 +14,5 @@ returns-clause-after c =
       conts = behind.conts ∙ sym other.conts;
       acts = λ u. c.in_ok-note_event.ensures.acts u;
       order = c.in_ok-note_event.ensures.order;
+      active = c.in_ok-note_active.ensures;
     }

@@ -4,7 +4,7 @@ use Rattle.salt_audit.specs.Retelling.{retold}
 use Rattle.salt_audit.specs.Verdicts.{broken_by}
 use Rattle.salt_transcript.proofs.Finding.{found_broken, found_sound, found_unformed}
 use Rattle.salt_transcript.proofs.reader.Reader.take_event.Goals as goal
-use Rattle.salt_verdict.specs.Judging.{HoldsAll}
+use Rattle.salt_judge.specs.Judging.{HoldsAll}
 use Rattle.std.proofs.Common.{None, Some, [], false, refl, subst, sym, true, ◌++◌, ◌∙◌, ◌∷◌, ◌≡◌}
 
 pub returns-then-fits-clause-unformed : goal.returns-then-fits-clause-unformed

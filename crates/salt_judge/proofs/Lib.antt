@@ -1,0 +1,4 @@
+mod Judging
+mod Meeting
+mod Reading
+mod Searching

@@ -1,0 +1,5 @@
+pub mod Judging
+pub mod Meetings
+pub mod ReadAfter
+pub mod Reads
+pub mod Searching

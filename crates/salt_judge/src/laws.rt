@@ -1,0 +1,38 @@
+//! What is known judges salted and whole as the trace does.
+
+ghost use Rattle.salt_audit.specs.Formed.{is_formed_by};
+ghost use Rattle.salt_audit.specs.Laws.{unsalted, unwhole};
+ghost use Rattle.salt_audit.specs.Retelling.{told};
+ghost use Rattle.salt_judge.specs.Meetings.{HoldsMeetings, IsMetAfter, unwhole_by};
+ghost use Rattle.salt_judge.specs.ReadAfter.{IsReadAfter};
+ghost use Rattle.salt_judge.specs.Reads.{HoldsReads, unsalted_by};
+ghost use Rattle.salt_judge.specs.Searching.{IsLinked};
+ghost use Rattle.salt_judge.specs.declared.met.Meetings.{Meetings};
+ghost use Rattle.salt_judge.specs.declared.reads.Reads.{Reads};
+ghost use Rattle.salt_model.specs.Trace.{Trace};
+ghost use Rattle.salt_model.specs.declared.events.Event.{Event};
+ghost use Rattle.salt_verdict.specs.Ledger.{Holds};
+ghost use Rattle.salt_verdict.specs.declared.ledger.Ledger.{Ledger};
+ghost use Rattle.std.specs.Prelude.{true, ◌≡◌};
+
+/// The units that break salted by what is known behind an event are those that break it in the trace with it.
+pub fn salted_is_exact()
+    ensures linked { (l : Ledger) (r : Reads) (trace : Trace) → Holds l trace → HoldsReads r trace → IsLinked l r }
+    ensures exact { (l : Ledger) (r : Reads) (trace : Trace) (e : Event) → Holds l (told trace e) → HoldsReads r (told trace e) → unsalted_by l r e ≡ unsalted trace e }
+{}
+
+/// What is known of who read from whom is, behind an event, what the trace with it tells.
+pub fn reading_goes_on()
+    ensures { (l : Ledger) (r s : Reads) (trace : Trace) (e : Event) → Holds l trace → HoldsReads r trace → is_formed_by trace e ≡ true → IsReadAfter l r s e → HoldsReads s (told trace e) }
+{}
+
+/// The units that break whole by what is known behind an event are those that break it in the trace with it.
+pub fn whole_is_exact()
+    ensures { (m : Meetings) (trace : Trace) (e : Event) → HoldsMeetings m (told trace e) → unwhole_by m ≡ unwhole trace e }
+{}
+
+/// What is known of who met what is, behind an event, what the trace with it tells.
+pub fn meeting_goes_on()
+    ensures { (l : Ledger) (s : Reads) (m n : Meetings) (trace : Trace) (e : Event) → Holds l trace → HoldsReads s (told trace e) → HoldsMeetings m trace
+        → is_formed_by trace e ≡ true → IsMetAfter l s m n e → HoldsMeetings n (told trace e) }
+{}

@@ -1,0 +1,33 @@
+//! Names that are marked.
+
+ghost use Rattle.salt_values.specs.Id.{has_id, is_same_id};
+ghost use Rattle.salt_values.specs.declared.id.Id.{Id};
+ghost use Rattle.salt_judge.specs.Reads.{is_marked};
+ghost use Rattle.std.specs.Prelude.{OnOk, ◌||◌, ◌≡◌};
+
+use crate::reads::Marks;
+use salt_values::Id;
+use std::alloc::AllocError;
+
+pub fn is_marked(marks: &Marks, id: Id) -> bool
+    ensures { result ≡ is_marked id marks.now }
+{
+    marks.get(&id).is_some()
+}
+
+pub fn mark(marks: &mut Marks, id: Id) -> Result<(), AllocError>
+    ensures { OnOk result ((u : Id) → is_marked u marks.new ≡ (is_same_id u id || is_marked u marks.old)) }
+{
+    marks.insert(id, true)?;
+    Ok(())
+}
+
+/// Marks all these.
+pub fn mark_all(marks: &mut Marks, ids: &[Id]) -> Result<(), AllocError>
+    ensures { OnOk result ((u : Id) → is_marked u marks.new ≡ (has_id u ids.now || is_marked u marks.old)) }
+{
+    for id in ids {
+        mark(marks, *id)?;
+    }
+    Ok(())
+}

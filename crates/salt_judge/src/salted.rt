@@ -1,0 +1,72 @@
+//! Which units break salted.
+
+ghost use Rattle.salt_judge.specs.Reads.{is_free, program_in, unsalted_by, unsalted_of};
+ghost use Rattle.salt_judge.specs.Searching.{IsLinked};
+ghost use Rattle.std.specs.Prelude.{IfOk, OnOk, [], if◌then◌else◌, ◌++◌, ◌∷◌, ◌≡◌};
+
+use crate::marks::is_marked;
+use crate::reads::{Marks, Reads};
+use crate::search::leads_unfree;
+use salt_audit::begun;
+use salt_books::program_of;
+use salt_model::Event;
+use salt_values::{Id, Ids};
+use salt_verdict::Ledger;
+use sqlite_items::Items;
+use std::alloc::{AllocError, Global};
+
+/// The program of a subtransaction.
+pub fn program_in(ledger: &Ledger, unit: Id) -> Option<Id>
+    ensures { result ≡ program_in ledger.now unit }
+{
+    match begun(&ledger.state.units, unit) {
+        Some(note) => program_of(&note.kind),
+        None => None,
+    }
+}
+
+pub fn add_if(ids: &mut Ids, unit: Id, is: bool) -> Result<(), AllocError>
+    ensures { OnOk result (ids.new ≡ ids.old ++ (if is then unit ∷ [] else [])) }
+{
+    if is {
+        ids.push(unit)?;
+    }
+    Ok(())
+}
+
+/// Whether a program is released; a unit of none is free.
+pub fn is_free(released: &Marks, program: Option<Id>) -> bool
+    ensures { result ≡ is_free released.now program }
+{
+    match program {
+        Some(base) => is_marked(released, base),
+        None => true,
+    }
+}
+
+fn unsalted_of(alloc: Global, ledger: &Ledger, reads: &Reads, unit: Id) -> Result<Ids, AllocError>
+    ensures { IfOk result (λ ids. IsLinked ledger.now reads.now → ids ≡ unsalted_of ledger.now reads.now unit) }
+{
+    let mut ids = Items::new(alloc);
+    if program_in(ledger, unit).is_some() {
+        return Ok(ids);
+    }
+    let leads = leads_unfree(alloc, ledger, reads, unit)?;
+    add_if(&mut ids, unit, leads)?;
+    Ok(ids)
+}
+
+/// The ACID unit of an event's statement where a chain leads from it to a program that is not released, by what is known behind it.
+pub fn unsalted(
+    alloc: Global,
+    ledger: &Ledger,
+    reads: &Reads,
+    event: &Event,
+) -> Result<Ids, AllocError>
+    ensures { IfOk result (λ ids. IsLinked ledger.now reads.now → ids ≡ unsalted_by ledger.now reads.now event.now) }
+{
+    match event {
+        Event::Did { unit, .. } => unsalted_of(alloc, ledger, reads, *unit),
+        _ => Ok(Items::new(alloc)),
+    }
+}

@@ -1,5 +1,0 @@
-use Rattle.salt_verdict.proofs.Meeting.{unwhole_exactly}
-use Rattle.salt_verdict.proofs.laws.whole_is_exact.Goals as goal
-
-pub returns : goal.returns
-returns c = λ m trace e w. unwhole_exactly m trace e w

@@ -1,8 +1,0 @@
-use Rattle.salt_verdict.proofs.readers.changers.Given as goal
-use Rattle.salt_verdict.specs.ReadAfter.{is_written_within}
-use Rattle.salt_verdict.specs.declared.reads.Writing.{Writing}
-use Rattle.std.proofs.Common.{map, take, ◌≡◌}
-use Rattle.std.specs.List.{filter}
-
-abbrev pub invariant-loop-writing : goal.invariant-loop-writing
-invariant-loop-writing l = l.ids ≡ map (λ (w : Writing). w.unit) (filter (is_written_within l.reach-2) (take l.writing-index l.last))

@@ -1,9 +1,0 @@
-use Rattle.salt_verdict.proofs.search.visit_all.Given as goal
-use Rattle.salt_verdict.specs.Searching.{AreMarks, visited_all}
-use Rattle.std.proofs.Common.{take, ◌≡◌}
-
-abbrev pub invariant-loop-unit : goal.invariant-loop-unit
-invariant-loop-unit l = record {
-  marks : AreMarks l.marks l.found;
-  found : l.found ≡ visited_all l.ledger (take l.unit-index l.units) l.initial.found;
-}
