@@ -8,14 +8,14 @@ use Rattle.salt_audit.specs.Standing.{begun_in}
 use Rattle.salt_model.specs.Words.{widened}
 use Rattle.salt_values.specs.Id.{has_id, is_same_id}
 use Rattle.salt_values.specs.declared.id.Id.{Id}
-use Rattle.salt_verdict.proofs.Listed.{has_app, has_more}
+use Rattle.salt_verdict.proofs.Listed.{has_app, has_more, or_group}
 use Rattle.salt_verdict.proofs.Named.{Puts, one_put}
 use Rattle.salt_judge.specs.Reads.{chained, is_free, is_marked, is_tied_by, near, parts_near, program_in, shares_program, sources_in, ties_of}
 use Rattle.salt_judge.specs.Searching.{AreMarks, IsDone, IsLinked, Searched, is_new, visited, visited_all}
 use Rattle.salt_verdict.specs.declared.ledger.Ledger.{Ledger}
 use Rattle.salt_judge.specs.declared.reads.Reads.{Reads}
-use Rattle.std.proofs.Common.{Bool, List, None, Option, Some, [], absurd, add-one, ap, arith, cond, false, if◌then◌else◌, inl, inr, is_some, length, not, refl, subst, suc, sym, take, true, true≢false, zero, ℕ, ◌&&◌, ◌+◌, ◌++◌, ◌<◌, ◌∙◌, ◌∷◌, ◌≡◌, ◌≤◌, ◌||◌, ◌⊎◌}
-use Rattle.std.proofs.lemmas.List.{length-append, take-append-le}
+use Rattle.std.proofs.Common.{Bool, List, None, Option, Some, [], absurd, ap, arith, cond, false, get_or, if◌then◌else◌, inl, inr, is_some, length, not, refl, subst, suc, sym, take, true, true≢false, zero, ℕ, ◌&&◌, ◌+◌, ◌++◌, ◌<◌, ◌∙◌, ◌∷◌, ◌≡◌, ◌≤◌, ◌||◌, ◌⊎◌}
+use Rattle.std.proofs.lemmas.List.{length-append, take-append-le, take_more}
 use Rattle.std.specs.BTreeMap.{BTreeMap, get}
 use Rattle.std.specs.List.{list_all}
 use Rattle.std.specs.Prelude.{slice_get}
@@ -32,6 +32,13 @@ mark_put old new v w u = ap (λ (o : Option Bool). is_some o) (one_put old new v
     by : (t : Bool) → is_some (if t then Some true else get id_cmp old u) ≡ (t || is_some (get id_cmp old u))
     by true = refl
     by false = refl
+
+-- one more is marked
+pub has_taken : (u : Id) (us : List Id) (i : ℕ) (d : Id) → i < length us → has_id u (take (i + 1) us) ≡ (is_same_id u (get_or us i d) || has_id u (take i us))
+has_taken u us i d within = ap (has_id u) (take_more us i d within) ∙ has_more u (get_or us i d) (take i us)
+
+pub marked_on : (u v : Id) (new old first : Bool) (taken : Bool) → new ≡ (is_same_id u v || old) → old ≡ (taken || first) → new ≡ ((is_same_id u v || taken) || first)
+marked_on u v new old first taken e f = e ∙ ap (λ (t : Bool). is_same_id u v || t) f ∙ or_group (is_same_id u v) taken first
 
 -- PLACES
 
@@ -109,9 +116,9 @@ module _ (l : Ledger) where
   visited_app [] vs found = refl
   visited_app (u ∷ us) vs found = visited_app us vs (visited l u found)
 
-  pub visited_more : (us found : List Id) (i : ℕ) (u : Id) → slice_get us i ≡ Some u → visited l u (visited_all l (take i us) found) ≡ visited_all l (take (suc i) us) found
-  visited_more us found i u e =
-      visited_app (take i us) (u ∷ []) found ∙ ap (λ (vs : List Id). visited_all l vs found) (sym (at_place us i u e).1)
+  pub visited_more : (us found : List Id) (i : ℕ) (d : Id) → i < length us → visited l (get_or us i d) (visited_all l (take i us) found) ≡ visited_all l (take (i + 1) us) found
+  visited_more us found i d within =
+      visited_app (take i us) (get_or us i d ∷ []) found ∙ ap (λ (vs : List Id). visited_all l vs found) (sym (take_more us i d within))
 
   -- by what is marked
   pub visit_marked : (marks : BTreeMap Id Bool) (found : List Id) (u : Id) → AreMarks marks found → (is_some (begun_in u l.state.units) && not (is_marked u marks)) ≡ is_new l found u

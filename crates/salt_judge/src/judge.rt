@@ -127,5 +127,6 @@ pub fn judge_event(
         event,
     )?;
     take_event(alloc, &mut judge.ledger, event)?;
-    broken(alloc, judge, amiss, event)
+    let found = broken(alloc, judge, amiss, event)?;
+    Ok(found)
 }

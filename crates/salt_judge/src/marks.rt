@@ -3,11 +3,19 @@
 ghost use Rattle.salt_values.specs.Id.{has_id, is_same_id};
 ghost use Rattle.salt_values.specs.declared.id.Id.{Id};
 ghost use Rattle.salt_judge.specs.Reads.{is_marked};
-ghost use Rattle.std.specs.Prelude.{OnOk, ◌||◌, ◌≡◌};
+ghost use Rattle.std.specs.Prelude.{OnOk, false, ◌||◌, ◌≡◌};
 
 use crate::reads::Marks;
 use salt_values::Id;
-use std::alloc::AllocError;
+use std::alloc::{AllocError, Global};
+use std::collections::BTreeMap;
+
+/// Nothing is marked.
+pub fn no_marks(alloc: Global) -> Marks
+    ensures { (u : Id) → is_marked u result ≡ false }
+{
+    BTreeMap::new(alloc)
+}
 
 pub fn is_marked(marks: &Marks, id: Id) -> bool
     ensures { result ≡ is_marked id marks.now }

@@ -125,7 +125,10 @@ fn push_touch(taken: &mut Vec<Touch>, unit: Id, reach: Option<Reach>) -> Result<
     ensures { OnOk result (taken.new.items ≡ taken.old.items ++ touches_of unit reach) }
 {
     match reach {
-        Some(reach) => taken.push(Touch { unit, reach }),
+        Some(reach) => {
+            taken.push(Touch { unit, reach })?;
+            Ok(())
+        }
         None => Ok(()),
     }
 }

@@ -7,7 +7,7 @@ ghost use Rattle.salt_judge.specs.Searching.{AreMarks, IsLinked, visited, visite
 ghost use Rattle.std.specs.List.{list_all};
 ghost use Rattle.std.specs.Prelude.{IfOk, OnOk, [], OnSome, is_some, length, not, slice_get, ◌&&◌, ◌++◌, ◌<◌, ◌||◌, ◌∷◌, ◌≡◌};
 
-use crate::marks::{is_marked, mark};
+use crate::marks::{is_marked, mark, no_marks};
 use crate::reads::{Marks, Reads, Sources};
 use crate::salted::{is_free, program_in};
 use salt_audit::begun;
@@ -34,15 +34,25 @@ fn add(found: &mut Ids, marks: &mut Marks, unit: Id) -> Result<(), AllocError>
     Ok(())
 }
 
+fn add_new(found: &mut Ids, marks: &mut Marks, unit: Id, is: bool) -> Result<(), AllocError>
+    requires { AreMarks marks.old found.old }
+    ensures found { OnOk result (found.new ≡ (if is then found.old ++ unit ∷ [] else found.old)) }
+    ensures marks { OnOk result (AreMarks marks.new found.new) }
+{
+    if is {
+        add(found, marks, unit)?;
+    }
+    Ok(())
+}
+
 /// Finds a unit that has begun, once.
 fn visit(ledger: &Ledger, found: &mut Ids, marks: &mut Marks, unit: Id) -> Result<(), AllocError>
     requires { AreMarks marks.old found.old }
     ensures found { OnOk result (found.new ≡ visited ledger.now unit found.old) }
     ensures marks { OnOk result (AreMarks marks.new found.new) }
 {
-    if is_new(ledger, marks, unit) {
-        return add(found, marks, unit);
-    }
+    let is = is_new(ledger, marks, unit);
+    add_new(found, marks, unit, is)?;
     Ok(())
 }
 
@@ -128,7 +138,7 @@ pub fn leads_unfree(
     ensures { IfOk result (λ leads. IsLinked ledger.now reads.now → leads ≡ not (list_all (λ (u : Id). is_free reads.now.released (program_in ledger.now u)) (chained ledger.now reads.now unit))) }
 {
     let mut found = Items::new(alloc);
-    let mut marks = BTreeMap::new(alloc);
+    let mut marks = no_marks(alloc);
     add(&mut found, &mut marks, unit)?;
     let mut left = ledger.order.len();
     let mut at = 0;

@@ -2,12 +2,13 @@
 
 ghost use Rattle.salt_audit.specs.Retelling.{retold};
 ghost use Rattle.salt_judge.specs.Meetings.{HoldsMeetings, has_committed};
-ghost use Rattle.salt_judge.specs.Reads.{HoldsReads, is_marked, sources_in};
+ghost use Rattle.salt_judge.specs.Reads.{HoldsReads, sources_in};
 ghost use Rattle.salt_values.specs.declared.id.Id.{Id};
 ghost use Rattle.std.specs.Prelude.{[], false, ◌≡◌};
 
+use crate::marks::no_marks;
 use crate::met::{Ending, Meetings};
-use crate::reads::{Marks, Reads, Sources};
+use crate::reads::{Reads, Sources};
 use salt_values::Id;
 use sqlite_items::Items;
 use std::alloc::Global;
@@ -15,12 +16,6 @@ use std::collections::BTreeMap;
 
 fn no_sources(alloc: Global) -> BTreeMap<Id, Sources>
     ensures { (u : Id) → sources_in u result ≡ [] }
-{
-    BTreeMap::new(alloc)
-}
-
-fn no_marks(alloc: Global) -> Marks
-    ensures { (u : Id) → is_marked u result ≡ false }
 {
     BTreeMap::new(alloc)
 }

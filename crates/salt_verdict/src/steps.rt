@@ -129,7 +129,10 @@ fn note_active(active: &mut Vec<Id>, event: &Event) -> Result<(), AllocError>
     ensures { OnOk result (active.new.items ≡ active_by event.now active.old.items) }
 {
     match event {
-        Event::Began { unit, .. } => active.push(*unit),
+        Event::Began { unit, .. } => {
+            active.push(*unit)?;
+            Ok(())
+        }
         Event::Ended { unit, .. } => {
             drop_ids(active, &[*unit]);
             Ok(())
