@@ -1,5 +1,5 @@
 -- What is known of who read from whom goes on, and is judged as the trace is.
-use Rattle.law_states.specs.Overlays.{Edit}
+use Rattle.law_states.specs.Overlays.{Edit, edit_of, edits_of}
 use Rattle.salt_audit.specs.Formed.{is_formed_by}
 use Rattle.salt_audit.specs.Laws.{changed_in, changers_in, in_chains, is_tied, read_from, unsalted, written_from}
 use Rattle.salt_audit.specs.Retelling.{told}
@@ -22,12 +22,13 @@ use Rattle.salt_model.specs.declared.events.Event.{Event}
 use Rattle.salt_model.specs.declared.events.UnitKind.{UnitKind}
 use Rattle.salt_model.specs.declared.locks.Reach.{Reach}
 use Rattle.salt_values.specs.Id.{has_id, is_same_id, without}
+use Rattle.salt_values.specs.declared.change.Change.{Change}
 use Rattle.salt_values.specs.declared.id.Id.{Id}
 use Rattle.salt_verdict.proofs.Active.{new_unit}
 use Rattle.salt_verdict.proofs.Going.{kind_noted, kind_same, run_same}
 use Rattle.salt_verdict.proofs.Listed.{begun_listed, has_app, or_group, or_swap}
 use Rattle.salt_verdict.specs.Ledger.{Holds, run_by}
-use Rattle.salt_judge.specs.ReadAfter.{IsReadAfter, changers, is_written_within, last_by, openings_by, parts_by, put_edits, reach_by, released_by, sources_as, sources_by, writing_of}
+use Rattle.salt_judge.specs.ReadAfter.{IsReadAfter, changers, is_written_within, last_by, openings_by, parts_by, put_edits, reach_by, released_by, sources_as, sources_by, writing_of, written_first}
 use Rattle.salt_judge.specs.Reads.{HoldsReads, chained, freed_in, is_free, is_marked, is_named, is_tied_by, program_in, program_noted, shares_program, sources_in, ties_of, unsalted_by, unsalted_of, units_read, writing_told}
 use Rattle.salt_judge.specs.Searching.{IsLinked}
 use Rattle.salt_verdict.specs.declared.ledger.Ledger.{Ledger}
@@ -38,8 +39,9 @@ use Rattle.salt_judge.specs.declared.reads.Writing.{Writing}
 use Rattle.salt_audit.proofs.Amiss.{id_is}
 use Rattle.salt_audit.specs.Order.{id_cmp}
 use Rattle.std.specs.BTreeMap.{BTreeMap, get}
-use Rattle.std.proofs.Common.{Bool, List, None, Option, Some, [], absurd, ap, cond, false, if◌then◌else◌, is_none, is_some, length, map, not, option_and_then, refl, sym, true, ◌&&◌, ◌++◌, ◌∙◌, ◌∷◌, ◌≡◌, ◌||◌}
-use Rattle.std.proofs.lemmas.List.Elements.{filter_agree}
+use Rattle.std.proofs.Common.{Bool, List, None, Option, Some, [], absurd, ap, append-nil, append_assoc, arith, cond, drop, drop-cons, false, get_or, if◌then◌else◌, is_none, is_some, length, map, not, option_and_then, refl, subst, suc, sym, take, true, ℕ, ◌+◌, ◌<◌, ◌&&◌, ◌++◌, ◌∙◌, ◌∷◌, ◌≡◌, ◌||◌}
+use Rattle.std.proofs.lemmas.List.{take_more}
+use Rattle.std.proofs.lemmas.List.Elements.{filter_more}
 use Rattle.std.specs.List.{filter, list_all}
 use Rattle.std.specs.Bool.{then_some}
 use Rattle.std.specs.Option.{option_map_or, option_or}
@@ -67,6 +69,51 @@ last_put u (d ∷ ds) ws last h =
     let w = writing_told (writing_of u d) in
     ap (λ (l : List model.Written). w ∷ filter (λ v. not (is_written_at (written_at w) v)) l) (last_put u ds ws last h)
     ∙ ap (λ (l : List model.Written). w ∷ l) (told_filtered (λ v. not (is_written_at (written_at w) v)) (put_edits u ds last))
+
+-- LISTS THAT GROW
+
+map_app : {A B : Type 0} (f : A → B) (xs ys : List A) → map f (xs ++ ys) ≡ map f xs ++ map f ys
+map_app f [] ys = refl
+map_app {B} f (x ∷ xs) ys = ap (λ (l : List B). f x ∷ l) (map_app f xs ys)
+
+-- of a list filtered and then mapped, one more
+pub mapped_more : {A B : Type 0} (f : A → B) (p : A → Bool) (xs : List A) (i : ℕ) (d : A) → i < length xs →
+    map f (filter p (take i xs)) ++ (if p (get_or xs i d) then f (get_or xs i d) ∷ [] else []) ≡ map f (filter p (take (i + 1) xs))
+mapped_more {A} f p xs i d within =
+    let x = get_or xs i d in
+    sym (ap (map f) (filter_more p xs i d within) ∙ map_app f (filter p (take i xs)) (cond (p x) (x ∷ []) []) ∙ ap (λ l. map f (filter p (take i xs)) ++ l) (by (p x)))
+  where
+    by : (t : Bool) → map f (cond t (get_or xs i d ∷ []) []) ≡ (if t then f (get_or xs i d) ∷ [] else [])
+    by true = refl
+    by false = refl
+
+freed_app : (bs : List Id) (os : List Opening) (o : Opening) → freed_in bs (os ++ o ∷ []) ≡ freed_in bs os ++ (if shares o.named bs then o.passed else [])
+freed_app bs [] o = by (shares o.named bs)
+  where
+    by : (t : Bool) → (if t then o.passed ++ [] else []) ≡ (if t then o.passed else [])
+    by true = append-nil o.passed
+    by false = refl
+freed_app bs (p ∷ os) o = by (shares p.named bs) (freed_app bs os o)
+  where
+    rest : List Id
+    rest = if shares o.named bs then o.passed else []
+
+    by : (t : Bool) → freed_in bs (os ++ o ∷ []) ≡ freed_in bs os ++ rest →
+        (if t then p.passed ++ freed_in bs (os ++ o ∷ []) else freed_in bs (os ++ o ∷ [])) ≡ (if t then p.passed ++ freed_in bs os else freed_in bs os) ++ rest
+    by true more = ap (λ (l : List Id). p.passed ++ l) more ∙ sym (append_assoc p.passed (freed_in bs os) rest)
+    by false more = more
+
+pub freed_more : (bs : List Id) (os : List Opening) (i : ℕ) (d : Opening) → i < length os →
+    freed_in bs (take i os) ++ (if shares (get_or os i d).named bs then (get_or os i d).passed else []) ≡ freed_in bs (take (i + 1) os)
+freed_more bs os i d within = sym (ap (freed_in bs) (take_more os i d within) ∙ freed_app bs (take i os) (get_or os i d))
+
+-- a change put before those behind it
+pub edits_less : (u : Id) (cs : List Change) (last : List Writing) (i : ℕ) (d : Change) → i < length cs →
+    written_first (writing_of u (edit_of (get_or cs i d))) (put_edits u (edits_of (drop (i + 1) cs)) last) ≡ put_edits u (edits_of (drop i cs)) last
+edits_less u cs last i d within =
+    let next : i + 1 ≡ suc i = omega arith in
+    ap (λ (n : ℕ). written_first (writing_of u (edit_of (get_or cs i d))) (put_edits u (edits_of (drop n cs)) last)) next
+    ∙ sym (ap (λ (l : List Change). put_edits u (edits_of l) last) (drop-cons cs i d within))
 
 -- SOURCES
 

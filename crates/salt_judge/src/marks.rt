@@ -20,7 +20,10 @@ pub fn no_marks(alloc: Global) -> Marks
 pub fn is_marked(marks: &Marks, id: Id) -> bool
     ensures { result ≡ is_marked id marks.now }
 {
-    marks.get(&id).is_some()
+    match marks.get(&id) {
+        Some(_mark) => true,
+        None => false,
+    }
 }
 
 pub fn mark(marks: &mut Marks, id: Id) -> Result<(), AllocError>

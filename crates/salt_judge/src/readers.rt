@@ -10,7 +10,7 @@ ghost use Rattle.salt_judge.specs.Reads.{freed_in, is_marked, is_named, sources_
 ghost use Rattle.salt_model.specs.Programs.{shares};
 ghost use Rattle.salt_values.specs.Id.{without};
 ghost use Rattle.std.specs.Option.{option_copied};
-ghost use Rattle.std.specs.Prelude.{IfOk, OnOk, if◌then◌else◌, ◌++◌, ◌||◌, ◌∷◌, ◌≡◌};
+ghost use Rattle.std.specs.Prelude.{IfOk, OnOk, [], if◌then◌else◌, ◌++◌, ◌||◌, ◌∷◌, ◌≡◌};
 
 use crate::marks::mark_all;
 use crate::reads::{Marks, Opening, Reads, Sources, Writing};
@@ -215,15 +215,28 @@ fn shares(left: &[Id], right: &[Id]) -> bool
     left.iter().any(|id| has_id(right, *id))
 }
 
+/// Adds what an early opening passed, if it named one of these.
+fn add_passed(
+    alloc: Global,
+    ids: &mut Ids,
+    opening: &Opening,
+    bases: &[Id],
+) -> Result<(), AllocError>
+    ensures { OnOk result (ids.new ≡ ids.old ++ (if shares opening.now.named bases.now then opening.now.passed else [])) }
+{
+    if shares(opening.named.as_slice(), bases) {
+        ids.append(Items::from_slice(alloc, opening.passed.as_slice())?)?;
+    }
+    Ok(())
+}
+
 /// The programs that these free, by early openings that named one of them.
 fn freed_in(alloc: Global, bases: &[Id], openings: &[Opening]) -> Result<Ids, AllocError>
     ensures { IfOk result (λ ids. ids ≡ freed_in bases.now openings.now) }
 {
     let mut ids = Items::new(alloc);
     for opening in openings {
-        if shares(opening.named.as_slice(), bases) {
-            ids.append(Items::from_slice(alloc, opening.passed.as_slice())?)?;
-        }
+        add_passed(alloc, &mut ids, opening, bases)?;
     }
     Ok(ids)
 }
@@ -318,7 +331,8 @@ fn note_part(
     match program {
         Some(base) => {
             let units = Items::from_slice(alloc, &[unit])?;
-            put_sources(alloc, parts, base, units)
+            put_sources(alloc, parts, base, units)?;
+            Ok(())
         }
         None => Ok(()),
     }

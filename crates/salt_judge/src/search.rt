@@ -17,11 +17,20 @@ use sqlite_items::Items;
 use std::alloc::{AllocError, Global};
 use std::collections::BTreeMap;
 
+fn has_begun(ledger: &Ledger, unit: Id) -> bool
+    ensures { result ≡ is_some (begun_in unit ledger.now.state.units) }
+{
+    match begun(&ledger.state.units, unit) {
+        Some(_note) => true,
+        None => false,
+    }
+}
+
 /// Whether a unit has begun that is not marked.
 fn is_new(ledger: &Ledger, marks: &Marks, unit: Id) -> bool
     ensures { result ≡ (is_some (begun_in unit ledger.now.state.units) && not (is_marked unit marks.now)) }
 {
-    begun(&ledger.state.units, unit).is_some() && !is_marked(marks, unit)
+    has_begun(ledger, unit) && !is_marked(marks, unit)
 }
 
 fn add(found: &mut Ids, marks: &mut Marks, unit: Id) -> Result<(), AllocError>
