@@ -12,7 +12,7 @@ use Rattle.salt_model.specs.Trace.{Trace}
 use Rattle.salt_model.specs.declared.events.Event.{Event}
 use Rattle.salt_values.specs.declared.id.Id.{Id}
 use Rattle.salt_verdict.specs.Ledger.{Holds, amiss_by, dishonest_by}
-use Rattle.std.proofs.Common.{None, Option, Some, absurd, false, is_some, refl, true, ◌≡◌}
+use Rattle.std.proofs.Common.{None, Option, Some, false, is_some, refl, true, ◌≡◌}
 use Rattle.std.specs.Option.{option_or}
 
 -- what the steps and their laws say

@@ -39,7 +39,7 @@ use Rattle.salt_judge.specs.declared.met.Meetings.{Meetings}
 use Rattle.salt_judge.specs.declared.met.Met.{Met}
 use Rattle.salt_judge.specs.declared.met.Touch.{Touch}
 use Rattle.salt_judge.specs.declared.reads.Reads.{Reads}
-use Rattle.std.proofs.Common.{Bool, List, None, Option, Some, [], absurd, ap, cond, false, if◌then◌else◌, is_none, is_some, map, not, option_and_then, refl, subst, sym, true, true≢false, ◌&&◌, ◌++◌, ◌∙◌, ◌∷◌, ◌≡◌}
+use Rattle.std.proofs.Common.{Bool, List, None, Option, Some, [], ap, cond, false, if◌then◌else◌, is_none, is_some, map, not, option_and_then, refl, subst, sym, true, true≢false, ◌&&◌, ◌++◌, ◌∙◌, ◌∷◌, ◌≡◌}
 use Rattle.std.proofs.lemmas.List.Elements.{filter-append}
 use Rattle.std.specs.BTreeMap.{BTreeMap, get}
 use Rattle.std.specs.Bool.{then_some}

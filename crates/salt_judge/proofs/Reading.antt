@@ -39,7 +39,7 @@ use Rattle.salt_judge.specs.declared.reads.Writing.{Writing}
 use Rattle.salt_audit.proofs.Amiss.{id_is}
 use Rattle.salt_audit.specs.Order.{id_cmp}
 use Rattle.std.specs.BTreeMap.{BTreeMap, get}
-use Rattle.std.proofs.Common.{Bool, List, None, Option, Some, [], absurd, ap, append-nil, append_assoc, arith, cond, drop, drop-cons, false, get_or, if◌then◌else◌, is_none, is_some, length, map, not, option_and_then, refl, subst, suc, sym, take, true, ℕ, ◌+◌, ◌<◌, ◌&&◌, ◌++◌, ◌∙◌, ◌∷◌, ◌≡◌, ◌||◌}
+use Rattle.std.proofs.Common.{Bool, List, None, Option, Some, [], ap, append-nil, append_assoc, arith, cond, drop, drop-cons, false, get_or, if◌then◌else◌, is_none, is_some, length, map, not, option_and_then, refl, subst, suc, sym, take, true, ℕ, ◌+◌, ◌<◌, ◌&&◌, ◌++◌, ◌∙◌, ◌∷◌, ◌≡◌, ◌||◌}
 use Rattle.std.proofs.lemmas.List.{take_more}
 use Rattle.std.proofs.lemmas.List.Elements.{filter_more}
 use Rattle.std.specs.List.{filter, list_all}

@@ -14,7 +14,7 @@ use Rattle.salt_judge.specs.Reads.{chained, is_free, is_marked, is_tied_by, near
 use Rattle.salt_judge.specs.Searching.{AreMarks, IsDone, IsLinked, Searched, is_new, visited, visited_all}
 use Rattle.salt_verdict.specs.declared.ledger.Ledger.{Ledger}
 use Rattle.salt_judge.specs.declared.reads.Reads.{Reads}
-use Rattle.std.proofs.Common.{Bool, List, None, Option, Some, [], absurd, ap, arith, cond, false, get_or, if◌then◌else◌, inl, inr, is_some, length, not, refl, subst, suc, sym, take, true, true≢false, zero, ℕ, ◌&&◌, ◌+◌, ◌++◌, ◌<◌, ◌∙◌, ◌∷◌, ◌≡◌, ◌≤◌, ◌||◌, ◌⊎◌}
+use Rattle.std.proofs.Common.{Bool, List, None, Option, Some, [], ap, arith, cond, false, get_or, if◌then◌else◌, inl, inr, is_some, length, not, refl, subst, suc, sym, take, true, true≢false, zero, ℕ, ◌&&◌, ◌+◌, ◌++◌, ◌<◌, ◌∙◌, ◌∷◌, ◌≡◌, ◌≤◌, ◌||◌, ◌⊎◌}
 use Rattle.std.proofs.lemmas.List.{length-append, take-append-le, take_more}
 use Rattle.std.specs.BTreeMap.{BTreeMap, get}
 use Rattle.std.specs.List.{list_all}

@@ -5,7 +5,7 @@ ghost use Rattle.salt_values.specs.declared.id.Id.{Id};
 ghost use Rattle.salt_judge.specs.Reads.{chained, is_free, is_marked, near, parts_near, program_in, sources_in};
 ghost use Rattle.salt_judge.specs.Searching.{AreMarks, IsLinked, visited, visited_all};
 ghost use Rattle.std.specs.List.{list_all};
-ghost use Rattle.std.specs.Prelude.{IfOk, OnOk, [], OnSome, is_some, length, not, slice_get, ◌&&◌, ◌++◌, ◌<◌, ◌||◌, ◌∷◌, ◌≡◌};
+ghost use Rattle.std.specs.Prelude.{IfOk, OnOk, [], OnSome, is_some, length, not, slice_get, ◌&&◌, ◌+◌, ◌++◌, ◌<◌, ◌||◌, ◌∷◌, ◌≡◌};
 
 use crate::marks::{is_marked, mark, no_marks};
 use crate::reads::{Marks, Reads, Sources};
@@ -136,6 +136,12 @@ fn item_at(ids: &Ids, at: usize) -> Option<Id>
     }
 }
 
+fn place_after(at: usize) -> Result<usize, AllocError>
+    ensures { IfOk result (λ next. next ≡ at + 1) }
+{
+    at.checked_add(1).ok_or(AllocError)
+}
+
 /// Whether a chain leads from a unit to one whose program is not released. `AllocError` too where more units are found than have begun,
 /// which are all there are.
 pub fn leads_unfree(
@@ -163,6 +169,6 @@ pub fn leads_unfree(
         }
         visit_near(ledger, reads, &mut found, &mut marks, next)?;
         left -= 1;
-        at += 1;
+        at = place_after(at)?;
     }
 }

@@ -16,7 +16,7 @@ use Rattle.salt_transcript.specs.Fronts.{GoesOnNowhere}
 use Rattle.salt_transcript.specs.Reading.{EndsBroken, EndsUnformed, GoesNowhere, HasRead, is_all_told}
 use Rattle.salt_transcript.specs.declared.reader.Reader.{Reader}
 use Rattle.salt_values.specs.declared.id.Id.{Id}
-use Rattle.std.proofs.Common.{List, [], absurd, ap, append_assoc, arith, false, length, refl, subst, suc, sym, true, ℕ, ◌+◌, ◌++◌, ◌<◌, ◌^◌, ◌∙◌, ◌∷◌, ◌≡◌}
+use Rattle.std.proofs.Common.{List, [], ap, append_assoc, arith, false, length, refl, subst, suc, sym, true, ℕ, ◌+◌, ◌++◌, ◌<◌, ◌^◌, ◌∙◌, ◌∷◌, ◌≡◌}
 
 begun : (r : Reader) (s : SoFar) (bytes rest : List ℕ) → HasRead r s → bytes ≡ text_so_far s ++ rest → Begins bytes s rest
 begun r s bytes rest h e = record { text = e; events = h.printable; items = h.showable }

@@ -16,7 +16,7 @@ use Rattle.salt_values.specs.Id.{has_id, is_same_id}
 use Rattle.salt_values.specs.declared.id.Id.{Id}
 use Rattle.salt_verdict.proofs.Listed.{begun_listed}
 use Rattle.salt_verdict.specs.After.{active_by}
-use Rattle.std.proofs.Common.{Bool, List, None, Option, Some, [], absurd, ap, cond, false, if◌then◌else◌, is_none, is_some, not, refl, subst, sym, true, ◌&&◌, ◌++◌, ◌∙◌, ◌∷◌, ◌≡◌, ◌||◌}
+use Rattle.std.proofs.Common.{Bool, List, None, Option, Some, [], ap, cond, false, if◌then◌else◌, is_none, is_some, not, refl, subst, sym, true, ◌&&◌, ◌++◌, ◌∙◌, ◌∷◌, ◌≡◌, ◌||◌}
 use Rattle.std.proofs.lemmas.List.Elements.{filter-append, filter_agree}
 use Rattle.std.specs.List.{filter}
 
