@@ -46,7 +46,7 @@ use Rattle.std.specs.Bool.{then_some}
 use Rattle.std.specs.List.{filter}
 use Rattle.std.specs.Option.{option_or}
 
-law_met : Id → locks.Taken → law.Meeting
+abbrev law_met : Id → locks.Taken → law.Meeting
 law_met a t = record { acid = a; part = t.unit }
 
 app_told : (xs ys : List Met) → map met_told xs ++ map met_told ys ≡ map met_told (xs ++ ys)

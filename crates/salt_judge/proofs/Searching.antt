@@ -56,9 +56,6 @@ past (x ∷ xs) (suc i) e = ap (λ (l : List Id). x ∷ l) (past xs i e)
 -- WHAT IS VISITED
 
 module _ (l : Ledger) where
-  begun : Id → Bool
-  begun u = is_some (begun_in u l.state.units)
-
   visit_old : (u : Id) (found : List Id) (x : Id) → In x found → In x (visited l u found)
   visit_old u found x i = by (is_new l found u)
     where
@@ -171,9 +168,6 @@ module _ (l : Ledger) (r : Reads) (linked : IsLinked l r) where
           let within : at < length found = place.0 in
           let next : at + 1 ≡ suc at = omega arith in
           visited_front l (near l r u) found (at + 1) (omega (arith, within)) ∙ ap (λ (n : ℕ). take n found) next ∙ place.1
-
-  free_in : Id → Bool
-  free_in u = is_free r.released (program_in l u)
 
   inner : (a b c : Id) → In b (ties_of l r a) → In c (ties_of l r b) → In b l.order
   inner a b c i j = (in-filter (is_tied_by l r a) b l.order i).0

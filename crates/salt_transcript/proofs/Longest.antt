@@ -37,7 +37,7 @@ item_front schema j js x =
     append_assoc (item_text schema j) (flat_map (item_text schema) js) x
     ∙ ap (λ (l : List ℕ). l ++ behind) (item_ended schema j) ∙ append_assoc (item_line schema j) (10 ∷ []) behind
 
-starts : ℕ → List ℕ → Bool
+abbrev starts : ℕ → List ℕ → Bool
 starts b [] = false
 starts b (c ∷ bytes) = c == b
 
