@@ -67,7 +67,7 @@ twice {A} p q (x ∷ xs) more = by (q x) refl (p x) refl (twice p q xs more)
     by : (s : Bool) → q x ≡ s → (t : Bool) → p x ≡ t → filter p xs ≡ filter p (filter q xs) → cond t (x ∷ filter p xs) (filter p xs) ≡ filter p (cond s (x ∷ filter q xs) (filter q xs))
     by true e true f rest = ap (λ (l : List A). x ∷ l) rest ∙ ap (λ (b : Bool). cond b (x ∷ filter p (filter q xs)) (filter p (filter q xs))) (sym f)
     by true e false f rest = rest ∙ ap (λ (b : Bool). cond b (x ∷ filter p (filter q xs)) (filter p (filter q xs))) (sym f)
-    by false e true f rest = let yes : q x ≡ true = more x f in absurd (true≢false (sym yes ∙ e))
+    by false e true f rest = let sure : q x ≡ true = more x f in absurd (true≢false (sym sure ∙ e))
     by false e false f rest = rest
 
 both_tests : {A : Type 0} (p q : A → Bool) (xs : List A) → filter (λ x. p x && q x) xs ≡ filter p (filter q xs)
@@ -119,7 +119,7 @@ one_filtered p u (Some r) false same =
 
 not_more : (p q : Bool) → (q ≡ true → p ≡ true) → not p ≡ true → not q ≡ true
 not_more true q f e = absurd cc
-not_more false true f e = let no : false ≡ true = f refl in absurd cc
+not_more false true f e = let never : false ≡ true = f refl in absurd cc
 not_more false false f e = refl
 
 some_or : (o p : Option UnitKind) → is_some p ≡ true → is_some (option_or o p) ≡ true
@@ -135,8 +135,8 @@ may_do_of trace u st x f =
     (both_true (is_open trace u) (may_do trace u st (kind_of u trace)) (may (has_opened trace) (may_come trace (event.Did u st x)) f)).1
 
 one_begun : (trace : Trace) (u : Id) (o : Option Reach) → is_some (kind_of u trace) ≡ true → Every (HasBegun trace) (locks.taken_by u o)
-one_begun trace u None yes = tt
-one_begun trace u (Some r) yes = (yes, tt)
+one_begun trace u None sure = tt
+one_begun trace u (Some r) sure = (sure, tt)
 
 listed : (a : Id) (ts : List Touch) → map (law_met a) (map touch_told ts) ≡ map met_told (map (met_as a) ts)
 listed a [] = refl
@@ -173,29 +173,29 @@ module _ (l : Ledger) (s : Reads) (m : Meetings) (trace : Trace) (h : Holds l tr
   live_less t k grows =
       let p : locks.Taken → Bool = λ x. law.is_unreleased t (program_of x.unit trace) in
       twice p unreleased (taken_in trace)
-      (λ x yes. not_more (is_program_released t (program_of x.unit trace)) (is_program_released trace (program_of x.unit trace)) (grows (program_of x.unit trace)) yes)
+      (λ x sure. not_more (is_program_released t (program_of x.unit trace)) (is_program_released trace (program_of x.unit trace)) (grows (program_of x.unit trace)) sure)
       ∙ ap (filter p) w.taken ∙ told_filtered p (is_live l s) m.taken.items (λ x. live_same t k x.unit)
 
   released_grows : (bs : List Id) (o : Option Id) → is_program_released trace o ≡ true → is_program_released (trace says event.Released bs) o ≡ true
-  released_grows bs None yes = refl
-  released_grows bs (Some b) yes = any-right b (freed_by bs trace) (released_in trace ++ bs) (any-left b (released_in trace) bs yes)
+  released_grows bs None sure = refl
+  released_grows bs (Some b) sure = any-right b (freed_by bs trace) (released_in trace ++ bs) (any-left b (released_in trace) bs sure)
 
   ready_grows : (o : Option Id) → is_program_released trace o ≡ true → is_program_released (trace says event.Ready) o ≡ true
-  ready_grows None yes = refl
-  ready_grows (Some b) yes = any-left b (released_in trace) (programs_in trace) yes
+  ready_grows None sure = refl
+  ready_grows (Some b) sure = any-left b (released_in trace) (programs_in trace) sure
 
   -- a unit begins
   live_began : (v : Id) (kind : UnitKind) → kind_of v trace ≡ None → live (told trace (event.Began v kind)) ≡ map touch_told m.taken.items
   live_began v kind none =
       agreed (HasBegun trace) (λ (t : locks.Taken). law.is_unreleased (trace says event.Began v kind) (program_of t.unit (trace says event.Began v kind))) unreleased (taken_in trace) w.begun
-      (λ t yes. same t yes (is_same_id t.unit v) refl) ∙ w.taken
+      (λ t sure. same t sure (is_same_id t.unit v) refl) ∙ w.taken
     where
       same : (t : locks.Taken) → HasBegun trace t → (b : Bool) → is_same_id t.unit v ≡ b →
           not (is_program_released trace (option_and_then program_of_kind (option_or (then_some b kind) (kind_of t.unit trace)))) ≡ not (is_program_released trace (program_of t.unit trace))
-      same t yes true is =
+      same t sure true is =
           let nothing : kind_of t.unit trace ≡ None = subst (λ (u : Id). kind_of u trace ≡ None) (sym (id_is t.unit v is)) none in
-          absurd (true≢false (sym yes ∙ ap (λ (o : Option UnitKind). is_some o) nothing))
-      same t yes false other = refl
+          absurd (true≢false (sym sure ∙ ap (λ (o : Option UnitKind). is_some o) nothing))
+      same t sure false other = refl
 
   met_same : (a : Id) (o : Option Reach) → law.met_by trace a o ≡ map met_told (met_of a o m.taken.items)
   met_same a None = refl
@@ -211,8 +211,8 @@ module _ (l : Ledger) (s : Reads) (m : Meetings) (trace : Trace) (h : Holds l tr
 
   still : (t : Bool) (u : Id) → is_committed_standing (standing u trace) ≡ has_committed m.endings u → (s : Standing) → is_committed_standing s ≡ false →
       is_committed_standing (if t then s else standing u trace) ≡ (if t then false else has_committed m.endings u)
-  still true u e s no = no
-  still false u e s no = e
+  still true u e s never = never
+  still false u e s never = e
 
   ended : (t : Bool) (u : Id) (e : End) → is_committed_standing (if t then Over e else standing u trace) ≡ (if t then is_commit e else has_committed m.endings u)
   ended true u (end.Committed n) = refl
@@ -242,7 +242,7 @@ module _ (l : Ledger) (s : Reads) (m : Meetings) (trace : Trace) (h : Holds l tr
   goes (event.Began v kind) k f = record {
     taken = live_began v kind (new_unit trace v kind f);
     begun = each (HasBegun trace) (HasBegun (trace says event.Began v kind)) (taken_in trace) w.begun
-        (λ t yes. some_or (then_some (is_same_id t.unit v) kind) (kind_of t.unit trace) yes);
+        (λ t sure. some_or (then_some (is_same_id t.unit v) kind) (kind_of t.unit trace) sure);
     met = w.met;
     committed = λ u. still (is_same_id u v) u (w.committed u) Running refl;
   }

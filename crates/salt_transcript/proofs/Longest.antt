@@ -172,10 +172,10 @@ module _ (schema : List TableDef) (all : List Item) (rest : List ℕ) (nowhere :
 -- STORIES
 
 unless : (m n : ℕ) → (m < n → ⊥) → n ≤ m
-unless m n no = by (nat_lt m n) refl
+unless m n never = by (nat_lt m n) refl
   where
     by : (t : Bool) → nat_lt m n ≡ t → n ≤ m
-    by true is = let less : m < n = grind (arith, nat_tests, is) in absurd (no less)
+    by true is = let less : m < n = grind (arith, nat_tests, is) in absurd (never less)
     by false is = grind (arith, nat_tests, is)
 
 text_app : (trace : Trace) (as_ bs : List Event) → text_on trace (as_ ++ bs) ≡ text_on trace as_ ++ text_on (told_on trace as_) bs
