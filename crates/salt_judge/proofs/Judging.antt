@@ -2,7 +2,7 @@
 use Rattle.salt_audit.specs.Formed.{is_formed_by}
 use Rattle.salt_audit.specs.Laws.{dishonest, unsalted, unwhole}
 use Rattle.salt_audit.specs.Retelling.{told}
-use Rattle.salt_audit.specs.Verdicts.{Break, breaking, broken_by}
+use Rattle.salt_audit.specs.Verdicts.{breaking, broken_by}
 use Rattle.salt_audit.specs.declared.verdict.Law.TheVariants.{Honest, Salted, Whole}
 use Rattle.salt_judge.specs.Judging.{HoldsAll, broken_in}
 use Rattle.salt_judge.specs.Meetings.{HoldsMeetings, unwhole_by}
@@ -12,7 +12,7 @@ use Rattle.salt_model.specs.Trace.{Trace}
 use Rattle.salt_model.specs.declared.events.Event.{Event}
 use Rattle.salt_values.specs.declared.id.Id.{Id}
 use Rattle.salt_verdict.specs.Ledger.{Holds, amiss_by, dishonest_by}
-use Rattle.std.proofs.Common.{None, Option, Some, false, is_some, refl, true, ◌≡◌}
+use Rattle.std.proofs.Common.{true, ◌≡◌}
 use Rattle.std.specs.Option.{option_or}
 
 -- what the steps and their laws say
@@ -35,12 +35,3 @@ pub judged_then : (before after : Judge) (trace : Trace) (e : Event) →
     broken_in after (amiss_by before.ledger e) e ≡ broken_by trace e
 judged_then before after trace e honest salted whole =
     λ i. option_or (breaking Honest (honest i)) (option_or (breaking Salted (salted i)) (breaking Whole (whole i)))
-
--- the first law that is broken
-pub some_first : (d x : Option Break) → is_some d ≡ true → d ≡ option_or d x
-some_first None x e = absurd cc
-some_first (Some b) x e = refl
-
-pub none_then : (d x : Option Break) → is_some d ≡ false → x ≡ option_or d x
-none_then None x e = refl
-none_then (Some b) x e = absurd cc

@@ -9,6 +9,7 @@ ghost use Rattle.salt_model.specs.Trace.{Trace};
 ghost use Rattle.salt_model.specs.Words.{first_of_list};
 ghost use Rattle.salt_judge.specs.Judging.{HoldsAll, broken_in};
 ghost use Rattle.salt_judge.specs.Searching.{IsLinked};
+ghost use Rattle.std.specs.Option.{option_or};
 ghost use Rattle.std.specs.Prelude.{IfOk, OnOk, [], true, ◌≡◌};
 
 use crate::laws::{meeting_goes_on, reading_goes_on, salted_is_exact, whole_is_exact};
@@ -73,6 +74,22 @@ fn breaking(alloc: Global, law: Law, ids: &[Id]) -> Result<Option<(Law, Id)>, Al
     }
 }
 
+fn first_of(
+    first: Option<(Law, Id)>,
+    second: Option<(Law, Id)>,
+    third: Option<(Law, Id)>,
+) -> Option<(Law, Id)>
+    ensures { result ≡ option_or first (option_or second third) }
+{
+    match first {
+        Some(found) => Some(found),
+        None => match second {
+            Some(found) => Some(found),
+            None => third,
+        },
+    }
+}
+
 /// The first law that is broken by what is known behind an event; these were amiss before it.
 fn broken(
     alloc: Global,
@@ -82,19 +99,14 @@ fn broken(
 ) -> Result<Option<(Law, Id)>, ViewErr>
     ensures { IfOk result (λ found. IsLinked judge.now.ledger judge.now.reads → found ≡ broken_in judge.now amiss event.now) }
 {
-    let mut ids = unfaithful(alloc, &judge.ledger)?;
-    ids.append(amiss)?;
-    let dishonest = breaking(alloc, Law::Honest, ids.as_slice())?;
-    if dishonest.is_some() {
-        return Ok(dishonest);
-    }
-    let ids = unsalted(alloc, &judge.ledger, &judge.reads, event)?;
-    let unsalted = breaking(alloc, Law::Salted, ids.as_slice())?;
-    if unsalted.is_some() {
-        return Ok(unsalted);
-    }
-    let ids = unwhole(alloc, &judge.meetings)?;
-    Ok(breaking(alloc, Law::Whole, ids.as_slice())?)
+    let mut dishonest = unfaithful(alloc, &judge.ledger)?;
+    dishonest.append(amiss)?;
+    let salted = unsalted(alloc, &judge.ledger, &judge.reads, event)?;
+    let whole = unwhole(alloc, &judge.meetings)?;
+    let first = breaking(alloc, Law::Honest, dishonest.as_slice())?;
+    let second = breaking(alloc, Law::Salted, salted.as_slice())?;
+    let third = breaking(alloc, Law::Whole, whole.as_slice())?;
+    Ok(first_of(first, second, third))
 }
 
 /// Takes over an event that may come, and judges it: the first law that is broken at the front which ends with it, with the least
