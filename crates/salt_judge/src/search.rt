@@ -5,7 +5,7 @@ ghost use Rattle.salt_values.specs.declared.id.Id.{Id};
 ghost use Rattle.salt_judge.specs.Reads.{chained, is_free, is_marked, near, parts_near, program_in, sources_in};
 ghost use Rattle.salt_judge.specs.Searching.{AreMarks, IsLinked, visited, visited_all};
 ghost use Rattle.std.specs.List.{list_all};
-ghost use Rattle.std.specs.Prelude.{IfOk, OnOk, [], OnSome, is_some, length, not, slice_get, ◌&&◌, ◌+◌, ◌++◌, ◌<◌, ◌||◌, ◌∷◌, ◌≡◌};
+ghost use Rattle.std.specs.Prelude.{IfOk, OnOk, [], OnSome, if◌then◌else◌, is_some, length, not, slice_get, ◌&&◌, ◌+◌, ◌++◌, ◌<◌, ◌||◌, ◌∷◌, ◌≡◌};
 
 use crate::marks::{is_marked, mark, no_marks};
 use crate::reads::{Marks, Reads, Sources};

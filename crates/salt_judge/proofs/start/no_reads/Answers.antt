@@ -5,7 +5,7 @@ use Rattle.std.proofs.Common.{ap, map, sym}
 
 pub returns : goal.returns
 returns c = record {
-  last = ap (map writing_told) (sym c.new.ensures);
+  last = ap (map writing_told) (sym c.new.ensures.items);
   sources = λ u. sym (c.no_sources.ensures u);
   released = λ b. sym (c.no_marks.ensures b);
   freed = λ bs. ap (freed_in bs) (sym c.new-2.ensures);

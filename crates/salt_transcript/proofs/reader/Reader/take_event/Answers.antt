@@ -7,24 +7,24 @@ use Rattle.salt_transcript.proofs.reader.Reader.take_event.Goals as goal
 use Rattle.salt_judge.specs.Judging.{HoldsAll}
 use Rattle.std.proofs.Common.{None, Some, [], false, refl, subst, sym, true, ◌++◌, ◌∙◌, ◌∷◌, ◌≡◌}
 
-pub returns-then-fits-clause-unformed : goal.returns-then-fits-clause-unformed
-returns-then-fits-clause-unformed c = λ is. record {
+pub returns-then-not-fits-clause-unformed : goal.returns-then-fits-clause-unformed
+returns-then-not-fits-clause-unformed c = λ is. record {
   found = λ story h.
       let unfit : is_formed_by (retold story) c.args.event.now ≡ false =
-      sym (c.judging_is_exact.ensures c.args.self.now.judge.ledger.state (retold story) c.args.event.now h.holds.ledger.knows) ∙ (sym c.in_ok-fits.ensures ∙ c.if-fits.true) in
+      sym (c.judging_is_exact.ensures c.args.self.now.judge.ledger.state (retold story) c.args.event.now h.holds.ledger.knows) ∙ (sym c.in_ok-fits.ensures ∙ c.if-not-fits.true) in
       found_unformed story c.args.event.now h.found unfit;
   events = refl;
 }
 
 pub judge_event-requires-clause-formed : goal.judge_event-requires-clause-formed
-judge_event-requires-clause-formed c = sym c.in_ok-fits.ensures ∙ c.if-fits.false
+judge_event-requires-clause-formed c = sym c.in_ok-fits.ensures ∙ c.if-not-fits.false
 
 pub returns-in-Some-clause-broken : goal.returns-in-Some-clause-broken
 returns-in-Some-clause-broken c = λ law unit is. record {
   found = λ story h.
       let e = c.args.event.now in
       let fits : is_formed_by (retold story) e ≡ true =
-      sym (c.judging_is_exact.ensures c.args.self.now.judge.ledger.state (retold story) e h.holds.ledger.knows) ∙ (sym c.in_ok-fits.ensures ∙ c.if-fits.false) in
+      sym (c.judging_is_exact.ensures c.args.self.now.judge.ledger.state (retold story) e h.holds.ledger.knows) ∙ (sym c.in_ok-fits.ensures ∙ c.if-not-fits.false) in
       let broken : broken_by (retold story) e ≡ Some (law, unit) = sym (c.in_ok-judge_event.ensures.broken (retold story) h.holds) ∙ cc in
       found_broken story e h.found law unit fits broken;
   events = refl;
@@ -35,7 +35,7 @@ returns-in-None-clause-goes_on c = λ is. record {
   told = λ story h.
       let e = c.args.event.now in
       let fits : is_formed_by (retold story) e ≡ true =
-      sym (c.judging_is_exact.ensures c.args.self.now.judge.ledger.state (retold story) e h.holds.ledger.knows) ∙ (sym c.in_ok-fits.ensures ∙ c.if-fits.false) in
+      sym (c.judging_is_exact.ensures c.args.self.now.judge.ledger.state (retold story) e h.holds.ledger.knows) ∙ (sym c.in_ok-fits.ensures ∙ c.if-not-fits.false) in
       let broken : broken_by (retold story) e ≡ None = sym (c.in_ok-judge_event.ensures.broken (retold story) h.holds) ∙ c.in-None.is in
       let found = found_sound story e h.found fits broken in
       record {
