@@ -6,4 +6,4 @@ use Rattle.std.proofs.Common.{map, take, ◌≡◌}
 use Rattle.std.specs.List.{filter}
 
 abbrev pub invariant-loop-touch : goal.invariant-loop-touch
-invariant-loop-touch l = l.met ≡ map (met_as l.acid) (filter (λ (t : Touch). touches t.reach l.reach-2) (take l.touch-index l.taken))
+invariant-loop-touch l = l.met ≡ map (met_as l.acid) (filter (λ (t : Touch). touches t.reach l.reach) (take l.touch-index l.taken))

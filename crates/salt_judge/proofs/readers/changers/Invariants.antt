@@ -5,4 +5,4 @@ use Rattle.std.proofs.Common.{map, take, ◌≡◌}
 use Rattle.std.specs.List.{filter}
 
 abbrev pub invariant-loop-writing : goal.invariant-loop-writing
-invariant-loop-writing l = l.ids ≡ map (λ (w : Writing). w.unit) (filter (is_written_within l.reach-2) (take l.writing-index l.last))
+invariant-loop-writing l = l.ids ≡ map (λ (w : Writing). w.unit) (filter (is_written_within l.reach) (take l.writing-index l.last))
