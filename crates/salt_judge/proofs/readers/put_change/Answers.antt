@@ -4,7 +4,7 @@ use Rattle.salt_judge.specs.ReadAfter.{is_elsewhere, writing_of, written_first}
 use Rattle.salt_judge.specs.declared.reads.Writing.{Writing}
 use Rattle.salt_values.specs.declared.value.Value.{Value}
 use Rattle.std.proofs.Common.{List, ap, rules, ◌∙◌, ◌∷◌, ◌≡◌}
-use Rattle.std.proofs.lemmas.List.Elements.{filter_same}
+use Rattle.std.proofs.lemmas.Fn.{filter_same}
 use Rattle.std.specs.List.{filter}
 
 pub returns : goal.returns
