@@ -9,5 +9,5 @@ pub returns : goal.returns
 returns c =
     let last = c.args.last.now.items in
     c.in_ok-put_changes.ensures
-    ∙ ap (λ (cs : List Change). put_edits c.args.unit (edits_of cs) last) (c.as_slice.ensures.value ∙ c.into_vec-changes.ensures ∙ c.into_changes.ensures.changes)
+    ∙ ap (λ (cs : List Change). put_edits c.args.unit (edits_of cs) last) (c.as_slice.ensures.value ∙ c.into_vec-changes.ensures.items ∙ c.into_changes.ensures.changes)
     ∙ ap (λ (o : Outcome). put_edits c.args.unit o.edits last) c.in_ok-again.ensures.outcome

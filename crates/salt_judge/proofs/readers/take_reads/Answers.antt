@@ -12,7 +12,7 @@ returns c =
     let e = c.args.event.now in
     record {
       last = c.in_ok-note_commit.ensures;
-      sources = λ u. c.in_ok-note_sources.ensures u ∙ ap (λ (ws : List Writing). sources_by e l ws r.sources u) c.as_slice.ensures;
+      sources = λ u. c.in_ok-note_sources.ensures u ∙ ap (λ (ws : List Writing). sources_by e l ws r.sources u) c.as_slice.ensures.value;
       released = λ b. c.in_ok-note_released.ensures b ∙ ap (λ (os : List Opening). released_by e l.state.bases os r.released b) c.as_slice-2.ensures;
       openings = c.in_ok-note_opening.ensures;
       parts = λ b. c.in_ok-note_parts.ensures b;
