@@ -22,11 +22,12 @@ pub fn verdict_on(alloc: Global, bytes: &[u8]) -> Result<Verdict, ViewErr>
 fn read_through(alloc: Global, bytes: &[u8]) -> Result<Verdict, ViewErr>
     ensures { IfOk result (λ verdict. IsVerdict bytes.now verdict) }
 {
+    let _size = bytes.len();
     let mut reader = Reader::new(alloc);
     let mut rest = bytes;
     'lines: loop {
         let Some((line, more)) = line_in_front(rest) else {
-            return Ok(reader.ended(rest)?);
+            return reader.ended(rest);
         };
         if let Some(verdict) = reader.next(alloc, line)? {
             return Ok(verdict);

@@ -96,7 +96,7 @@ impl Reader {
     }
 
     /// The verdict where no line is left that ends.
-    pub fn ended(&self, rest: &[u8]) -> Result<Verdict, AllocError>
+    pub fn ended(&self, rest: &[u8]) -> Result<Verdict, ViewErr>
         ensures { IfOk result (λ verdict. (s : SoFar) (bytes : List ℕ) → HasRead self.now s → length bytes < 2 ^ 64 → Inline rest.now
             → bytes ≡ text_so_far s ++ rest.now → IsVerdict bytes verdict) }
     {
@@ -108,7 +108,7 @@ impl Reader {
                 events: self.events,
             });
         }
-        self.not_text()
+        Ok(self.not_text()?)
     }
 
     /// Takes over an event, if it fits, and judges it. An `Err` leaves the reader in no state that is told.

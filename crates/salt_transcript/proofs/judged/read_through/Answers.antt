@@ -1,6 +1,6 @@
 use Rattle.salt_audit.specs.Transcripts.{text_so_far}
 use Rattle.salt_transcript.proofs.judged.read_through.Goals as goal
-use Rattle.std.proofs.Common.{List, Ok, [], ap, append_assoc, arith, length, refl, sym, ℕ, ◌+◌, ◌++◌, ◌∙◌, ◌∷◌}
+use Rattle.std.proofs.Common.{List, Ok, [], ap, append_assoc, arith, length, refl, sym, ℕ, ◌+◌, ◌++◌, ◌<◌, ◌^◌, ◌∙◌, ◌∷◌}
 use Rattle.std.proofs.lemmas.List.{length-append}
 use Rattle.std.proofs.lemmas.Result.{IfOk-weaker}
 
@@ -13,13 +13,15 @@ next-requires c = c.lines.invariant.leads
 pub returns-in_default : goal.returns-in_default
 returns-in_default c =
     let so_far = c.lines.invariant.read in
-    IfOk-weaker c.ended.result _ _ (λ verdict found. found so_far.0 c.args.bytes.now so_far.1 c.in_default.ensures so_far.2) c.ended.ensures
+    let short : length c.args.bytes.now < 2 ^ 64 = omega arith in
+    IfOk-weaker c.ended.result _ _ (λ verdict found. found so_far.0 c.args.bytes.now so_far.1 short c.in_default.ensures so_far.2) c.ended.ensures
 
 pub returns-in-Some-2 : goal.returns-in-Some-2
 returns-in-Some-2 c =
     let so_far = c.lines.invariant.read in
     let ends = rw c.in-Some-2.is at c.in_ok-verdict.ensures.ends in
-    ends so_far.0 so_far.1 c.args.bytes.now c.in-Some.more.now c.in-Some.ensures.inline
+    let short : length c.args.bytes.now < 2 ^ 64 = omega arith in
+    ends so_far.0 so_far.1 c.args.bytes.now c.in-Some.more.now short c.in-Some.ensures.inline
     (so_far.2 ∙ ap (λ (l : List ℕ). text_so_far so_far.0 ++ l) c.in-Some.ensures.text)
 
 pub lines-preserved : goal.lines-preserved

@@ -5,7 +5,6 @@ use Rattle.salt_transcript.proofs.Longest.{Laws}
 use Rattle.salt_transcript.proofs.reader.Reader.ended.Goals as goal
 use Rattle.salt_transcript.specs.Reading.{is_all_told}
 use Rattle.std.proofs.Common.{List, ap, subst, sym, ◌∙◌}
-use Rattle.std.proofs.lemmas.Result.{IfOk-weaker}
 
 pub returns-then-all_told : goal.returns-then-all_told
 returns-then-all_told c = λ s bytes h short inline e.
@@ -13,9 +12,8 @@ returns-then-all_told c = λ s bytes h short inline e.
     (ap (λ (is : List Item). is_all_told is c.args.rest.now) (sym c.as_slice.ensures) ∙ sym c.all_told.ensures ∙ c.if-all_told.true)
 
 pub returns : goal.returns
-returns c =
+returns c = λ s bytes h short inline e.
     let laws : Laws = record { whole = c.lines_of_event.ensures; agree = c.stories_agree.ensures; named = c.sound_stories_name_tables.ensures } in
-    IfOk-weaker c.not_text.result _ _ (λ verdict is s bytes h short inline e.
-    subst (IsVerdict bytes) (sym is)
+    subst (IsVerdict bytes) (sym c.in_ok-not_text.ensures)
     (unended laws c.args.self.now s bytes h short c.args.rest.now inline e
-    (ap (λ (is : List Item). is_all_told is c.args.rest.now) (sym c.as_slice.ensures) ∙ sym c.all_told.ensures ∙ c.if-all_told.false))) c.not_text.ensures
+    (ap (λ (is : List Item). is_all_told is c.args.rest.now) (sym c.as_slice.ensures) ∙ sym c.all_told.ensures ∙ c.if-all_told.false))
