@@ -7,7 +7,7 @@ use Rattle.salt_transcript.proofs.reader.Reader.take_event.Goals as goal
 use Rattle.salt_judge.specs.Judging.{HoldsAll}
 use Rattle.std.proofs.Common.{None, Some, [], false, refl, subst, sym, true, ◌++◌, ◌∙◌, ◌∷◌, ◌≡◌}
 
-pub returns-then-not-fits-clause-unformed : goal.returns-then-fits-clause-unformed
+pub returns-then-not-fits-clause-unformed : goal.returns-then-not-fits-clause-unformed
 returns-then-not-fits-clause-unformed c = λ is. record {
   found = λ story h.
       let unfit : is_formed_by (retold story) c.args.event.now ≡ false =
