@@ -13,7 +13,7 @@ returns-then-all_told c = λ s bytes h short inline e.
 
 pub returns : goal.returns
 returns c = λ s bytes h short inline e.
-    let laws : Laws = record { whole = c.lines_of_event.ensures; agree = c.stories_agree.ensures; named = c.sound_stories_name_tables.ensures } in
+    let laws : Laws = record { whole = c.lines_of_event.ensures.whole; agree = c.stories_agree.ensures; named = c.sound_stories_name_tables.ensures } in
     subst (IsVerdict bytes) (sym c.in_ok-not_text.ensures)
     (unended laws c.args.self.now s bytes h short c.args.rest.now inline e
     (ap (λ (is : List Item). is_all_told is c.args.rest.now) (sym c.as_slice.ensures) ∙ sym c.all_told.ensures ∙ c.if-all_told.false))

@@ -20,6 +20,6 @@ returns-in_ok-broken-in-Broken-clause-ends c = λ s h bytes more short inline e.
 
 pub returns-in_ok-not_text-in-NotText-clause-ends : goal.returns-in_ok-not_text-in-NotText-clause-ends
 returns-in_ok-not_text-in-NotText-clause-ends c = λ s h bytes more short inline e.
-    let laws : Laws = record { whole = c.lines_of_event.ensures; agree = c.stories_agree.ensures; named = c.sound_stories_name_tables.ensures } in
+    let laws : Laws = record { whole = c.lines_of_event.ensures.whole; agree = c.stories_agree.ensures; named = c.sound_stories_name_tables.ensures } in
     subst (IsVerdict bytes) (sym c.in_ok-not_text-in-NotText.ensures)
     (no_line laws c.args.self.now s bytes h short c.take.new.self c.args.line.now more (c.in_ok-take.ensures.not_text (ap Ok c.in-NotText.is) s h) inline e)

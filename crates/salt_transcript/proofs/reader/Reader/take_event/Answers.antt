@@ -25,7 +25,7 @@ returns-in-Some-clause-broken c = λ law unit is. record {
       let e = c.args.event.now in
       let fits : is_formed_by (retold story) e ≡ true =
       sym (c.judging_is_exact.ensures c.args.self.now.judge.ledger.state (retold story) e h.holds.ledger.knows) ∙ (sym c.in_ok-fits.ensures ∙ c.if-not-fits.false) in
-      let broken : broken_by (retold story) e ≡ Some (law, unit) = sym (c.in_ok-judge_event.ensures.broken (retold story) h.holds) ∙ cc in
+      let broken : broken_by (retold story) e ≡ Some (law, unit) = sym (c.in_ok-law.ensures.broken (retold story) h.holds) ∙ cc in
       found_broken story e h.found law unit fits broken;
   events = refl;
 }
@@ -36,10 +36,10 @@ returns-in-None-clause-goes_on c = λ is. record {
       let e = c.args.event.now in
       let fits : is_formed_by (retold story) e ≡ true =
       sym (c.judging_is_exact.ensures c.args.self.now.judge.ledger.state (retold story) e h.holds.ledger.knows) ∙ (sym c.in_ok-fits.ensures ∙ c.if-not-fits.false) in
-      let broken : broken_by (retold story) e ≡ None = sym (c.in_ok-judge_event.ensures.broken (retold story) h.holds) ∙ c.in-None.is in
+      let broken : broken_by (retold story) e ≡ None = sym (c.in_ok-law.ensures.broken (retold story) h.holds) ∙ c.in-None.is in
       let found = found_sound story e h.found fits broken in
       record {
-        holds = subst (HoldsAll c.judge_event.new.judge) (sym (told_more (retold []) story e)) (c.in_ok-judge_event.ensures.holds (retold story) h.holds);
+        holds = subst (HoldsAll c.judge_event.new.judge) (sym (told_more (retold []) story e)) (c.in_ok-law.ensures.holds (retold story) h.holds);
         found = found;
         naming = c.sound_stories_name_tables.ensures (story ++ e ∷ []) found;
       };
