@@ -1,5 +1,8 @@
 //! The trees of programs.
 
+ghost use Rattle.salt_ast.specs.ProgramJudgement.{is_base};
+ghost use Rattle.std.specs.Prelude.{◌≡◌};
+
 use crate::trees::{Fields, Statements};
 use salt_values::Name;
 use sqlite_items::Items;
@@ -63,6 +66,18 @@ pub struct ProgramDef {
     pub params: Fields,
     pub vars: Fields,
     pub body: Body,
+}
+
+impl ProgramDef {
+    /// Whether it is a BASE program.
+    pub fn is_base(&self) -> bool
+        ensures { result ≡ is_base self.now }
+    {
+        match self.body {
+            Body::Acid(_) => false,
+            Body::Base(_) => true,
+        }
+    }
 }
 
 impl Drop for ProgramDef {

@@ -73,36 +73,3 @@ pub fn block(
         UnitKind::Later { base, part } => block_next(alloc, catalogue, conts, *base, *part),
     }
 }
-
-/// Whose unit it is, copied.
-pub fn copy_kind(alloc: Global, kind: &UnitKind) -> Result<UnitKind, AllocError>
-    ensures { IfOk result (λ made. made ≡ kind.now) }
-{
-    match kind {
-        UnitKind::Acid { session } => Ok(UnitKind::Acid { session: *session }),
-        UnitKind::Call {
-            session,
-            program,
-            args,
-        } => Ok(UnitKind::Call {
-            session: *session,
-            program: program.copy(alloc)?,
-            args: args.copy(alloc)?,
-        }),
-        UnitKind::First {
-            session,
-            base,
-            program,
-            args,
-        } => Ok(UnitKind::First {
-            session: *session,
-            base: *base,
-            program: program.copy(alloc)?,
-            args: args.copy(alloc)?,
-        }),
-        UnitKind::Later { base, part } => Ok(UnitKind::Later {
-            base: *base,
-            part: *part,
-        }),
-    }
-}

@@ -5,7 +5,6 @@ ghost use Rattle.std.specs.List.{list_all};
 ghost use Rattle.std.specs.Option.{option_copied};
 ghost use Rattle.salt_ast.specs.Judgement.{statement_fault};
 ghost use Rattle.salt_ast.specs.ProgramJudgement.{program_named, session_scope};
-ghost use Rattle.salt_ast.specs.ProgramJudgement as judged;
 ghost use Rattle.salt_audit.specs.Formed.{fits_call, is_first_opening, is_part, is_same_statement};
 ghost use Rattle.salt_audit.specs.Standing.{begun_in, fits_unit, goes_on, is_formed_at, is_open_unit, may_begin_by, may_come_by, may_define_by, may_do_by, next_due, next_of};
 ghost use Rattle.law_definitions.specs.Texts.{definition_in};
@@ -15,7 +14,7 @@ ghost use Rattle.salt_values.specs.Id.{has_id};
 
 use crate::state::{Begun, State, Units};
 use law_definitions::definitions_are_read;
-use salt_ast::{Body, Line, ProgramDef, Scope, Statement, print_statement};
+use salt_ast::{Line, Scope, Statement, print_statement};
 use salt_cont::limited_are_few;
 use salt_events::read_definition;
 use salt_model::{Event, UnitKind};
@@ -43,21 +42,12 @@ fn is_open(units: &Units, unit: Id) -> bool
     }
 }
 
-fn is_base(def: &ProgramDef) -> bool
-    ensures { result ≡ judged.is_base def.now }
-{
-    match def.body {
-        Body::Acid(_) => false,
-        Body::Base(_) => true,
-    }
-}
-
 /// Whether a program of the kind is defined that takes these arguments.
 fn fits_call(catalogue: &Catalogue, base: bool, name: &Name, args: &Row) -> bool
     ensures { result ≡ fits_call base args.now (program_named catalogue.now name.now) }
 {
     match catalogue.find(name) {
-        Some(def) => is_base(def) == base && catalogue.fits(name, args),
+        Some(def) => def.is_base() == base && catalogue.fits(name, args),
         None => false,
     }
 }

@@ -6,10 +6,10 @@ ghost use Rattle.salt_values.specs.Id.{is_same_id};
 ghost use Rattle.salt_values.specs.declared.id.Id.{Id};
 ghost use Rattle.std.specs.Prelude.{IfOk, OnOk, Some, if◌then◌else◌, option_map, ◌≡◌};
 
-use crate::blocks::{block, copy_kind};
+use crate::blocks::block;
 use crate::state::{Begun, State, Units};
 use salt_model::UnitKind;
-use salt_values::{Id, next_number};
+use salt_values::{Id, TryCopy, next_number};
 use std::alloc::{AllocError, Global};
 
 /// What is noted of a unit of this name and kind as it begins.
@@ -17,7 +17,7 @@ pub fn note_of(alloc: Global, state: &State, unit: Id, kind: &UnitKind) -> Resul
     ensures { IfOk result (λ note. note ≡ begins_as state.now unit kind.now) }
 {
     let statements = block(alloc, &state.catalogue, state.conts.as_slice(), kind)?;
-    let own = copy_kind(alloc, kind)?;
+    let own = kind.copy(alloc)?;
     Ok(Begun {
         name: unit,
         kind: own,

@@ -23,10 +23,7 @@ pub fn is_base_program(def: Option<&ProgramDef>) -> bool
     ensures { result ≡ is_base_program (option_copied def.entry) }
 {
     match def {
-        Some(def) => match &def.body {
-            Body::Acid(_) => false,
-            Body::Base(_) => true,
-        },
+        Some(def) => def.is_base(),
         None => false,
     }
 }

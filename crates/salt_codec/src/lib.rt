@@ -18,4 +18,4 @@ pub use moves::{has_nulls, spelled_move, take_cont, take_move};
 pub use order::is_before;
 pub use prepared::{PreparedUnit, read_prepared, with_prepared};
 pub use rows::{put_row, take_row};
-pub use told::told_changes;
+pub use told::{told_changes, told_row};

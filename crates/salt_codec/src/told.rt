@@ -6,7 +6,8 @@ ghost use Rattle.salt_values.specs.Value.{IsValue};
 
 use salt_values::{Change, Value};
 
-fn told_row(row: &[Value])
+/// Each value in hand is a number of 64 bits, a text, or NULL.
+pub fn told_row(row: &[Value])
     ensures { Every IsValue row.now }
 {
     for value in row {

@@ -7,12 +7,12 @@ ghost use Rattle.std.specs.Map.Iter.{deref_pair};
 ghost use Rattle.std.specs.Option.{option_copied};
 ghost use Rattle.std.specs.Prelude.{IfOk, IfSome, Some, option_map, ◌<◌, ◌≡◌};
 ghost use Rattle.std.specs.declared.ops.Bound.TheVariants.{Unbounded};
-ghost use Rattle.salt_eval.specs.Views.{start_of};
 ghost use Rattle.salt_model.specs.Tables.{place, place_cmp};
 ghost use Rattle.salt_model.specs.Words.{first_of_list};
 
-use salt_model::{Place, first_place};
-use salt_ranges::{KeyRange, is_above_low};
+use salt_eval::start_of;
+use salt_model::Place;
+use salt_ranges::KeyRange;
 use salt_values::{Key, TryCopy};
 use std::alloc::{AllocError, Global};
 use std::collections::BTreeMap;
@@ -37,24 +37,6 @@ pub fn page_before(directory: &Directory, place: &Place) -> Option<u32>
 {
     let (_place, page) = directory.range(..place).next_back()?;
     Some(*page)
-}
-
-/// From the lower end of a range on, and behind a key.
-fn start_of(
-    alloc: Global,
-    table: u16,
-    lo: &Option<Key>,
-    after: Option<&Key>,
-) -> Result<Bound<Place>, AllocError>
-    ensures { IfOk result (λ start. start ≡ start_of table lo.now (option_copied after.entry)) }
-{
-    match after {
-        Some(after) if is_above_low(lo, after) => {
-            let key = after.copy(alloc)?;
-            Ok(Bound::Excluded(Place { table, key }))
-        }
-        _ => first_place(alloc, table, lo),
-    }
 }
 
 /// The first place from there on, with its page.

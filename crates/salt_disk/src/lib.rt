@@ -8,5 +8,6 @@ mod disks;
 mod marks;
 mod memory;
 
+pub use devices::copy_from;
 pub use disks::{DiskErr, Disks, write_and_sync};
 pub use memory::MemDisks;

@@ -17,7 +17,7 @@ mod view;
 
 pub use error::StatementErr;
 pub use laws::statements_see_their_reach;
-pub use map_view::{MapView, Tables};
+pub use map_view::{MapView, Tables, start_of};
 pub use meets::meets_table;
 pub use reaches::{reach, table_in};
 pub use scan::key_of;

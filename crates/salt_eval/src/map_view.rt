@@ -49,7 +49,7 @@ impl<'a> MapView<'a> {
 }
 
 /// From the lower end of a range on, and behind a key.
-fn start_of(
+pub fn start_of(
     alloc: Global,
     table: u16,
     lo: &Option<Key>,

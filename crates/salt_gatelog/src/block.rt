@@ -4,7 +4,7 @@ ghost use Rattle.std.specs.Result.{result_err};
 ghost use Rattle.salt_disk.specs.Disks.{HasCause, IsRead, KeepsAll, OnlyFails};
 ghost use Rattle.salt_gatelog.specs.Block.{IsBlock, IsEmpty};
 
-use salt_disk::{DiskErr, Disks};
+use salt_disk::{DiskErr, Disks, copy_from};
 use std::alloc::{AllocError, Global};
 
 /// How many bytes are read at once.
@@ -18,19 +18,6 @@ pub struct Block {
     pub asked: usize,
     pub count: usize,
     pub bytes: Vec<u8>,
-}
-
-/// Copies the bytes from `at` on, as many as there are and as fit.
-fn copy_from(bytes: &[u8], at: u64, buf: &mut [u8]) -> usize
-    ensures { IsRead bytes.now at buf.old buf.new result }
-{
-    let rest = match usize::try_from(at) {
-        Ok(at) if at < bytes.len() => &bytes[at..],
-        _ => &[],
-    };
-    let count = rest.len().min(buf.len());
-    buf[..count].copy_from_slice(&rest[..count]);
-    count
 }
 
 impl Block {

@@ -2,8 +2,9 @@
 
 use crate::shown::Items as ShownItems;
 use salt_ast::{LimitName, Pairs, Statement};
-use salt_values::{Bytes, Id, Ids, Name, Row, Rows, Value};
+use salt_values::{Bytes, Id, Ids, Name, Row, Rows, TryCopy, Value};
 use sqlite_items::{Boxed, Items};
+use std::alloc::{AllocError, Global};
 
 /// A unit, or a BASE program.
 #[derive(Clone, Copy, Debug, PartialEq, Eq)]
@@ -39,6 +40,38 @@ pub enum UnitKind {
         base: Id,
         part: u32,
     },
+}
+
+impl TryCopy for UnitKind {
+    fn copy(&self, alloc: Global) -> Result<UnitKind, AllocError> {
+        match self {
+            UnitKind::Acid { session } => Ok(UnitKind::Acid { session: *session }),
+            UnitKind::Call {
+                session,
+                program,
+                args,
+            } => Ok(UnitKind::Call {
+                session: *session,
+                program: program.copy(alloc)?,
+                args: args.copy(alloc)?,
+            }),
+            UnitKind::First {
+                session,
+                base,
+                program,
+                args,
+            } => Ok(UnitKind::First {
+                session: *session,
+                base: *base,
+                program: program.copy(alloc)?,
+                args: args.copy(alloc)?,
+            }),
+            UnitKind::Later { base, part } => Ok(UnitKind::Later {
+                base: *base,
+                part: *part,
+            }),
+        }
+    }
 }
 
 impl Drop for UnitKind {

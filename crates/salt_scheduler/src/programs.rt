@@ -1,29 +1,19 @@
 //! What is refused of calls, and of turns of programs.
 
 ghost use Rattle.salt_ast.specs.ProgramJudgement.{call_fault, call_kept_limit, faulty, go_fault, kept};
-ghost use Rattle.salt_ast.specs.ProgramJudgement as judged;
 ghost use Rattle.salt_ast.specs.ProgramTexts.{base_text};
 ghost use Rattle.salt_scheduler.specs.Refusals.{told};
 ghost use Rattle.std.specs.Option.{option_or};
 ghost use Rattle.std.specs.Prelude.{IfOk, [], option_map, ◌≡◌};
 
 use itoa::Buffer;
-use salt_ast::{Body, LimitName, ProgramDef};
+use salt_ast::LimitName;
 use salt_model::Refusal;
 use salt_program::Catalogue;
 use salt_values::limits::BASES_MOST;
 use salt_values::{Id, Name, Row, TryCopy};
 use sqlite_items::Items;
 use std::alloc::{AllocError, Global};
-
-fn is_base(def: &ProgramDef) -> bool
-    ensures { result ≡ judged.is_base def.now }
-{
-    match def.body {
-        Body::Acid(_) => false,
-        Body::Base(_) => true,
-    }
-}
 
 /// The refusal of a call where so many BASE programs are in their first part, or accepted and not released.
 #[tactic(auto, unfolding(salt_ast::specs::ProgramJudgement::call_fault))]
@@ -40,7 +30,7 @@ pub fn call_refusal(
     let Some(def) = catalogue.find(program) else {
         return Ok(Some(Refusal::Unknown(program.copy(alloc)?)));
     };
-    if is_base(def) && BASES_MOST <= unreleased {
+    if def.is_base() && BASES_MOST <= unreleased {
         return Ok(Some(Refusal::Limit(LimitName::Bases)));
     }
     if catalogue.fits(program, args) {

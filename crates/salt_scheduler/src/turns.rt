@@ -17,14 +17,14 @@ ghost use Rattle.salt_units.specs.Acting.{leaves_keys};
 use crate::called::note_call;
 use crate::circles::is_calm_behind;
 use crate::follow::{Follow, opens_alone};
-use crate::kinds::{copy_kind, copy_statement, is_statement_line};
+use crate::kinds::{copy_statement, is_statement_line};
 use crate::scheduler::Scheduler;
 use salt_ast::Line;
 use salt_books::{Asking, Coming, cause_of, lent, unboxed};
 use salt_conflicts::Waiter;
 use salt_eval::Tables;
 use salt_model::{Event, Owners, UnitKind};
-use salt_values::Id;
+use salt_values::{Id, TryCopy};
 use std::alloc::AllocError;
 
 impl Scheduler {
@@ -34,7 +34,7 @@ impl Scheduler {
     pub(crate) fn begin(&mut self, line: &Line, kind: UnitKind) -> Result<Event, AllocError>
         ensures { IfOk result (λ e. DoesNext (λ s r. Some (begins_in s.units kind)) line.now self.old self.new e) }
     {
-        let told = copy_kind(self.alloc, &kind)?;
+        let told = kind.copy(self.alloc)?;
         note_call(&mut self.called, &kind)?;
         let alone = opens_alone(line, &kind);
         let unit = self.books.begin(kind, is_statement_line(line))?;
