@@ -15,7 +15,7 @@ use Rattle.law_states.specs.States.{After, Keeps, State}
 use Rattle.law_states.specs.UnitFacts.{covered_by, facts_in}
 use Rattle.law_story.proofs.CalledNames.{names-kept}
 use Rattle.law_story.proofs.WellKept.{of-start}
-use Rattle.salt_drain.specs.Recovering.{HasDoneEvent}
+use Rattle.salt_drain.specs.Recovering.{HasDoneEvent, books_of}
 use Rattle.salt_drain.specs.declared.recovery.Recovery.{Recovery}
 use Rattle.salt_driver.specs.Standing.{IsSoundPoint}
 use Rattle.salt_model.specs.Kept.{Kept}
@@ -63,7 +63,7 @@ module _ (x : Recovery) (bs : List Id) (p : Point) (sound : IsSoundPoint p) (t :
   abbrev before : State
   before = record { units = t.units; watch = p.state.watch; names = t.names; can_stop = t.can_stop; over_net = t.over_net; net = t.net }
 
-  over : IsEarlyOver x.books bs before
+  over : IsEarlyOver (books_of x) bs before
   over = record {
     books = d.behind.0;
     units = no-names t.units.units (sym keeps.units.units ∙ cover.units);
@@ -75,7 +75,7 @@ module _ (x : Recovery) (bs : List Id) (p : Point) (sound : IsSoundPoint p) (t :
   covers : (facts_in p.state.units (Early bs)).cover ≡ covered_by t.units.kept bs
   covers = ap (λ (s : UnitState). covered_by s.kept bs) (sym d.after.units)
 
-  module _ (goes : State → Type 0) (serves : GoesOnBehindEarly x.books goes) where
+  module _ (goes : State → Type 0) (serves : GoesOnBehindEarly (books_of x) goes) where
     made : GoesOnEarly goes (facts_in p.state.units (Early bs)) bs before
     made = serves (facts_in p.state.units (Early bs)) bs before over covers
 

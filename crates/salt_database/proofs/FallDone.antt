@@ -12,6 +12,7 @@ use Rattle.law_states.specs.Points.{Point}
 use Rattle.law_states.specs.States.{State}
 use Rattle.salt_model.specs.Kept.{Kept, schema_of}
 use Rattle.salt_drain.specs.declared.recovery.Recovery.{Recovery}
+use Rattle.salt_scheduler.specs.Standing.{books_of}
 use Rattle.salt_scheduler.specs.declared.scheduler.Scheduler.{Scheduler}
 use Rattle.salt_storage.specs.declared.found.Numbers.{Numbers}
 use Rattle.salt_values.specs.declared.id.Id.{Id}
@@ -40,6 +41,6 @@ lies-schema holds leaves stoppable found books single in_flight room p schema te
 
 pub seen-schema : (holds : Kept → Type 0) (is_new : Id → Type 0) (stage : Stage Scheduler) (s : State) (schema : List TableDef) →
     ((x : Books) → serving_books stage ≡ Some x → schema ≡ x.known.schema) → StandsAtEventIn holds is_new stage None s → schema ≡ schema_of s.units.kept
-seen-schema holds is_new (at.Going x) s schema tells h = tells x.books refl ∙ h.0.books.known.schema
+seen-schema holds is_new (at.Going x) s schema tells h = tells (books_of x) refl ∙ h.0.books.known.schema
 seen-schema holds is_new (at.Down books) s schema tells h = absurd h
 seen-schema holds is_new at.Lost s schema tells h = absurd h

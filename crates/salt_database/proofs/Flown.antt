@@ -5,7 +5,7 @@ use Rattle.salt_ast.specs.declared.programs.ProgramDef.{ProgramDef}
 use Rattle.salt_ast.specs.declared.trees.TableDef.{TableDef}
 use Rattle.salt_books.proofs.AtParts.{at-part}
 use Rattle.salt_books.proofs.CanMoves.{can-move}
-use Rattle.salt_books.specs.Books.{AreBooks, HaveUnit, IsUnitAtPart}
+use Rattle.salt_books.specs.Books.{AreBooks, HaveUnit, IsUnitAtPart, programs_in, tables_in}
 use Rattle.salt_books.specs.Coming.{IsLaterUnit}
 use Rattle.salt_books.specs.declared.books.Books.{Books}
 use Rattle.salt_bytes.specs.declared.moves.Move.{Move}
@@ -24,7 +24,7 @@ use Rattle.salt_model.specs.declared.events.Event.{Event}
 use Rattle.salt_model.specs.declared.events.Event.TheVariants.{Defined}
 use Rattle.salt_program.specs.Refusals.{program_refusal}
 use Rattle.salt_drain.proofs.Chosen.{gives-same}
-use Rattle.salt_drain.specs.Recovering.{AnswersWith}
+use Rattle.salt_drain.specs.Recovering.{AnswersWith, books_of}
 use Rattle.salt_drain.specs.declared.recovery.Recovery.{Recovery}
 use Rattle.salt_schema.specs.Refusals.{table_refusal}
 use Rattle.salt_stands.specs.OpenConts.{make_move}
@@ -37,14 +37,14 @@ module _ (x : Recovery) (i : InFlight) (f : Event) (s : State) (h : Flies x i f 
     pub commit-flies : (o : OpenUnit) × (unit_named u s.units.units ≡ Some o) × (Some f ≡ Some (commits_in s.units o))
     commit-flies = subst (λ (j : InFlight). IsInFlight (Some j) (Some f) s.units) is h.flies
 
-    pub commit-there : (y : Books) → y ≡ x.books → HaveUnit y u
+    pub commit-there : (y : Books) → y ≡ books_of x → HaveUnit y u
     commit-there y same = record {
       state = s.units;
       books = subst (λ (z : Books). AreBooks z s.units) (sym same) h.rests.stands.books;
       named = subst (λ (q : Option OpenUnit). IsSome q) (sym commit-flies.1) refl;
     }
 
-    pub commit-moves : (y : Books) → y ≡ x.books → (m : Move) → ((s : UnitState) (o : OpenUnit) → AreBooks y s → unit_named u s.units ≡ Some o → IsUnitAtPart s u → CanMove s.kept o.kind →
+    pub commit-moves : (y : Books) → y ≡ books_of x → (m : Move) → ((s : UnitState) (o : OpenUnit) → AreBooks y s → unit_named u s.units ≡ Some o → IsUnitAtPart s u → CanMove s.kept o.kind →
         make_move s.kept.conts m ≡ Some (conts_committed s.kept (next_decision s) o.kind o.vars)) →
         make_move s.units.kept.conts m ≡ Some (conts_committed s.units.kept (next_decision s.units) commit-flies.0.kind commit-flies.0.vars)
     commit-moves y same m made =
@@ -60,14 +60,14 @@ module _ (x : Recovery) (i : InFlight) (f : Event) (s : State) (h : Flies x i f 
     pub branch-flies : IsLaterUnit s.units u b × (Some f ≡ Some (branches_in s.units u cause))
     branch-flies = subst (λ (j : InFlight). IsInFlight (Some j) (Some f) s.units) is h.flies
 
-    pub branch-there : (y : Books) → y ≡ x.books → HaveUnit y u
+    pub branch-there : (y : Books) → y ≡ books_of x → HaveUnit y u
     branch-there y same = record {
       state = s.units;
       books = subst (λ (z : Books). AreBooks z s.units) (sym same) h.rests.stands.books;
       named = subst (λ (q : Option OpenUnit). IsSome q) (sym branch-flies.0.named) refl;
     }
 
-    pub branch-moves : (y : Books) → y ≡ x.books → (m : Move) → ((s : UnitState) (o : OpenUnit) → AreBooks y s → unit_named u s.units ≡ Some o → IsUnitAtPart s u → CanMove s.kept o.kind →
+    pub branch-moves : (y : Books) → y ≡ books_of x → (m : Move) → ((s : UnitState) (o : OpenUnit) → AreBooks y s → unit_named u s.units ≡ Some o → IsUnitAtPart s u → CanMove s.kept o.kind →
         make_move s.kept.conts m ≡ Some (conts_branched s.kept o.kind)) →
         make_move s.units.kept.conts m ≡ Some (conts_branched s.units.kept branch-flies.0.unit.kind)
     branch-moves y same m made =
@@ -86,7 +86,7 @@ module _ (x : Recovery) (i : InFlight) (f : Event) (s : State) (h : Flies x i f 
     pub table-flies : IsTableToCome s.units d
     table-flies = table-is.0
 
-    pub table-allowed : table_refusal x.books.known.schema d ≡ None
+    pub table-allowed : table_refusal (tables_in (books_of x)) d ≡ None
     table-allowed = ap (λ (ts : List TableDef). table_refusal ts d) h.rests.stands.books.known.schema ∙ table-flies.allowed
 
     pub table-told : (new : Recovery) (e : Event) → AnswersWith s (Some (Defined (next_decision s.units) (table_text d))) new (Some e) → AnswersWith s (Some f) new (Some e)
@@ -100,7 +100,7 @@ module _ (x : Recovery) (i : InFlight) (f : Event) (s : State) (h : Flies x i f 
     pub program-flies : IsProgramToCome s.units p
     program-flies = program-is.0
 
-    pub program-allowed : program_refusal x.books.known.schema x.books.known.catalogue p ≡ None
+    pub program-allowed : program_refusal (tables_in (books_of x)) (programs_in (books_of x)) p ≡ None
     program-allowed = (λ i. program_refusal (h.rests.stands.books.known.schema i) (h.rests.stands.books.known.catalogue i) p) ∙ program-flies.allowed
 
     pub program-told : (new : Recovery) (e : Event) → AnswersWith s (Some (Defined (next_decision s.units) (program_text p))) new (Some e) → AnswersWith s (Some f) new (Some e)

@@ -31,7 +31,7 @@ use Rattle.salt_model.specs.Phases.{Fallen, Opening}
 use Rattle.salt_model.specs.Turns.{is_statement_line}
 use Rattle.salt_model.specs.declared.events.Event.{Event}
 use Rattle.salt_model.specs.declared.events.Event.TheVariants.{Early, Ready}
-use Rattle.salt_drain.specs.Recovering.{HasDoneEvent}
+use Rattle.salt_drain.specs.Recovering.{HasDoneEvent, books_of}
 use Rattle.salt_drain.specs.declared.recovery.Recovery.{Recovery}
 use Rattle.salt_driver.specs.Draining.{MayTick}
 use Rattle.salt_driver.specs.Opening.{IsOffNet}
@@ -63,7 +63,7 @@ untold-lost x e p sound t d comes opening holds leaves fills stoppable found unf
     ap (λ (s : UnitState). s.kept) d.after.units ∙ kept-decided e p.state.units d.plain ∙ ap (λ (o : Option Event). kept_behind (decision_in o) p.state.units) (sym comes) in
     inl (
       same,
-      memory-at (λ (x : Recovery). x.books) holds leaves fills stoppable found unfound stage single in_flight p t.units.kept (flight-next p sound.trace sound.keeps (never-down p opening)) left
+      memory-at books_of holds leaves fills stoppable found unfound stage single in_flight p t.units.kept (flight-next p sound.trace sound.keeps (never-down p opening)) left
           (noted in_flight (decision_in p.next) p.state.units t.units.kept flown (inr (tt, behind))) (record { there = there; flies = inr flown }),
       refl,
     )
@@ -94,7 +94,7 @@ module _ (x : Recovery) (e : Event) (p : Point) (sound : IsSoundPoint p) (t : St
     (
       now,
       moves x e p sound t d comes going,
-      halts (λ (x : Recovery). x.books) holds leaves fills halt stoppable found unfound stage single in_flight now b now-flies (d.after.can_stop ∙ can ∙ sym same) (d.after.over_net ∙ began)
+      halts books_of holds leaves fills halt stoppable found unfound stage single in_flight now b now-flies (d.after.can_stop ∙ can ∙ sym same) (d.after.over_net ∙ began)
           (kept ∙ lined ∙ ap is_statement_line (sym (onwards-line p sound e t d.plain comes d.after))) may,
     ),
   )
@@ -114,7 +114,7 @@ serves-late (Early bs) x y ends late new = absurd (late bs refl)
 serves-late e x y ends late new = cc
 
 pub ended : (x : Recovery) (e : Event) (p : Point) (sound : IsSoundPoint p) (t : State) → HasDoneEvent x e p.state t → p.next ≡ Some e → p.state.units.phase ≡ Opening →
-    (goes : State → Type 0) → ends_opening e ≡ true → ServesBehind e x.books goes → EndsAt e p t goes
+    (goes : State → Type 0) → ends_opening e ≡ true → ServesBehind e (books_of x) goes → EndsAt e p t goes
 ended x Ready p sound t d comes opening goes ends serves = ends-ready x p sound t d comes opening goes serves
 ended x (Early bs) p sound t d comes opening goes ends serves = ends-early x bs p sound t d comes opening goes serves
 ended x e p sound t d comes opening goes ends serves = cc

@@ -10,7 +10,7 @@ use Rattle.salt_model.specs.declared.events.Event.{Event}
 use Rattle.salt_model.specs.declared.events.Event.TheVariants.{Early, Ready}
 use Rattle.law_openings.specs.Draining.{done_now, is_earlier, left_to_open, opening_stage, statements_left, units_to_cut}
 use Rattle.salt_model.specs.Rests.{rests_of}
-use Rattle.salt_drain.specs.Recovering.{HasDoneEvent, StandsBehindEvent}
+use Rattle.salt_drain.specs.Recovering.{HasDoneEvent, StandsBehindEvent, books_of}
 use Rattle.salt_drain.specs.declared.recovery.Recovery.{Recovery}
 use Rattle.std.proofs.Common.{ap, subst}
 use Rattle.std.specs.List.{filter}
@@ -21,12 +21,12 @@ left-books x s h = λ i.
     length (filter (is_earlier (h.known.boot i)) (h.units i))
     + (rests_of (h.known.catalogue i) (h.known.conts i) - done_now (h.known.boot i) (h.units i))
 
-pub behind-books : (e : Event) (x : Recovery) (s : UnitState) → StandsBehindEvent e x s → AreBooks x.books s
+pub behind-books : (e : Event) (x : Recovery) (s : UnitState) → StandsBehindEvent e x s → AreBooks (books_of x) s
 behind-books Ready x s h = h.0
 behind-books (Early bs) x s h = h.0
 behind-books e x s h = h.books
 
 pub left-at : (x : Recovery) (e : Event) (s t : State) → HasDoneEvent x e s t → left_in (Going x) (Some e) ≡ left_to_open s.units (Some e)
 left-at x e s t d =
-    let books : AreBooks x.books (units_after e s.units) = subst (AreBooks x.books) d.after.units (behind-books e x t.units d.behind) in
-    ap (λ (n : ℕ). 8 * n + opening_stage e) (left-books x.books (units_after e s.units) books)
+    let books : AreBooks (books_of x) (units_after e s.units) = subst (AreBooks (books_of x)) d.after.units (behind-books e x t.units d.behind) in
+    ap (λ (n : ℕ). 8 * n + opening_stage e) (left-books (books_of x) (units_after e s.units) books)

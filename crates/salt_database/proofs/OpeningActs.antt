@@ -15,6 +15,7 @@ use Rattle.salt_model.specs.declared.events.Event.TheVariants.{Armed}
 use Rattle.law_openings.proofs.Resting.{never-rests}
 use Rattle.salt_drain.specs.Follows.{comes_behind}
 use Rattle.salt_drain.specs.Recovering as recovering
+use Rattle.salt_drain.specs.Recovering.{behind_of}
 use Rattle.salt_drain.specs.declared.recovery.Recovery.{Recovery}
 use Rattle.salt_driver.specs.Counting.{stops_armed}
 use Rattle.salt_storage.specs.Storing.{IsSoundKept}
@@ -29,28 +30,28 @@ on-err (Err e) h = h
 
 -- SOMETHING ALWAYS COMES in an opening, and no preparation.
 
-opening-goes : (holds : Kept → Type 0) (is_new : Id → Type 0) (x : Recovery) (s : State) → GoesOnOpening holds is_new x s → IsSoundKept s.units.kept → IsSome (comes_behind x.behind s.units)
+opening-goes : (holds : Kept → Type 0) (is_new : Id → Type 0) (x : Recovery) (s : State) → GoesOnOpening holds is_new x s → IsSoundKept s.units.kept → IsSome (comes_behind (behind_of x) s.units)
 opening-goes holds is_new x s h may =
     let p = h.played in
-    never-rests (record { state = s; next = comes_behind x.behind s.units; flight = flight p.trace }) p.trace (record { state = p.keeps; next = p.next; flight = refl }) p.sound h.stands.opening
+    never-rests (record { state = s; next = comes_behind (behind_of x) s.units; flight = flight p.trace }) p.trace (record { state = p.keeps; next = p.next; flight = refl }) p.sound h.stands.opening
     (can-drain s.units.kept may)
 
 pub goes-recovers : (holds : Kept → Type 0) (is_new : Id → Type 0) (x : Recovery) (s : State) → GoesOnOpening holds is_new x s → recovering.IsRecovering s
 goes-recovers holds is_new x s h = record { sound = record { trace = h.played.trace; keeps = h.played.keeps; sound = h.played.sound }; phase = h.stands.opening }
 
 pub goes-to-open : (holds : Kept → Type 0) (is_new : Id → Type 0) (x y : Recovery) (c : Coming) (s : State) → (h : GoesOnOpening holds is_new x s) → IsSoundKept s.units.kept →
-    recovering.AnswersWithComing s (comes_behind x.behind s.units) y c → IsToOpen holds is_new y c s
+    recovering.AnswersWithComing s (comes_behind (behind_of x) s.units) y c → IsToOpen holds is_new y c s
 goes-to-open holds is_new x y c s h may b = record {
   played = subst (λ (o : Option Event). IsPlayedBefore o s) (sym b.meant) h.played;
   opens = h.stands.opening;
   comes = subst (λ (o : Option Event). IsSome o) (sym b.meant) (opening-goes holds is_new x s h may);
-  plain = ap is_prepared b.meant ∙ opening-plain x.behind s.units;
+  plain = ap is_prepared b.meant ∙ opening-plain (behind_of x) s.units;
   ready = b.ready;
   stored = by c b.meant b.ready;
 }
   where
-    by : (c : Coming) → event_meant s.units c ≡ comes_behind x.behind s.units → recovering.IsReady y s c → StoredAt holds is_new c s
-    by (coming.Told e) meant r = stored-plain holds is_new e (comes_behind x.behind s.units) s h.played (sym meant) r.0.1.plain r.1.0 h.stored
+    by : (c : Coming) → event_meant s.units c ≡ comes_behind (behind_of x) s.units → recovering.IsReady y s c → StoredAt holds is_new c s
+    by (coming.Told e) meant r = stored-plain holds is_new e (comes_behind (behind_of x) s.units) s h.played (sym meant) r.0.1.plain r.1.0 h.stored
     by coming.Nothing meant r = h.stored
     by (coming.Act a) meant r = h.stored
     by (coming.Commit u) meant r = h.stored

@@ -24,7 +24,7 @@ use Rattle.law_openings.proofs.Moving.{says-falls, units-stand}
 use Rattle.law_openings.proofs.Opening.{said-in-opening}
 use Rattle.law_openings.specs.Draining.{left_to_open}
 use Rattle.salt_drain.specs.Follows.{comes_behind, rest_in}
-use Rattle.salt_drain.specs.Recovering.{HasDoneEvent, StandsForState, StandsBehindEvent, StandsForUnits}
+use Rattle.salt_drain.specs.Recovering.{HasDoneEvent, StandsBehindEvent, StandsForState, StandsForUnits, behind_of}
 use Rattle.salt_drain.specs.declared.recovery.Recovery.{Recovery}
 use Rattle.salt_driver.specs.Opening.{IsOffNet}
 use Rattle.salt_driver.specs.Standing.{IsSoundPoint}
@@ -41,7 +41,7 @@ behind-stands e x s r h = h
 
 module _ (x : Recovery) (e : Event) (p : Point) (sound : IsSoundPoint p) (t : State) (d : HasDoneEvent x e p.state t) (comes : p.next ≡ Some e) (going : ends_opening e ≡ false) where
   abbrev pub meant : Option Event
-  meant = comes_behind x.behind t.units
+  meant = comes_behind (behind_of x) t.units
 
   pub stands : StandsForState x t
   stands = behind-stands e x t.units going d.behind

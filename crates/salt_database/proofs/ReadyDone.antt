@@ -22,7 +22,7 @@ use Rattle.salt_model.specs.Phases.{Opening, Phase}
 use Rattle.salt_model.specs.Trace.{Trace, start_of, ◌says◌, ◌turns◌}
 use Rattle.salt_model.specs.declared.events.Event.TheVariants.{Ready}
 use Rattle.law_openings.proofs.Opening.{none-to-go, ready-idle}
-use Rattle.salt_drain.specs.Recovering.{HasDoneEvent}
+use Rattle.salt_drain.specs.Recovering.{HasDoneEvent, books_of}
 use Rattle.salt_drain.specs.declared.recovery.Recovery.{Recovery}
 use Rattle.salt_driver.specs.Standing.{IsSoundPoint}
 use Rattle.std.proofs.Common.{ap, inr, subst, sym, ◌∙◌}
@@ -70,7 +70,7 @@ module _ (x : Recovery) (p : Point) (sound : IsSoundPoint p) (t : State) (d : Ha
     net = d.after.net;
   }
 
-  ready-books : AreBooks x.books t.units
+  ready-books : AreBooks (books_of x) t.units
   ready-books = d.behind.0
 
   ready-units : t.units.units ≡ []
@@ -91,7 +91,7 @@ module _ (x : Recovery) (p : Point) (sound : IsSoundPoint p) (t : State) (d : Ha
       let r = reads p sound Ready ready-state refl comes ready-after in
       says-moves p sound Ready ready-state refl comes ready-after None r (ready-rests r)
 
-  pub ends-ready : (goes : State → Type 0) → ((s : State) → AreOpened x.books s → goes s) → EndsAt Ready p t goes
+  pub ends-ready : (goes : State → Type 0) → ((s : State) → AreOpened (books_of x) s → goes s) → EndsAt Ready p t goes
   ends-ready goes serves = record {
     point = ready-point;
     moves = ready-moves;

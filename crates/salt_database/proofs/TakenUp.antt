@@ -1,6 +1,6 @@
 -- What a recovery does with what was given for what is to come.
 use Rattle.salt_books.specs.Asking.{IsAskedBy}
-use Rattle.salt_books.specs.Books.{AreBooks, HaveUnit}
+use Rattle.salt_books.specs.Books.{AreBooks, HaveUnit, tables_in}
 use Rattle.salt_books.specs.Coming.{IsLaterUnit, event_meant}
 use Rattle.salt_books.specs.declared.asking.Asking.{Asking}
 use Rattle.salt_books.specs.declared.books.Books.{Books}
@@ -12,6 +12,7 @@ use Rattle.salt_database.specs.Performing.{CanTakeUp, IsToOpen, MayStep}
 use Rattle.salt_database.specs.Standing.{OpensIn}
 use Rattle.salt_drain.proofs.Chosen.{gives-same}
 use Rattle.salt_drain.specs.Recovering as recovering
+use Rattle.salt_drain.specs.Recovering.{books_of}
 use Rattle.salt_drain.specs.declared.recovery.Recovery.{Recovery}
 use Rattle.salt_engine.proofs.Performed.{acts-meant, commits-meant, have-unit}
 use Rattle.salt_engine.specs.Flights.{IsInFlight}
@@ -83,10 +84,10 @@ module _ (x : Recovery) (a : Asking) (rows : BTreeMap Place (List Value)) (s : S
   pub act-part : recovering.IsOfPart act-unit
   act-part = can.ready.1.2
 
-  pub act-there : HaveUnit x.books a.unit
-  act-there = have-unit x.books s.units a.unit act-unit act-stands.books act-asked.named
+  pub act-there : HaveUnit (books_of x) a.unit
+  act-there = have-unit (books_of x) s.units a.unit act-unit act-stands.books act-asked.named
 
-  pub act-keys : leaves_keys x.books.known.schema a.statement ≡ true
+  pub act-keys : leaves_keys (tables_in (books_of x)) a.statement ≡ true
   act-keys = subst (λ (schema : List TableDef). leaves_keys schema a.statement ≡ true) (sym act-stands.books.known.schema) can.fits.leaves
 
   act-meant : event_meant s.units (coming.Act a) ≡ Some (does_in s.units act-unit a.statement)
@@ -112,8 +113,8 @@ module _ (x : Recovery) (u : Id) (m : Move) (s : State) (can : CanTakeUp x (give
   pub commit-named : unit_named u s.units.units ≡ Some commit-unit
   commit-named = can.fits.1
 
-  pub commit-there : HaveUnit x.books u
-  commit-there = have-unit x.books s.units u commit-unit commit-stands.books commit-named
+  pub commit-there : HaveUnit (books_of x) u
+  commit-there = have-unit (books_of x) s.units u commit-unit commit-stands.books commit-named
 
   pub commit-taken : (y : Recovery) (next : Option Event) → recovering.AnswersWith s (Some (commits_in s.units commit-unit)) y next →
       recovering.AnswersWith s (event_meant s.units (coming.Commit u)) y next
@@ -129,14 +130,14 @@ module _ (x : Recovery) (u base : Id) (cause : Cause) (m : Move) (s : State) (ca
   abbrev pub branch-unit : IsLaterUnit s.units u base
   branch-unit = can.fits.0
 
-  pub branch-there : HaveUnit x.books u
-  branch-there = have-unit x.books s.units u branch-unit.unit branch-stands.books branch-unit.named
+  pub branch-there : HaveUnit (books_of x) u
+  branch-there = have-unit (books_of x) s.units u branch-unit.unit branch-stands.books branch-unit.named
 
 -- OVER A STORAGE
 
 module _ (holds : Kept → Type 0) (is_new : Id → Type 0) (x : Recovery) (c : Coming) (s : State) (h : IsToOpen holds is_new x c s) where
   -- by its books
-  pub opens-asks : (y : Books) → y ≡ x.books → AsksFor holds is_new y c s
+  pub opens-asks : (y : Books) → y ≡ books_of x → AsksFor holds is_new y c s
   opens-asks y same = record { played = h.played; stored = h.stored; can = by c h.ready }
     where
       books : recovering.StandsForState x s → AreBooks y s.units

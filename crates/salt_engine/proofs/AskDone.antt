@@ -26,6 +26,7 @@ use Rattle.salt_model.specs.Trace.{Asked, Tree, line_asked}
 use Rattle.salt_model.specs.Turns.{ids_after, is_statement_line}
 use Rattle.salt_model.specs.declared.events.Event.{Event}
 use Rattle.salt_scheduler.proofs.Counting.{programs-apart}
+use Rattle.salt_scheduler.specs.Standing.{books_of}
 use Rattle.salt_scheduler.specs.declared.scheduler.Scheduler.{Scheduler}
 use Rattle.law_decisions.specs.Spelled.{IsSpelledLine}
 use Rattle.salt_driver.specs.Opening.{IsOffNet}
@@ -92,7 +93,7 @@ module _ (holds : Kept → Type 0) (leaves : Kept → Kept → Type 0) (fills : 
   asked-halts asked idle r b line = (
     asked_to asked p sound idle r,
     asked-moves asked p sound idle r,
-    halts (λ (x : Scheduler). x.books) holds leaves fills halt stoppable None refl stage single in_flight (asked_to asked p sound idle r) b refl (can ∙ sym same) plain line kept,
+    halts books_of holds leaves fills halt stoppable None refl stage single in_flight (asked_to asked p sound idle r) b refl (can ∙ sym same) plain line kept,
   )
 
   pub turned-halts : (b : Id) (serves : p.state.units.phase ≡ Serving) (none : p.next ≡ None) (turn : next_turn_of p.state ≡ Some b) (r : WatchReading p.state.watch) →
@@ -101,7 +102,7 @@ module _ (holds : Kept → Type 0) (leaves : Kept → Kept → Type 0) (fills : 
   turned-halts b serves none turn r broken line = (
     turned_at b p sound serves none turn r,
     turned-moves b p sound serves none turn r,
-    halts (λ (x : Scheduler). x.books) holds leaves fills halt stoppable None refl stage single in_flight (turned_at b p sound serves none turn r) broken refl (can ∙ sym same) plain line kept,
+    halts books_of holds leaves fills halt stoppable None refl stage single in_flight (turned_at b p sound serves none turn r) broken refl (can ∙ sym same) plain line kept,
   )
 
 -- A TURN

@@ -10,7 +10,7 @@ use Rattle.law_states.specs.Readings.{WatchReading}
 use Rattle.law_states.specs.States.{State}
 use Rattle.salt_model.specs.Kept.{Kept}
 use Rattle.salt_model.specs.declared.events.Event.{Event}
-use Rattle.salt_scheduler.specs.Standing.{behind_in}
+use Rattle.salt_scheduler.specs.Standing.{behind_in, books_of, follow_of}
 use Rattle.salt_scheduler.specs.declared.scheduler.Scheduler.{Scheduler}
 use Rattle.salt_storage.specs.Writing.{ToWrite}
 use Rattle.salt_storage.specs.declared.halt.Halt.TheVariants.{Memory}
@@ -30,23 +30,23 @@ never-else P (at.Down books) never h = h
 never-else P at.Lost never h = h
 
 -- what follows on it
-pub followed : (s : State) (r : WatchReading s.watch) (stage : Stage Scheduler) (x : Scheduler) → stage ≡ at.Going x → behind_in s r x.follow ≡ behind_in s r (follow_in stage)
+pub followed : (s : State) (r : WatchReading s.watch) (stage : Stage Scheduler) (x : Scheduler) → stage ≡ at.Going x → behind_in s r (follow_of x) ≡ behind_in s r (follow_in stage)
 followed s r stage x is = ap (λ (q : Stage Scheduler). behind_in s r (follow_in q)) (sym is)
 
 -- BROKEN OFF
 
-was-broken : (halt : Halt) (x : Scheduler) → WasBroken halt x.books (broken_by halt (at.Going x))
+was-broken : (halt : Halt) (x : Scheduler) → WasBroken halt (books_of x) (broken_by halt (at.Going x))
 was-broken Memory x = inl (refl, refl)
 was-broken halt x = inr (λ h. cc, refl)
 
 -- its scheduler had these books
-pub broken-there : (halt : Halt) (stage : Stage Scheduler) (x : Scheduler) → stage ≡ at.Going x → WasBroken halt x.books (broken_by halt stage)
-broken-there halt stage x is = subst (λ (q : Stage Scheduler). WasBroken halt x.books (broken_by halt q)) (sym is) (was-broken halt x)
+pub broken-there : (halt : Halt) (stage : Stage Scheduler) (x : Scheduler) → stage ≡ at.Going x → WasBroken halt (books_of x) (broken_by halt stage)
+broken-there halt stage x is = subst (λ (q : Stage Scheduler). WasBroken halt (books_of x) (broken_by halt q)) (sym is) (was-broken halt x)
 
 pub behind-broken : {T : Type 0} (result : Result T Halt) (halt : Halt) (stage : Stage Scheduler) (x : Scheduler) → stage ≡ at.Going x → IsErrAnd result (λ told. told ≡ halt) →
-    WasBroken halt x.books (stage_behind result stage)
+    WasBroken halt (books_of x) (stage_behind result stage)
 behind-broken (Ok y) halt stage x is never = absurd never
-behind-broken (Err told) halt stage x is same = subst (λ (h : Halt). WasBroken h x.books (broken_by told stage)) same (broken-there told stage x is)
+behind-broken (Err told) halt stage x is same = subst (λ (h : Halt). WasBroken h (books_of x) (broken_by told stage)) same (broken-there told stage x is)
 
 -- memory ran out
 pub behind-lost : {T : Type 0} (result : Result T Halt) (stage : Stage Scheduler) → IsErrAnd result (λ told. told ≡ Memory) → stage_behind result stage ≡ at.Lost
@@ -67,7 +67,7 @@ some-books x y h = cc
 
 stays-down : (halt : Halt) (stage : Stage Scheduler) (books : Books) → (halt ≡ Memory → ⊥) → serving_books stage ≡ Some books → broken_by halt stage ≡ at.Down books
 stays-down Memory stage books other is = absurd (other refl)
-stays-down halt (at.Going x) books other is = ap (λ (b : Books). at.Down b) (some-books x.books books is)
+stays-down halt (at.Going x) books other is = ap (λ (b : Books). at.Down b) (some-books (books_of x) books is)
 stays-down halt (at.Down x) books other is = ap (λ (b : Books). at.Down b) (some-books x books is)
 stays-down halt at.Lost books other is = cc
 

@@ -35,6 +35,7 @@ use Rattle.salt_program.specs.Refusals.{program_refusal}
 use Rattle.salt_scheduler.proofs.Allowing.{allowed-faultless, program-allowed, table-allowed}
 use Rattle.salt_scheduler.proofs.SoundFacts.{reads}
 use Rattle.salt_scheduler.specs.Standing as scheduling
+use Rattle.salt_scheduler.specs.Standing.{books_of}
 use Rattle.salt_scheduler.specs.declared.scheduler.Scheduler.{Scheduler}
 use Rattle.salt_schema.specs.Refusals.{table_refusal}
 use Rattle.law_decisions.proofs.Reading.{few-parts}
@@ -149,7 +150,7 @@ module _ (holds : Kept → Type 0) (is_new : Id → Type 0) (stoppable : Bool) (
       full = λ dev is. (OfDefinition (text_of f), refl, full dev is);
     }
 
-    pub defined-breaks : (halt : Halt) (y : Books) → y ≡ x.books → leaves s.units.kept (defined s.units.kept d.definition) →
+    pub defined-breaks : (halt : Halt) (y : Books) → y ≡ books_of x → leaves s.units.kept (defined s.units.kept d.definition) →
         ((dev : ℕ) → halt ≡ DeviceFull dev → fills (OfDefinition (text_of f)) dev) → WasBroken halt y stage →
         BreaksOff leaves fills halt stage (Some f) (line_in s.units (clash_by s) (items_by s r) line) s.units
     defined-breaks halt y same left full broken =

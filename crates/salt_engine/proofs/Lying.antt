@@ -12,6 +12,7 @@ use Rattle.salt_model.specs.Kept.{Kept}
 use Rattle.salt_model.specs.Next.{decision_in}
 use Rattle.salt_model.specs.Phases.{Fallen, Serving}
 use Rattle.salt_model.specs.declared.events.Event.{Event}
+use Rattle.salt_scheduler.specs.Standing.{books_of}
 use Rattle.salt_scheduler.specs.declared.scheduler.Scheduler.{Scheduler}
 use Rattle.salt_driver.specs.Standing.{IsSoundPoint}
 use Rattle.salt_storage.specs.Storing.{IsSoundKept}
@@ -21,7 +22,7 @@ use Rattle.std.specs.Prelude.{Bool, IsSome, None, Option, refl, ◌≡◌}
 
 idle-knows : (holds : Kept → Type 0) (is_new : Id → Type 0) (stage : Stage Scheduler) (s : State) → StandsAtEventIn holds is_new stage None s →
     KnowsUnits (serving_books stage) s.units × holds s.units.kept
-idle-knows holds is_new (at.Going x) s h = ((x.books, refl, know-units x.books s.units h.0.books), h.1.holding)
+idle-knows holds is_new (at.Going x) s h = ((books_of x, refl, know-units (books_of x) s.units h.0.books), h.1.holding)
 idle-knows holds is_new (at.Down books) s h = absurd h
 idle-knows holds is_new at.Lost s h = absurd h
 

@@ -27,7 +27,7 @@ use Rattle.salt_model.specs.declared.events.Event.TheVariants.{Refused}
 use Rattle.salt_model.specs.declared.events.Event.{Event}
 use Rattle.salt_model.specs.declared.events.Refusal.{Refusal}
 use Rattle.salt_scheduler.proofs.Following.{not-of-run}
-use Rattle.salt_scheduler.specs.Standing.{HasDoneEvent, behind_in}
+use Rattle.salt_scheduler.specs.Standing.{HasDoneEvent, behind_in, books_of}
 use Rattle.salt_scheduler.specs.declared.scheduler.Scheduler.{Scheduler}
 use Rattle.salt_driver.proofs.Advancing.{sound-moved}
 use Rattle.salt_driver.proofs.Refusing.{refused-rests}
@@ -109,7 +109,7 @@ module _ (line : Line) (x : Scheduler) (e : Event) (p : Point) (sound : IsSoundP
       BreaksAt (λ p. CanReopenAt holds leaves stoppable None (serving_books stage) single in_flight 0 p) (λ p. LeavesOnDevices holds leaves (IsSome in_flight) None 0 p × ⊤) fills (flight_of in_flight) halt p e story told
   said-halts holds leaves fills halt old stoppable was single stage in_flight story told b can began same lined kept may tells = inr (
     tells,
-    (now, moves line x e p sound t d comes phase served, halts (λ (x : Scheduler). x.books) holds leaves fills halt stoppable None refl stage single in_flight now b now-flies (d.after.can_stop ∙ can ∙ sym same) (d.after.over_net ∙ began) (line-now was single lined kept) may),
+    (now, moves line x e p sound t d comes phase served, halts books_of holds leaves fills halt stoppable None refl stage single in_flight now b now-flies (d.after.can_stop ∙ can ∙ sym same) (d.after.over_net ∙ began) (line-now was single lined kept) may),
   )
 
   -- or before it was told
@@ -120,7 +120,7 @@ module _ (line : Line) (x : Scheduler) (e : Event) (p : Point) (sound : IsSoundP
       let flown : IsInFlight in_flight (decision_in p.next) p.state.units = subst (λ (m : Option Event). IsInFlight in_flight (decision_in m) p.state.units) (sym comes) flies in
       inl (
         same,
-        memory-as (λ (x : Scheduler). x.books) holds leaves fills stoppable stage single in_flight halt p t.units.kept memory (flight-next p sound.trace sound.keeps (never-fallen p phase)) left
+        memory-as books_of holds leaves fills stoppable stage single in_flight halt p t.units.kept memory (flight-next p sound.trace sound.keeps (never-fallen p phase)) left
             (noted in_flight (decision_in p.next) p.state.units t.units.kept flown (inr (tt, kept-behind-next p sound e t x comes d phase))) (record { there = there; flies = inr flown }),
         memory,
       )

@@ -21,7 +21,7 @@ use Rattle.salt_model.specs.declared.events.Event.TheVariants.{Down, Early, Open
 use Rattle.salt_model.specs.declared.events.Event.{Event}
 use Rattle.salt_scheduler.proofs.Following.{goes-on, not-of-run}
 use Rattle.salt_scheduler.specs.Serving.{is_served}
-use Rattle.salt_scheduler.specs.Standing.{HasDoneEvent, ServesLine, behind_in}
+use Rattle.salt_scheduler.specs.Standing.{HasDoneEvent, ServesLine, behind_in, follow_of}
 use Rattle.salt_scheduler.specs.declared.scheduler.Scheduler.{Scheduler}
 use Rattle.salt_driver.specs.Opening.{IsOffNet}
 use Rattle.salt_driver.specs.Standing.{IsSoundPoint}
@@ -49,10 +49,10 @@ module _ (line : Line) (x : Scheduler) (e : Event) (p : Point) (sound : IsSoundP
   }
 
   abbrev pub meant : WatchReading t.watch → Option Event
-  meant r = behind_in t r x.follow
+  meant r = behind_in t r (follow_of x)
 
   meant-is : (r : WatchReading t.watch) → said_next e p.state t r p.flight ≡ meant r
-  meant-is r = goes-on e x.follow p.state t r p.flight d.served serves.phase d.follows
+  meant-is r = goes-on e (follow_of x) p.state t r p.flight d.served serves.phase d.follows
 
   pub goes : (holds : Kept → Type 0) (is_new : Id → Type 0) → Stored holds is_new t.units → GoesOnServing holds is_new line x t
   goes holds is_new stored = record {

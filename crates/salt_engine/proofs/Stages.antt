@@ -13,7 +13,7 @@ use Rattle.law_states.specs.Steps.{units_after}
 use Rattle.salt_model.specs.Kept.{Kept}
 use Rattle.salt_model.specs.declared.events.Event.{Event}
 use Rattle.salt_scheduler.proofs.Following.{not-of-run}
-use Rattle.salt_scheduler.specs.Standing.{HasDoneEvent}
+use Rattle.salt_scheduler.specs.Standing.{HasDoneEvent, books_of}
 use Rattle.salt_scheduler.specs.declared.scheduler.Scheduler.{Scheduler}
 use Rattle.salt_driver.specs.Standing.{IsSoundPoint, left_to_come}
 use Rattle.salt_values.specs.declared.id.Id.{Id}
@@ -40,21 +40,21 @@ seen-at holds is_new stage now given s same h = subst (λ (q : Stage Scheduler).
 
 pub turns-here : (holds : Kept → Type 0) (is_new : Id → Type 0) (stage : Stage Scheduler) (s : State) → StandsAtEventIn holds is_new stage None s →
     turns_in stage ≡ turns_by s.units.to_go s.units.owes
-turns-here holds is_new (at.Going x) s h = turns-of x.books s.units h.0.books
+turns-here holds is_new (at.Going x) s h = turns-of (books_of x) s.units h.0.books
 turns-here holds is_new (at.Down books) s h = absurd h
 turns-here holds is_new at.Lost s h = absurd h
 
 -- the event at hand is done already
 pub turns-done : (stage : Stage Scheduler) (x : Scheduler) (e : Event) (s t : State) → stage ≡ at.Going x → HasDoneEvent x e s t → turns_in stage ≡ turns_by t.units.to_go t.units.owes
-turns-done stage x e s t there d = ap turns_in there ∙ turns-of x.books t.units d.behind.books
+turns-done stage x e s t there d = ap turns_in there ∙ turns-of (books_of x) t.units d.behind.books
 
 pub turns-now : (holds : Kept → Type 0) (is_new : Id → Type 0) (stage : Stage Scheduler) (given : Option Event) (s : State) → StandsAtEventIn holds is_new stage given s →
     turns_in stage ≤ turns_by s.units.to_go s.units.owes
-turns-now holds is_new (at.Going x) None s h = let same = turns-of x.books s.units h.0.books in omega arith
+turns-now holds is_new (at.Going x) None s h = let same = turns-of (books_of x) s.units h.0.books in omega arith
 turns-now holds is_new (at.Going x) (Some e) s h =
     let t = h.0 in
     let d = h.1 in
-    let same = turns-of x.books t.units d.behind.books in
+    let same = turns-of (books_of x) t.units d.behind.books in
     let there : turns_by t.units.to_go t.units.owes ≡ turns_by (units_after e s.units).to_go (units_after e s.units).owes = ap (λ (u : UnitState). turns_by u.to_go u.owes) d.after.units in
     let less = no-more-turns e s.units (not-of-run e d.served) in
     omega arith

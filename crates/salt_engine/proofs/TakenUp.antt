@@ -1,7 +1,7 @@
 -- What a scheduler does with what was given for what is to come.
 use Rattle.salt_ast.specs.declared.trees.TableDef.{TableDef}
 use Rattle.salt_books.specs.Asking.{IsAskedBy}
-use Rattle.salt_books.specs.Books.{AreBooks, HaveUnit}
+use Rattle.salt_books.specs.Books.{AreBooks, HaveUnit, tables_in}
 use Rattle.salt_books.specs.Coming.{IsLaterUnit, event_meant}
 use Rattle.salt_books.specs.Sound.{IsSoundState}
 use Rattle.salt_books.specs.declared.asking.Asking.{Asking}
@@ -30,7 +30,7 @@ use Rattle.salt_model.specs.declared.events.Cause.{Cause}
 use Rattle.salt_model.specs.declared.events.Event.{Event}
 use Rattle.salt_model.specs.declared.places.Place.{Place}
 use Rattle.salt_scheduler.proofs.Following.{not-of-run}
-use Rattle.salt_scheduler.specs.Standing.{AnswersWith, IsReady, StandsAtEvent, StandsForState}
+use Rattle.salt_scheduler.specs.Standing.{AnswersWith, IsReady, StandsAtEvent, StandsForState, books_of}
 use Rattle.salt_scheduler.specs.declared.scheduler.Scheduler.{Scheduler}
 use Rattle.salt_units.specs.Acting.{leaves_keys}
 use Rattle.salt_values.specs.declared.id.Id.{Id}
@@ -70,10 +70,10 @@ module _ (x : Scheduler) (a : Asking) (rows : BTreeMap Place (List Value)) (s : 
   pub act-asked : IsAskedBy a s.units act-unit
   act-asked = can.ready.1.1
 
-  pub act-there : HaveUnit x.books a.unit
-  act-there = have-unit x.books s.units a.unit act-unit act-stands.books act-asked.named
+  pub act-there : HaveUnit (books_of x) a.unit
+  act-there = have-unit (books_of x) s.units a.unit act-unit act-stands.books act-asked.named
 
-  pub act-keys : leaves_keys x.books.known.schema a.statement ≡ true
+  pub act-keys : leaves_keys (tables_in (books_of x)) a.statement ≡ true
   act-keys = subst (λ (schema : List TableDef). leaves_keys schema a.statement ≡ true) (sym act-stands.books.known.schema) can.fits.leaves
 
   pub act-taken : (y : Scheduler) (next : Option Event) → AnswersWith s (Some (does_in s.units act-unit a.statement)) y next →
@@ -92,8 +92,8 @@ module _ (x : Scheduler) (u : Id) (m : Move) (s : State) (can : CanTakeUp x (giv
   pub commit-named : unit_named u s.units.units ≡ Some commit-unit
   commit-named = can.fits.1
 
-  pub commit-there : HaveUnit x.books u
-  commit-there = have-unit x.books s.units u commit-unit commit-stands.books commit-named
+  pub commit-there : HaveUnit (books_of x) u
+  commit-there = have-unit (books_of x) s.units u commit-unit commit-stands.books commit-named
 
   pub commit-taken : (y : Scheduler) (next : Option Event) → AnswersWith s (Some (commits_in s.units commit-unit)) y next → AnswersWith s (event_meant s.units (coming.Commit u)) y next
   commit-taken y next = answers-as s (Some (commits_in s.units commit-unit)) (event_meant s.units (coming.Commit u)) next y (sym (commits-meant s.units u commit-unit commit-named))
@@ -107,8 +107,8 @@ module _ (x : Scheduler) (u base : Id) (cause : Cause) (m : Move) (s : State) (c
   abbrev pub branch-unit : IsLaterUnit s.units u base
   branch-unit = can.fits.0
 
-  pub branch-there : HaveUnit x.books u
-  branch-there = have-unit x.books s.units u branch-unit.unit branch-stands.books branch-unit.named
+  pub branch-there : HaveUnit (books_of x) u
+  branch-there = have-unit (books_of x) s.units u branch-unit.unit branch-stands.books branch-unit.named
 
 -- OVER A STORAGE
 
@@ -117,7 +117,7 @@ sound-state meant s p = record { trace = p.trace; keeps = p.keeps; sound = p.sou
 
 module _ (holds : Kept → Type 0) (is_new : Id → Type 0) (x : Scheduler) (c : Coming) (s : State) (h : IsToServe holds is_new x c s) where
   -- by its books
-  pub serves-asks : (y : Books) → y ≡ x.books → AsksFor holds is_new y c s
+  pub serves-asks : (y : Books) → y ≡ books_of x → AsksFor holds is_new y c s
   serves-asks y same = record { played = h.played; stored = h.stored; can = by c h.ready }
     where
       books : StandsForState x s → AreBooks y s.units

@@ -14,7 +14,7 @@ use Rattle.salt_model.specs.Trace.{Trace, ◌says◌}
 use Rattle.salt_model.specs.Units.{wait_list}
 use Rattle.salt_model.specs.declared.events.Event.TheVariants.{Began, Defined, Did, Down, Early, Ended, Opened, Ready, Refused, Waits}
 use Rattle.salt_model.specs.declared.events.Event.{Event}
-use Rattle.salt_scheduler.specs.Standing.{StandsBehindEvent, watched_by}
+use Rattle.salt_scheduler.specs.Standing.{StandsBehindEvent, follow_of, watch_of, watched_by}
 use Rattle.salt_scheduler.specs.declared.follow.Follow.TheVariants.{Release}
 use Rattle.salt_scheduler.specs.declared.follow.Follow.{Follow}
 use Rattle.salt_scheduler.specs.declared.scheduler.Scheduler.{Scheduler}
@@ -22,6 +22,7 @@ use Rattle.salt_driver.specs.Standing.{left_to_come}
 use Rattle.salt_values.specs.declared.id.Id.{Id}
 use Rattle.salt_conflicts.specs.Waiters.{waiter_of}
 use Rattle.salt_conflicts.specs.declared.waiters.Waiter.{Waiter}
+use Rattle.salt_conflicts.specs.Watched.{waiters_of}
 use Rattle.salt_conflicts.specs.declared.watching.Watching.{Watching}
 use Rattle.std.proofs.Common.{ap, arith, sym, ◌∙◌}
 use Rattle.std.specs.Prelude.{Bool, List, Some, [], false, length, map, refl, true, ◌*◌, ◌+◌, ◌∷◌, ◌≡◌, ◌≤◌}
@@ -71,12 +72,12 @@ waiters-told : (askers : List Asker) → map (λ (w : Waiter). w.unit) (map wait
 waiters-told [] = refl
 waiters-told (a ∷ askers) = ap (λ l. a.unit ∷ l) (waiters-told askers)
 
-watched-waits : (f : Follow) (x : Watching) (w : Watch) → watched_by f x w → map waiter_of w.waits ≡ x.waits.items
+watched-waits : (f : Follow) (x : Watching) (w : Watch) → watched_by f x w → map waiter_of w.waits ≡ waiters_of x
 watched-waits (Release b) x w h = h.waits
 watched-waits f x w h = h.waits
 
 waits-behind : (x : Scheduler) (s : State) → StandsBehindEvent x s → waits_in (Going x) ≡ waiters s
-waits-behind x s h = sym (ap (map (λ (w : Waiter). w.unit)) (watched-waits x.follow x.watch s.watch h.watch)) ∙ waiters-told s.watch.waits
+waits-behind x s h = sym (ap (map (λ (w : Waiter). w.unit)) (watched-waits (follow_of x) (watch_of x) s.watch h.watch)) ∙ waiters-told s.watch.waits
 
 -- as the event of a trace leaves them
 pub waits-after : (x : Scheduler) (e : Event) (s t : State) (trace : Trace) → Keeps s trace → Keeps t (trace says e) → StandsBehindEvent x t →

@@ -31,7 +31,7 @@ use Rattle.salt_conflicts.specs.declared.watching.Watching.{Watching}
 use Rattle.std.specs.Option.{option_or}
 use Rattle.std.specs.Prelude.{Bool, IsTrue, List, None, Option, Some, [], map, true, ◌++◌, ◌∷◌, ◌≡◌, ◌⊎◌}
 
--- WHAT IT HAS: the books, and what follows the event at hand; units that wait, and programs to which `go all` has still to turn
+-- WHAT IT HAS: the books, and what follows the event at hand; the watch, of it the units that wait, and programs to which `go all` has still to turn
 
 abbrev pub books_of : Scheduler → Books
 books_of x = x.books
@@ -39,8 +39,11 @@ books_of x = x.books
 abbrev pub follow_of : Scheduler → Follow
 follow_of x = x.follow
 
+abbrev pub watch_of : Scheduler → Watching
+watch_of x = x.watch
+
 abbrev pub waiting_of : Scheduler → List Id
-waiting_of x = map (λ w. w.unit) (waiters_of x.watch)
+waiting_of x = map (λ w. w.unit) (waiters_of (watch_of x))
 
 abbrev pub turns_of : Scheduler → List Id
 turns_of x = turns_in (books_of x)

@@ -1,3 +1,4 @@
+use Rattle.salt_drain.specs.Recovering.{behind_of}
 use Rattle.salt_database.proofs.OpeningActs.{goes-recovers, goes-to-open, meant-unarmed}
 use Rattle.salt_database.proofs.Resting.{opening-plain}
 use Rattle.salt_database.proofs.opening.Opening.go_on_in_opening.Goals as goal
@@ -51,7 +52,7 @@ returns-clause-unarmed g c = IfOk-weaker c.perform_in_opening.result _ _ (λ e p
     let h = c.requires.stands.1 in
     let b = c.in_ok-coming.ensures s h.stands (goes-recovers _ _ c.args.recovery s h) in
     let done = performs s (goes-to-open _ _ c.args.recovery c.go_on.new.self c.in_ok-coming.coming s h (c.stands.ensures.sound s.units.kept h.stored.holding) b) in
-    meant-unarmed e _ (done.told ∙ b.meant) (opening-plain c.args.recovery.behind s.units)) (when-opened _ _ _ c.perform_in_opening.result c.perform_in_opening.ensures.comes)
+    meant-unarmed e _ (done.told ∙ b.meant) (opening-plain (behind_of c.args.recovery) s.units)) (when-opened _ _ _ c.perform_in_opening.result c.perform_in_opening.ensures.comes)
 
 pub returns-in_err-coming-clause-comes : goal.returns-in_err-coming-clause-comes
 returns-in_err-coming-clause-comes g c = λ s h.

@@ -1,3 +1,4 @@
+use Rattle.salt_scheduler.specs.Standing.{books_of}
 use Rattle.law_definitions.specs.Texts.{definition_in}
 use Rattle.salt_engine.proofs.Counted.{cause-lost, counts-broken, same-cause}
 use Rattle.salt_engine.proofs.InStage.{behind-lost, broken-there, never-else, stands-there}
@@ -67,7 +68,7 @@ pub returns-in-Err-clause-comes : goal.returns-in-Err-clause-comes
 returns-in-Err-clause-comes g c = λ s r k.
     let h = stands-there _ _ c.in-Going.scheduler c.in-Going.is k in
     let d = defines _ _ _ c.in-Going.scheduler s c.definitions_may_be_kept.ensures.table c.definitions_may_be_kept.ensures.program c.stands.ensures.sound c.args.line.now c.in_ok-asked.asked h c.in_ok-asked.ensures in
-    defined-breaks _ _ _ c.args.line.now c.in-Going.scheduler s h c.in_ok-asked.asked d _ _ _ r c.in-Err.halt c.in-Going.scheduler.books refl
+    defined-breaks _ _ _ c.args.line.now c.in-Going.scheduler s h c.in_ok-asked.asked d _ _ _ r c.in-Err.halt (books_of c.in-Going.scheduler) refl
     (c.in-Err.ensures.leaves s.units.kept d.definition h.stored.holding (ap definition_in c.text.ensures ∙ d.may.reads) d.may.may)
     (λ dev is. subst (λ (t : List ℕ). g.S.Storage.fills (g.D.Disks.view c.define.new.disks) c.define.new.self (OfDefinition t) dev) c.text.ensures (c.in-Err.ensures.full dev (ap Err is)))
     (broken-there c.in-Err.halt _ c.in-Going.scheduler refl)

@@ -4,6 +4,7 @@ use Rattle.salt_engine.proofs.LineChosen.{nothing-comes, to-serve}
 use Rattle.salt_engine.proofs.Outcome.{comes-lost, comes-same, comes-unarmed, not-ok, stays-same}
 use Rattle.salt_engine.proofs.Plain.{line-plain}
 use Rattle.salt_engine.proofs.engine.Engine.go_on_in_line.Goals as goal
+use Rattle.salt_scheduler.specs.Standing.{follow_of}
 use Rattle.salt_scheduler.proofs.SoundFacts.{reads}
 use Rattle.std.proofs.Common.{inl, ◌∙◌}
 
@@ -27,14 +28,14 @@ perform-requires-clause-ready g c =
     let s = c.requires.ready.0 in
     let h = stands-there _ _ c.in-Going.scheduler c.in-Going.is c.requires.ready.1 in
     let r = reads s h.serves.sound in
-    (s, to-serve _ _ _ _ _ s (h.played r) h.serves.phase (line-plain s r c.in-Going.scheduler.follow) (c.in_ok-coming.ensures s r h.stands h.serves) h.stored)
+    (s, to-serve _ _ _ _ _ s (h.played r) h.serves.phase (line-plain s r (follow_of c.in-Going.scheduler)) (c.in_ok-coming.ensures s r h.stands h.serves) h.stored)
 
 pub returns-clause-comes : goal.returns-clause-comes
 returns-clause-comes g c = λ s r k.
     let h = stands-there _ _ c.in-Going.scheduler c.in-Going.is k in
     let b = c.in_ok-coming.ensures s r h.stands h.serves in
     comes-same _ _ _ _ _ _ _ _ s c.perform.result (b.meant ∙ followed s r _ c.in-Going.scheduler c.in-Going.is)
-    (c.perform.ensures.comes s (to-serve _ _ _ _ _ s (h.played r) h.serves.phase (line-plain s r c.in-Going.scheduler.follow) b h.stored))
+    (c.perform.ensures.comes s (to-serve _ _ _ _ _ s (h.played r) h.serves.phase (line-plain s r (follow_of c.in-Going.scheduler)) b h.stored))
 
 pub returns-clause-stays : goal.returns-clause-stays
 returns-clause-stays g c = c.perform.ensures.stays
@@ -48,8 +49,8 @@ returns-clause-unarmed g c =
     let h = stands-there _ _ c.in-Going.scheduler c.in-Going.is c.requires.ready.1 in
     let r = reads s h.serves.sound in
     let b = c.in_ok-coming.ensures s r h.stands h.serves in
-    comes-unarmed _ _ _ _ _ _ _ s c.perform.result (line-plain s r c.in-Going.scheduler.follow)
-    (comes-same _ _ _ _ _ _ _ _ s c.perform.result b.meant (c.perform.ensures.comes s (to-serve _ _ _ _ _ s (h.played r) h.serves.phase (line-plain s r c.in-Going.scheduler.follow) b h.stored)))
+    comes-unarmed _ _ _ _ _ _ _ s c.perform.result (line-plain s r (follow_of c.in-Going.scheduler))
+    (comes-same _ _ _ _ _ _ _ _ s c.perform.result b.meant (c.perform.ensures.comes s (to-serve _ _ _ _ _ s (h.played r) h.serves.phase (line-plain s r (follow_of c.in-Going.scheduler)) b h.stored)))
 
 pub returns-in_err-coming-clause-comes : goal.returns-in_err-coming-clause-comes
 returns-in_err-coming-clause-comes g c = λ s r k.

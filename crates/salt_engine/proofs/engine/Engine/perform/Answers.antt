@@ -1,3 +1,4 @@
+use Rattle.salt_scheduler.specs.Standing.{books_of}
 use Rattle.salt_engine.proofs.Counted.{cause-broken, cause-lost}
 use Rattle.salt_engine.proofs.InStage.{behind-broken, behind-lost, never-else, stands-there}
 use Rattle.salt_engine.proofs.Outcome.{comes-broken}
@@ -53,7 +54,7 @@ returns-in_err-given-clause-comes g c = λ s k.
     let x = c.in-Going.scheduler in
     let h = stands-there _ _ x c.in-Going.is k in
     comes-broken _ _ _ _ _ _ _ s _ c.from_residual.result c.from_residual.ensures.1
-    (breaks-undone _ _ _ _ _ _ s.units c.books.result.now x.books c.books.ensures
+    (breaks-undone _ _ _ _ _ _ s.units c.books.result.now (books_of x) c.books.ensures
     (c.in_err-given.ensures.undone s (serves-asks _ _ x c.args.coming s h c.books.result.now c.books.ensures))
     (behind-broken c.from_residual.result _ _ x refl c.from_residual.ensures.1))
 

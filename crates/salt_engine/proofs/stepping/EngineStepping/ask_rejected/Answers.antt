@@ -9,6 +9,7 @@ use Rattle.salt_engine.proofs.Stages.{held-now, seen-at, serves-now, serving-of}
 use Rattle.salt_engine.proofs.stepping.EngineStepping.ask_rejected.Goals as goal
 use Rattle.salt_engine.specs.declared.stage.Stage.TheVariants.{Going}
 use Rattle.salt_model.specs.Trace.{Rejected}
+use Rattle.salt_scheduler.specs.Standing.{books_of}
 use Rattle.salt_scheduler.specs.declared.scheduler.Scheduler.{Scheduler}
 use Rattle.salt_driver.proofs.Counted.{counts-cause}
 use Rattle.salt_storage.specs.declared.halt.Halt.TheVariants.{Memory}
@@ -46,7 +47,7 @@ returns-in-Ok-clause-counts g c =
 pub returns-in-Err-clause-halts : goal.returns-in-Err-clause-halts
 returns-in-Err-clause-halts g c = λ p sound at. inl (
   c.break_by.ensures.halt,
-  memory-as (λ (x : Scheduler). x.books) _ _ _ _ _ _ _ c.break_by.result p p.state.units.kept c.break_by.ensures.halt (flight-next p sound.trace sound.keeps (never-fallen p at.idle.serves))
+  memory-as books_of _ _ _ _ _ _ _ c.break_by.result p p.state.units.kept c.break_by.ensures.halt (flight-next p sound.trace sound.keeps (never-fallen p at.idle.serves))
       (c.stands.ensures.stays p.state.units.kept (held-now _ _ _ p.state at.state.seen)) (inl refl)
       (record { there = c.break_by.ensures.broken; flies = inl (flies-none c.args.self.now.in_flight p.state.units at.state.flies) }),
 )
