@@ -1,11 +1,9 @@
 //! What is to come in an opening is performed.
 
 ghost use Rattle.salt_books.specs.Coming.{event_meant};
-ghost use Rattle.salt_database.specs.Performing.{CanTakeUp, GoesOnOpening, IsToOpen, MayStep};
-ghost use Rattle.salt_database.specs.Standing.{OpensIn};
+ghost use Rattle.salt_database.specs.Performing.{CanTakeUp, MayStep};
 ghost use Rattle.salt_disk.specs.Disks.{HasCause};
 ghost use Rattle.salt_engine.specs.Giving.{coming_of};
-ghost use Rattle.salt_engine.specs.Performing.{ComesOut, Stays};
 ghost use Rattle.salt_engine.specs.declared.stage.Stage.TheVariants.{Lost};
 ghost use Rattle.law_states.specs.States.{State};
 ghost use Rattle.salt_model.specs.Rests.{statements_in};
@@ -13,9 +11,8 @@ ghost use Rattle.salt_drain.specs.Follows.{comes_behind};
 ghost use Rattle.salt_drain.specs.Recovering.{AnswersWith, behind_of};
 ghost use Rattle.salt_driver.specs.Counting.{stops_armed};
 ghost use Rattle.salt_storage.specs.Answers.{disk_err};
-ghost use Rattle.salt_storage.specs.declared.found.Numbers.{Numbers};
 ghost use Rattle.salt_place.specs.Placement.{GivesPlaceOf, TakesEachKey};
-ghost use Rattle.std.specs.Prelude.{Bool, IfOk, None, OnErr, Option, Some, [], ◌+◌, ◌≡◌};
+ghost use Rattle.std.specs.Prelude.{IfOk, None, OnErr, Some, [], ◌+◌, ◌≡◌};
 
 use crate::opening::Opening;
 use salt_books::Coming;
@@ -55,6 +52,8 @@ fn take_up<L: Ledger>(
 }
 
 impl<S: Storage> Opening<S> {
+    ghost use Rattle.salt_database.specs.Openings.{GoesOnOut, GoesOnOver, IsToOpenOver, PerformsOut, StaysOpening};
+
     /// What is to come in an opening, which is an event of it.
     pub(crate) fn perform_in_opening<D: Disks, F: Fn(PlaceKind, &Key, u32) -> u32, L: Ledger>(
         &mut self,
@@ -68,13 +67,11 @@ impl<S: Storage> Opening<S> {
         requires answers { GivesPlaceOf (F.post place.now.place) }
         requires lost { self.old.stage ≡ Lost }
         requires none { self.old.in_flight ≡ None }
-        requires ready { (s : State) × IsToOpen (S.holds (D.view disks.old) self.old.storage) (S.is_new (D.view disks.old) self.old.storage) recovery coming s }
-        ensures comes { (s : State) → IsToOpen (S.holds (D.view disks.old) self.old.storage) (S.is_new (D.view disks.old) self.old.storage) recovery coming s
-            → ComesOut Some (OpensIn (S.holds (D.view disks.new) self.new.storage) (S.is_new (D.view disks.new) self.new.storage) self.new.stage) (S.leaves (D.view disks.new) self.new.storage) (S.fills (D.view disks.new) self.new.storage) self.new.stage self.new.in_flight (event_meant s.units coming) s result }
+        requires ready { (s : State) × IsToOpenOver S.holds S.is_new (D.view disks.old) self.old recovery coming s }
+        ensures comes { PerformsOut S.holds S.is_new S.leaves S.fills (D.view disks.old) (D.view disks.new) recovery coming self.old self.new result }
         ensures ticks { IfOk result (λ e. steps.new ≡ steps.old + statements_in e) }
-        ensures short { OnErr result ((s : State) → IsToOpen (S.holds (D.view disks.old) self.old.storage) (S.is_new (D.view disks.old) self.old.storage) recovery coming s
-            → MayStep (event_meant s.units coming) steps.old steps.new) }
-        ensures stays { Stays {A = Bool × Option Numbers} (self.old.single, self.old.found) (self.new.single, self.new.found) (S.asked self.old.storage) (S.asked self.new.storage) (D.view disks.old) (D.view disks.new) }
+        ensures short { OnErr result ((s : State) → IsToOpenOver S.holds S.is_new (D.view disks.old) self.old recovery coming s → MayStep (event_meant s.units coming) steps.old steps.new) }
+        ensures stays { StaysOpening S.asked (D.view disks.old) (D.view disks.new) self.old self.new }
         ensures cause { HasCause (D.view disks.old) (D.view disks.new) (disk_err result) }
     {
         let mut recovery = recovery;
@@ -109,14 +106,12 @@ impl<S: Storage> Opening<S> {
         requires answers { GivesPlaceOf (F.post place.now.place) }
         requires lost { self.old.stage ≡ Lost }
         requires none { self.old.in_flight ≡ None }
-        requires stands { (s : State) × GoesOnOpening (S.holds (D.view disks.old) self.old.storage) (S.is_new (D.view disks.old) self.old.storage) recovery s }
-        ensures comes { (s : State) → GoesOnOpening (S.holds (D.view disks.old) self.old.storage) (S.is_new (D.view disks.old) self.old.storage) recovery s
-            → ComesOut Some (OpensIn (S.holds (D.view disks.new) self.new.storage) (S.is_new (D.view disks.new) self.new.storage) self.new.stage) (S.leaves (D.view disks.new) self.new.storage) (S.fills (D.view disks.new) self.new.storage) self.new.stage self.new.in_flight (comes_behind (behind_of recovery) s.units) s result }
+        requires stands { (s : State) × GoesOnOver S.holds S.is_new (D.view disks.old) self.old recovery s }
+        ensures comes { GoesOnOut S.holds S.is_new S.leaves S.fills (D.view disks.old) (D.view disks.new) recovery self.old self.new result }
         ensures ticks { IfOk result (λ e. steps.new ≡ steps.old + statements_in e) }
-        ensures short { OnErr result ((s : State) → GoesOnOpening (S.holds (D.view disks.old) self.old.storage) (S.is_new (D.view disks.old) self.old.storage) recovery s
-            → MayStep (comes_behind (behind_of recovery) s.units) steps.old steps.new) }
+        ensures short { OnErr result ((s : State) → GoesOnOver S.holds S.is_new (D.view disks.old) self.old recovery s → MayStep (comes_behind (behind_of recovery) s.units) steps.old steps.new) }
         ensures unarmed { IfOk result (λ e. stops_armed e ≡ []) }
-        ensures stays { Stays {A = Bool × Option Numbers} (self.old.single, self.old.found) (self.new.single, self.new.found) (S.asked self.old.storage) (S.asked self.new.storage) (D.view disks.old) (D.view disks.new) }
+        ensures stays { StaysOpening S.asked (D.view disks.old) (D.view disks.new) self.old self.new }
         ensures cause { HasCause (D.view disks.old) (D.view disks.new) (disk_err result) }
     {
         let mut recovery = recovery;

@@ -6,16 +6,15 @@ ghost use Rattle.salt_database.specs.Standing.{CanFind, IsFoundStage, ServesBehi
 ghost use Rattle.salt_engine.specs.Flights.{flight_of};
 ghost use Rattle.salt_engine.specs.Standing.{IsGoingStage, KnowUnits, KnowsUnits};
 ghost use Rattle.law_states.specs.OpenUnits.{UnitState};
-ghost use Rattle.law_states.specs.Points.{Moves, Point, Say};
+ghost use Rattle.law_states.specs.Points.{Point};
 ghost use Rattle.law_states.specs.Steps.{units_after};
-ghost use Rattle.salt_model.specs.Phases.{Fallen};
 ghost use Rattle.salt_model.specs.declared.events.Event.{Event};
 ghost use Rattle.salt_model.specs.declared.events.Why.{Why};
 ghost use Rattle.law_openings.specs.Draining.{statements_at};
 ghost use Rattle.salt_driver.specs.Counting.{CountsStops, armed_at, stops_armed};
 ghost use Rattle.salt_driver.specs.Draining.{MayTick};
 ghost use Rattle.salt_driver.specs.Opening.{IsFallenFrom, MayFailAt, OpensAt};
-ghost use Rattle.salt_driver.specs.Standing.{BreaksAt, IsOpeningAt, IsSoundPoint};
+ghost use Rattle.salt_driver.specs.Standing.{IsSoundPoint};
 ghost use Rattle.salt_scheduler.specs.Standing.{StandsForState};
 ghost use Rattle.salt_storage.specs.Answers.{disk_err, numbers_told, open_disk_err};
 ghost use Rattle.salt_storage.specs.Staying.{StaysWithin};
@@ -102,7 +101,8 @@ fn fallen(stage: Stage<Recovery>) -> Stage<Recovery>
 }
 
 impl<S: Storage + Drop> Opening<S> {
-    ghost use Rattle.salt_database.specs.Halves.{IsOnward, next_of, opening_left, opening_lies, opening_sees};
+    ghost use Rattle.salt_database.specs.Halves.{next_of};
+    ghost use Rattle.salt_database.specs.Openings.{BreaksOver, CanOpenAt, IsFallen, IsLeftAt, IsOpeningOver, MovesOn, SeesOver, WhereFallen, WhereOpening};
 
     /// Finds behind a fall what its devices stand for. What is found already is not looked for again.
     pub(crate) fn find<D: Disks, F: Fn(PlaceKind, &Key, u32) -> u32>(
@@ -114,10 +114,9 @@ impl<S: Storage + Drop> Opening<S> {
         requires answers { GivesPlaceOf (F.post place.now.place) }
         requires settled { CanFind (S.settled (D.view disks.old) self.old.storage) (S.leaves (D.view disks.old) self.old.storage) self.old.found self.old.stage }
         ensures found { OnOk result (IsFoundStage self.new.found self.new.stage) }
-        ensures again { (result ≡ Err (OpenErr.Halted Memory) → ⊥) → (room : ℕ) (p : Point) → IsSoundPoint p → p.state.units.phase ≡ Fallen → opening_lies (S.holds (D.view disks.old)) (S.leaves (D.view disks.old)) (D.view disks.old).can_stop self.old room p →
-            opening_lies (S.holds (D.view disks.new)) (S.leaves (D.view disks.new)) (D.view disks.new).can_stop self.new room p }
-        ensures left { (room : ℕ) (p : Point) → IsSoundPoint p → p.state.units.phase ≡ Fallen → opening_lies (S.holds (D.view disks.old)) (S.leaves (D.view disks.old)) (D.view disks.old).can_stop self.old room p → opening_left (S.holds (D.view disks.new)) (S.leaves (D.view disks.new)) (S.rests (D.view disks.new)) self.new (numbers_told result) room p }
-        ensures later { IfErr result (λ e. (room : ℕ) (p : Point) → IsSoundPoint p → p.state.units.phase ≡ Fallen → opening_lies (S.holds (D.view disks.old)) (S.leaves (D.view disks.old)) (D.view disks.old).can_stop self.old room p → MayFailAt room p e) }
+        ensures again { (result ≡ Err (OpenErr.Halted Memory) → ⊥) → WhereFallen S.holds S.leaves (D.view disks.old) self.old (CanOpenAt S.holds S.leaves (D.view disks.new) self.new) }
+        ensures left { WhereFallen S.holds S.leaves (D.view disks.old) self.old (IsLeftAt S.holds S.leaves S.rests (D.view disks.new) self.new (numbers_told result)) }
+        ensures later { IfErr result (λ e. WhereFallen S.holds S.leaves (D.view disks.old) self.old (λ room p. MayFailAt room p e)) }
         ensures flies { flight_of self.new.in_flight ≡ flight_of self.old.in_flight }
         ensures full { (dev : ℕ) → result ≡ Err (OpenErr.Halted (DeviceFull dev)) → ⊥ }
         ensures within { StaysWithin (S.asked self.old.storage) (S.asked self.new.storage) (D.view disks.old) (D.view disks.new) }
@@ -133,13 +132,13 @@ impl<S: Storage + Drop> Opening<S> {
     /// the story as it was.
     pub(crate) fn open<D: Disks>(&mut self, disks: &mut D, story: &mut Story) -> Result<Event, Halt>
         requires found { IsFoundStage self.old.found self.old.stage }
-        requires lies { (room : ℕ) × (p : Point) × IsSoundPoint p × (p.state.units.phase ≡ Fallen) × opening_lies (S.holds (D.view disks.old)) (S.leaves (D.view disks.old)) (D.view disks.old).can_stop self.old room p }
-        ensures opens { IfOk result (λ next. (room : ℕ) (p : Point) → IsSoundPoint p → p.state.units.phase ≡ Fallen → opening_lies (S.holds (D.view disks.old)) (S.leaves (D.view disks.old)) (D.view disks.old).can_stop self.old room p →
-            OpensAt (opening_sees (S.holds (D.view disks.new)) (S.is_new (D.view disks.new)) (D.view disks.new).can_stop) room p story.old self.new next story.new) }
-        ensures lies { IfErr result (λ halt. (halt ≡ Memory → ⊥) → (room : ℕ) (p : Point) → IsSoundPoint p → p.state.units.phase ≡ Fallen → opening_lies (S.holds (D.view disks.old)) (S.leaves (D.view disks.old)) (D.view disks.old).can_stop self.old room p →
-            opening_lies (S.holds (D.view disks.new)) (S.leaves (D.view disks.new)) (D.view disks.new).can_stop self.new (room + 1) p) }
-        ensures left { OnErr result ((room : ℕ) (p : Point) → IsSoundPoint p → p.state.units.phase ≡ Fallen → opening_lies (S.holds (D.view disks.old)) (S.leaves (D.view disks.old)) (D.view disks.old).can_stop self.old room p →
-            opening_left (S.holds (D.view disks.new)) (S.leaves (D.view disks.new)) (S.rests (D.view disks.new)) self.new None (room + 1) p) }
+        requires lies { IsFallen S.holds S.leaves (D.view disks.old) self.old }
+        ensures opens { IfOk result (λ next. WhereFallen S.holds S.leaves (D.view disks.old) self.old
+            (λ room p. OpensAt (SeesOver S.holds S.is_new (D.view disks.new)) room p story.old self.new next story.new)) }
+        ensures lies { IfErr result (λ halt. (halt ≡ Memory → ⊥) → WhereFallen S.holds S.leaves (D.view disks.old) self.old
+            (λ room p. CanOpenAt S.holds S.leaves (D.view disks.new) self.new (room + 1) p)) }
+        ensures left { OnErr result (WhereFallen S.holds S.leaves (D.view disks.old) self.old
+            (λ room p. IsLeftAt S.holds S.leaves S.rests (D.view disks.new) self.new None (room + 1) p)) }
         ensures flies { OnErr result (flight_of self.new.in_flight ≡ flight_of self.old.in_flight) }
         ensures untold { OnErr result (story.new ≡ story.old) }
         ensures full { (dev : ℕ) → result ≡ Err (DeviceFull dev) → S.fills (D.view disks.new) self.new.storage OfBoot dev }
@@ -176,15 +175,13 @@ impl<S: Storage + Drop> Opening<S> {
     ) -> Result<Onward, Halt>
         requires callable { TakesEachKey (F.pre place.now.place) }
         requires answers { GivesPlaceOf (F.post place.now.place) }
-        requires stands { (p : Point) × IsSoundPoint p × IsOpeningAt (opening_sees (S.holds (D.view disks.old)) (S.is_new (D.view disks.old)) (D.view disks.old).can_stop) self.old (Some event) p }
-        ensures moves { IfOk result (λ onward. (p : Point) → IsSoundPoint p → IsOpeningAt (opening_sees (S.holds (D.view disks.old)) (S.is_new (D.view disks.old)) (D.view disks.old).can_stop) self.old (Some event) p →
-            (q : Point) × Moves (Say event) p q × IsOnward (S.holds (D.view disks.new)) (S.is_new (D.view disks.new)) (D.view disks.new).can_stop self.new onward q) }
+        requires stands { (p : Point) × IsSoundPoint p × IsOpeningOver S.holds S.is_new (D.view disks.old) self.old event p }
+        ensures moves { IfOk result (λ onward. WhereOpening S.holds S.is_new (D.view disks.old) self.old event (MovesOn S.holds S.is_new (D.view disks.new) self.new event onward)) }
         ensures tells { OnOk result (story.new ≡ story.old ++ event ∷ []) }
-        ensures halts { IfErr result (λ halt. (p : Point) → IsSoundPoint p → IsOpeningAt (opening_sees (S.holds (D.view disks.old)) (S.is_new (D.view disks.old)) (D.view disks.old).can_stop) self.old (Some event) p →
-            BreaksAt (opening_lies (S.holds (D.view disks.new)) (S.leaves (D.view disks.new)) (D.view disks.new).can_stop self.new 0) (opening_left (S.holds (D.view disks.new)) (S.leaves (D.view disks.new)) (S.rests (D.view disks.new)) self.new None 0) (S.fills (D.view disks.new) self.new.storage) (flight_of self.new.in_flight) halt p event story.old story.new) }
+        ensures halts { IfErr result (λ halt. WhereOpening S.holds S.is_new (D.view disks.old) self.old event
+            (BreaksOver S.holds S.leaves S.rests S.fills (D.view disks.new) self.new halt event story.old story.new)) }
         ensures ticks { IfOk result (λ onward. steps.new ≡ steps.old + statements_at (next_of onward)) }
-        ensures short { OnErr result ((p : Point) → IsSoundPoint p → IsOpeningAt (opening_sees (S.holds (D.view disks.old)) (S.is_new (D.view disks.old)) (D.view disks.old).can_stop) self.old (Some event) p →
-            MayTick p event story.old story.new steps.old steps.new) }
+        ensures short { OnErr result (WhereOpening S.holds S.is_new (D.view disks.old) self.old event (λ p. MayTick p event story.old story.new steps.old steps.new)) }
         ensures less { IfOk result (λ onward. left_in self.new.stage (next_of onward) < left_in self.old.stage (Some event)) }
         ensures within { StaysWithin (S.asked self.old.storage) (S.asked self.new.storage) (D.view disks.old) (D.view disks.new) }
         ensures unarmed { IfOk result (λ onward. armed_at (next_of onward) ≡ []) }
@@ -205,8 +202,9 @@ impl<S: Storage + Drop> Opening<S> {
 
     /// Falls: the devices are started again.
     pub(crate) fn fall<D: Disks>(&mut self, disks: &mut D)
-        requires { (room : ℕ) × ((p : Point) × opening_lies (S.holds (D.view disks.old)) (S.leaves (D.view disks.old)) (D.view disks.old).can_stop self.old room p) }
-        ensures lies { (room : ℕ) (p q : Point) → opening_lies (S.holds (D.view disks.old)) (S.leaves (D.view disks.old)) (D.view disks.old).can_stop self.old room p → IsFallenFrom p q → opening_lies (S.holds (D.view disks.new)) (S.leaves (D.view disks.new)) (D.view disks.new).can_stop self.new room q }
+        requires { (room : ℕ) × ((p : Point) × CanOpenAt S.holds S.leaves (D.view disks.old) self.old room p) }
+        ensures lies { (room : ℕ) (p q : Point) → CanOpenAt S.holds S.leaves (D.view disks.old) self.old room p → IsFallenFrom p q
+            → CanOpenAt S.holds S.leaves (D.view disks.new) self.new room q }
         ensures settled { CanFind (S.settled (D.view disks.new) self.new.storage) (S.leaves (D.view disks.new) self.new.storage) self.new.found self.new.stage }
         ensures flies { flight_of self.new.in_flight ≡ flight_of self.old.in_flight }
         ensures within { StaysWithin (S.asked self.old.storage) (S.asked self.new.storage) (D.view disks.old) (D.view disks.new) }

@@ -1,16 +1,21 @@
 -- What is asked of a storage, and where it was not done.
-use Rattle.salt_books.specs.Books.{AreBooks}
+use Rattle.salt_books.specs.Asking.{IsAskedBy}
+use Rattle.salt_books.specs.Books.{AreBooks, AreLoaded}
+use Rattle.salt_books.specs.Coming.{IsLaterUnit}
+use Rattle.salt_books.specs.declared.asking.Asking.{Asking}
 use Rattle.salt_books.specs.declared.books.Books.{Books}
 use Rattle.salt_bytes.specs.declared.moves.Move.{Move}
+use Rattle.salt_disk.specs.Disks.{View}
 use Rattle.salt_engine.specs.Stored.{LeavesEither, Stored}
 use Rattle.law_states.specs.Keeps.{KeepsUnits}
 use Rattle.law_states.specs.Laws.{IsSound}
-use Rattle.law_states.specs.OpenUnits.{OpenUnit, UnitState}
+use Rattle.law_states.specs.OpenUnits.{OpenUnit, UnitState, unit_named}
 use Rattle.law_states.specs.Steps.{units_after}
-use Rattle.law_states.specs.Told.{at_devices_in, commits_in, next_decision}
+use Rattle.law_states.specs.Told.{at_devices_in, commits_in, does_in, next_decision}
 use Rattle.salt_model.specs.Kept.{Kept, conts_branched, conts_committed}
 use Rattle.salt_model.specs.Next.{next}
 use Rattle.salt_model.specs.Stops.{is_just_opened}
+use Rattle.salt_model.specs.Tables.{Tables}
 use Rattle.salt_model.specs.Trace.{Trace, lines_of, start_of}
 use Rattle.salt_model.specs.Words.{Every}
 use Rattle.salt_model.specs.declared.events.Cause.{Cause}
@@ -63,3 +68,47 @@ pub record Undone (leaves : Kept → Kept → Type 0) (fills : ToWrite → ℕ �
   pub left : LeavesEither leaves ⊤ s.kept (units_after e s).kept
   pub reason : (halt ≡ Memory) ⊎ (at_devices_in s e ≡ true)
   pub full : (dev : ℕ) → halt ≡ DeviceFull dev → (w : ToWrite) × IsWrittenBy s (Some e) w × fills w dev
+
+-- OVER A STORAGE and its devices: `holds`, `is_new`, `leaves` and `fills` are those of the storage
+
+module _ {S : Type 0} (holds : View → S → Kept → Type 0) (is_new : View → S → Id → Type 0) where
+  -- what it holds stays what the state keeps
+  abbrev pub StaysStored : (d e : View) (x y : S) → Type 0
+  StaysStored d e x y = (s : UnitState) → Stored (holds d x) (is_new d x) s → Stored (holds e y) (is_new e y) s
+
+  -- a statement is to be done, and its rows are asked for
+  abbrev pub CanLoad : View → S → Books → Asking → Type 0
+  CanLoad d x books a = (s : UnitState) × (o : OpenUnit) × IsBefore (holds d x) (is_new d x) books (does_in s o a.statement) s × IsAskedBy a s o
+
+  abbrev pub AreAsked : View → S → Asking → Tables → Type 0
+  AreAsked d x a rows = (s : UnitState) → Stored (holds d x) (is_new d x) s → AreLoaded a.reach rows s.kept.tables
+
+  -- a unit is to commit, and has
+  abbrev pub CanCommit : View → S → Books → Id → Type 0
+  CanCommit d x books u = (s : UnitState) × (o : OpenUnit) × IsBefore (holds d x) (is_new d x) books (commits_in s o) s × (unit_named u s.units ≡ Some o)
+
+  abbrev pub DecidesCommit : (d e : View) (x y : S) → Books → Id → Move → Type 0
+  DecidesCommit d e x y books u made =
+      (s : UnitState) (o : OpenUnit) → IsBefore (holds d x) (is_new d x) books (commits_in s o) s → unit_named u s.units ≡ Some o → IsCommitted (holds e y) (is_new e y) made s o
+
+  -- a unit of a later part, which has failed, is to end by a branch, and has
+  abbrev pub CanBranch : View → S → Books → Id → Type 0
+  CanBranch d x books u = (s : UnitState) × (b : Id) × (cause : Cause) × IsBefore (holds d x) (is_new d x) books (branches_in s u cause) s × IsLaterUnit s u b
+
+  abbrev pub DecidesBranch : (d e : View) (x y : S) → Books → Id → Move → Type 0
+  DecidesBranch d e x y books u made = (s : UnitState) (b : Id) (cause : Cause) → IsBefore (holds d x) (is_new d x) books (branches_in s u cause) s → (later : IsLaterUnit s u b) →
+      IsBranched (holds e y) (is_new e y) made s later.unit cause
+
+  -- or it was broken off
+  module _ (leaves : View → S → Kept → Kept → Type 0) (fills : View → S → ToWrite → ℕ → Type 0) where
+    abbrev pub LeavesUndone : (d e : View) (x y : S) → Books → Asking → Halt → Type 0
+    LeavesUndone d e x y books a halt = (s : UnitState) (o : OpenUnit) → IsBefore (holds d x) (is_new d x) books (does_in s o a.statement) s → IsAskedBy a s o →
+        Undone (leaves e y) (fills e y) halt s (does_in s o a.statement)
+
+    abbrev pub LeavesUncommitted : (d e : View) (x y : S) → Books → Id → Halt → Type 0
+    LeavesUncommitted d e x y books u halt = (s : UnitState) (o : OpenUnit) → IsBefore (holds d x) (is_new d x) books (commits_in s o) s → unit_named u s.units ≡ Some o →
+        Undone (leaves e y) (fills e y) halt s (commits_in s o)
+
+    abbrev pub LeavesUnbranched : (d e : View) (x y : S) → Books → Id → Halt → Type 0
+    LeavesUnbranched d e x y books u halt = (s : UnitState) (b : Id) (cause : Cause) → IsBefore (holds d x) (is_new d x) books (branches_in s u cause) s → IsLaterUnit s u b →
+        Undone (leaves e y) (fills e y) halt s (branches_in s u cause)

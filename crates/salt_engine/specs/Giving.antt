@@ -7,6 +7,7 @@ use Rattle.salt_books.specs.declared.asking.Asking.{Asking}
 use Rattle.salt_books.specs.declared.books.Books.{Books}
 use Rattle.salt_books.specs.declared.coming.Coming.TheVariants as coming
 use Rattle.salt_books.specs.declared.coming.Coming.{Coming}
+use Rattle.salt_disk.specs.Disks.{View}
 use Rattle.salt_engine.specs.Deciding.{Undone}
 use Rattle.salt_engine.specs.Flights.{IsInFlight}
 use Rattle.salt_engine.specs.Performing.{IsPlayedBefore, StoredAt}
@@ -98,3 +99,18 @@ pub record CanTakeUp (x : Scheduler) (g : Given) (s : State) : Type 0 where
   pub ready : scheduling.IsReady x s (coming_of g)
   pub fits : FitsUnits g s.units
   pub sound : IsSoundState s
+
+-- OVER A STORAGE and its devices: `holds`, `is_new`, `leaves` and `fills` are those of the storage
+
+module _ {S : Type 0} (holds : View → S → Kept → Type 0) (is_new : View → S → Id → Type 0) where
+  abbrev pub AsksForOver : View → S → Books → Coming → State → Type 0
+  AsksForOver d x books coming s = AsksFor (holds d x) (is_new d x) books coming s
+
+  -- it is given
+  abbrev pub Provides : (d e : View) (x y : S) → Books → Option InFlight → Coming → Given → Type 0
+  Provides d e x y books in_flight coming given = (s : State) → AsksFor (holds d x) (is_new d x) books coming s → IsGiven (holds e y) (is_new e y) in_flight coming given s
+
+  -- or not
+  abbrev pub LeavesUngiven : (leaves : View → S → Kept → Kept → Type 0) (fills : View → S → ToWrite → ℕ → Type 0) → (d e : View) (x y : S) → Books → Option InFlight → Coming → Halt → Type 0
+  LeavesUngiven leaves fills d e x y books in_flight coming halt = (s : State) → AsksFor (holds d x) (is_new d x) books coming s →
+      IsUndone (leaves e y) (fills e y) halt books in_flight (event_meant s.units coming) s.units

@@ -4,5 +4,6 @@ pub mod Flights
 pub mod Standing
 pub mod Performing
 pub mod Giving
+pub mod Serving
 pub mod Engines
 pub mod Resuming

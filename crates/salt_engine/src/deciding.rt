@@ -1,20 +1,14 @@
 //! What is asked of the storage: the rows that a statement reaches, and decisions of units.
 
-ghost use Rattle.salt_books.specs.Asking.{IsAskedBy};
-ghost use Rattle.salt_books.specs.Books.{AreBooks, AreLoaded};
-ghost use Rattle.salt_books.specs.Coming.{IsLaterUnit};
+ghost use Rattle.salt_books.specs.Books.{AreBooks};
 ghost use Rattle.salt_disk.specs.Disks.{HasCause};
-ghost use Rattle.salt_engine.specs.Deciding.{IsBefore, IsBranched, IsCommitted, Undone, branches_in};
-ghost use Rattle.salt_engine.specs.Stored.{Stored};
+ghost use Rattle.salt_engine.specs.Deciding.{AreAsked, DecidesBranch, CanBranch, CanCommit, CanLoad, DecidesCommit, LeavesUnbranched, LeavesUncommitted, LeavesUndone, StaysStored};
 ghost use Rattle.salt_eval.specs.Scans.{IsKeyed};
 ghost use Rattle.salt_eval.specs.Views.{tables_of};
 ghost use Rattle.law_states.specs.OpenUnits.{OpenUnit, UnitState, unit_named};
-ghost use Rattle.law_states.specs.Told.{commits_in, does_in};
-ghost use Rattle.salt_model.specs.declared.events.Cause.{Cause};
 ghost use Rattle.salt_storage.specs.Answers.{disk_err};
 ghost use Rattle.salt_storage.specs.Staying.{StaysWithin};
 ghost use Rattle.salt_place.specs.Placement.{GivesPlaceOf, TakesEachKey};
-ghost use Rattle.salt_values.specs.declared.id.Id.{Id};
 ghost use Rattle.std.specs.Cow.{cow_slice_items};
 ghost use Rattle.std.specs.Prelude.{IfErr, IfOk, OnOk, Some, map, ◌≡◌};
 ghost use Rattle.salt_stands.specs.Turning.{change_at};
@@ -41,14 +35,11 @@ pub(crate) fn load<S: Storage, D: Disks, F: Fn(PlaceKind, &Key, u32) -> u32>(
 ) -> Result<Tables, Halt>
     requires callable { TakesEachKey (F.pre place.now.place) }
     requires answers { GivesPlaceOf (F.post place.now.place) }
-    requires ready { (s : UnitState) × (o : OpenUnit) × IsBefore (S.holds (D.view disks.old) storage.old) (S.is_new (D.view disks.old) storage.old) books.now (does_in s o asking.now.statement) s × IsAskedBy asking.now s o }
-    ensures rows { IfOk result (λ rows. (s : UnitState) → Stored (S.holds (D.view disks.old) storage.old) (S.is_new (D.view disks.old) storage.old) s
-        → AreLoaded asking.now.reach (tables_of rows.entries) s.kept.tables) }
+    requires ready { CanLoad S.holds S.is_new (D.view disks.old) storage.old books.now asking.now }
+    ensures rows { IfOk result (λ rows. AreAsked S.holds S.is_new (D.view disks.old) storage.old asking.now (tables_of rows.entries)) }
     ensures keyed { IfOk result (λ rows. IsKeyed (tables_of rows.entries)) }
-    ensures stored { OnOk result ((s : UnitState) → Stored (S.holds (D.view disks.old) storage.old) (S.is_new (D.view disks.old) storage.old) s
-        → Stored (S.holds (D.view disks.new) storage.new) (S.is_new (D.view disks.new) storage.new) s) }
-    ensures undone { IfErr result (λ halt. (s : UnitState) (o : OpenUnit) → IsBefore (S.holds (D.view disks.old) storage.old) (S.is_new (D.view disks.old) storage.old) books.now (does_in s o asking.now.statement) s → IsAskedBy asking.now s o
-        → Undone (S.leaves (D.view disks.new) storage.new) (S.fills (D.view disks.new) storage.new) halt s (does_in s o asking.now.statement)) }
+    ensures stored { OnOk result (StaysStored S.holds S.is_new (D.view disks.old) (D.view disks.new) storage.old storage.new) }
+    ensures undone { IfErr result (LeavesUndone S.holds S.is_new S.leaves S.fills (D.view disks.old) (D.view disks.new) storage.old storage.new books.now asking.now) }
     ensures within { StaysWithin (S.asked storage.old) (S.asked storage.new) (D.view disks.old) (D.view disks.new) }
     ensures cause { HasCause (D.view disks.old) (D.view disks.new) (disk_err result) }
 {
@@ -89,11 +80,9 @@ pub(crate) fn decide_commit<S: Storage, D: Disks, F: Fn(PlaceKind, &Key, u32) ->
 ) -> Result<Move, Halt>
     requires callable { TakesEachKey (F.pre place.now.place) }
     requires answers { GivesPlaceOf (F.post place.now.place) }
-    requires ready { (s : UnitState) × (o : OpenUnit) × IsBefore (S.holds (D.view disks.old) storage.old) (S.is_new (D.view disks.old) storage.old) books.now (commits_in s o) s × (unit_named unit s.units ≡ Some o) }
-    ensures committed { IfOk result (λ made. (s : UnitState) (o : OpenUnit) → IsBefore (S.holds (D.view disks.old) storage.old) (S.is_new (D.view disks.old) storage.old) books.now (commits_in s o) s → unit_named unit s.units ≡ Some o
-        → IsCommitted (S.holds (D.view disks.new) storage.new) (S.is_new (D.view disks.new) storage.new) made s o) }
-    ensures undone { IfErr result (λ halt. (s : UnitState) (o : OpenUnit) → IsBefore (S.holds (D.view disks.old) storage.old) (S.is_new (D.view disks.old) storage.old) books.now (commits_in s o) s → unit_named unit s.units ≡ Some o
-        → Undone (S.leaves (D.view disks.new) storage.new) (S.fills (D.view disks.new) storage.new) halt s (commits_in s o)) }
+    requires ready { CanCommit S.holds S.is_new (D.view disks.old) storage.old books.now unit }
+    ensures committed { IfOk result (DecidesCommit S.holds S.is_new (D.view disks.old) (D.view disks.new) storage.old storage.new books.now unit) }
+    ensures undone { IfErr result (LeavesUncommitted S.holds S.is_new S.leaves S.fills (D.view disks.old) (D.view disks.new) storage.old storage.new books.now unit) }
     ensures within { StaysWithin (S.asked storage.old) (S.asked storage.new) (D.view disks.old) (D.view disks.new) }
     ensures cause { HasCause (D.view disks.old) (D.view disks.new) (disk_err result) }
 {
@@ -115,11 +104,9 @@ pub(crate) fn decide_branch<S: Storage, D: Disks, F: Fn(PlaceKind, &Key, u32) ->
 ) -> Result<Move, Halt>
     requires callable { TakesEachKey (F.pre place.now.place) }
     requires answers { GivesPlaceOf (F.post place.now.place) }
-    requires ready { (s : UnitState) × (base : Id) × (cause : Cause) × IsBefore (S.holds (D.view disks.old) storage.old) (S.is_new (D.view disks.old) storage.old) books.now (branches_in s unit cause) s × IsLaterUnit s unit base }
-    ensures branched { IfOk result (λ made. (s : UnitState) (base : Id) (cause : Cause) → IsBefore (S.holds (D.view disks.old) storage.old) (S.is_new (D.view disks.old) storage.old) books.now (branches_in s unit cause) s → (later : IsLaterUnit s unit base)
-        → IsBranched (S.holds (D.view disks.new) storage.new) (S.is_new (D.view disks.new) storage.new) made s later.unit cause) }
-    ensures undone { IfErr result (λ halt. (s : UnitState) (base : Id) (cause : Cause) → IsBefore (S.holds (D.view disks.old) storage.old) (S.is_new (D.view disks.old) storage.old) books.now (branches_in s unit cause) s → IsLaterUnit s unit base
-        → Undone (S.leaves (D.view disks.new) storage.new) (S.fills (D.view disks.new) storage.new) halt s (branches_in s unit cause)) }
+    requires ready { CanBranch S.holds S.is_new (D.view disks.old) storage.old books.now unit }
+    ensures branched { IfOk result (DecidesBranch S.holds S.is_new (D.view disks.old) (D.view disks.new) storage.old storage.new books.now unit) }
+    ensures undone { IfErr result (LeavesUnbranched S.holds S.is_new S.leaves S.fills (D.view disks.old) (D.view disks.new) storage.old storage.new books.now unit) }
     ensures within { StaysWithin (S.asked storage.old) (S.asked storage.new) (D.view disks.old) (D.view disks.new) }
     ensures cause { HasCause (D.view disks.old) (D.view disks.new) (disk_err result) }
 {

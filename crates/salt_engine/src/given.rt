@@ -1,9 +1,8 @@
 //! What is to come, with what the storage gives for it.
 
-ghost use Rattle.salt_books.specs.Coming.{event_meant};
 ghost use Rattle.salt_books.specs.declared.coming.Coming.TheVariants.{Nothing};
 ghost use Rattle.salt_disk.specs.Disks.{HasCause};
-ghost use Rattle.salt_engine.specs.Giving.{AsksFor, IsGiven, IsUndone};
+ghost use Rattle.salt_engine.specs.Giving.{AsksForOver, LeavesUngiven, Provides};
 ghost use Rattle.law_states.specs.States.{State};
 ghost use Rattle.salt_storage.specs.Answers.{disk_err};
 ghost use Rattle.salt_storage.specs.Staying.{StaysWithin};
@@ -61,11 +60,9 @@ pub fn provide<S: Storage, D: Disks, F: Fn(PlaceKind, &Key, u32) -> u32>(
     requires callable { TakesEachKey (F.pre place.now.place) }
     requires answers { GivesPlaceOf (F.post place.now.place) }
     requires none { in_flight.old ≡ None }
-    requires ready { (s : State) × AsksFor (S.holds (D.view disks.old) storage.old) (S.is_new (D.view disks.old) storage.old) books.now coming s }
-    ensures given { IfOk result (λ given. (s : State) → AsksFor (S.holds (D.view disks.old) storage.old) (S.is_new (D.view disks.old) storage.old) books.now coming s
-        → IsGiven (S.holds (D.view disks.new) storage.new) (S.is_new (D.view disks.new) storage.new) in_flight.new coming given s) }
-    ensures undone { IfErr result (λ halt. (s : State) → AsksFor (S.holds (D.view disks.old) storage.old) (S.is_new (D.view disks.old) storage.old) books.now coming s
-        → IsUndone (S.leaves (D.view disks.new) storage.new) (S.fills (D.view disks.new) storage.new) halt books.now in_flight.new (event_meant s.units coming) s.units) }
+    requires ready { (s : State) × AsksForOver S.holds S.is_new (D.view disks.old) storage.old books.now coming s }
+    ensures given { IfOk result (Provides S.holds S.is_new (D.view disks.old) (D.view disks.new) storage.old storage.new books.now in_flight.new coming) }
+    ensures undone { IfErr result (LeavesUngiven S.holds S.is_new S.leaves S.fills (D.view disks.old) (D.view disks.new) storage.old storage.new books.now in_flight.new coming) }
     ensures within { StaysWithin (S.asked storage.old) (S.asked storage.new) (D.view disks.old) (D.view disks.new) }
     ensures cause { HasCause (D.view disks.old) (D.view disks.new) (disk_err result) }
     ensures still { coming ≡ Nothing → disks.new ≡ disks.old }

@@ -2,15 +2,13 @@
 
 ghost use Rattle.salt_ast.specs.declared.lines.Line.TheVariants as line_of;
 ghost use Rattle.salt_engine.specs.Flights.{definition_of};
-ghost use Rattle.salt_engine.specs.Performing.{AsksLineIn, ComesOut, IsToAskIn, Rejects, Stays, is_definition, stage_behind};
-ghost use Rattle.salt_engine.specs.Stored.{Stored};
-ghost use Rattle.salt_engine.specs.Standing.{StandsAtEventIn};
+ghost use Rattle.salt_engine.specs.Performing.{Rejects, is_definition};
+ghost use Rattle.salt_engine.specs.Deciding.{StaysStored};
 ghost use Rattle.salt_scheduler.specs.Refusals.{HasFewParts};
 ghost use Rattle.salt_scheduler.specs.Serving.{is_prepared_line};
-ghost use Rattle.law_states.specs.Readings.{WatchReading, clash_by, items_by};
+ghost use Rattle.law_states.specs.Readings.{clash_by, items_by};
 ghost use Rattle.law_states.specs.KeptWaits.{AreDistinct};
-ghost use Rattle.law_states.specs.Nexts.{asked_next, refusal_of};
-ghost use Rattle.law_states.specs.OpenUnits.{UnitState};
+ghost use Rattle.law_states.specs.Nexts.{refusal_of};
 ghost use Rattle.law_states.specs.States.{State, asked_of};
 ghost use Rattle.law_states.specs.Told.{line_in};
 ghost use Rattle.salt_model.specs.Trace.{Tree};
@@ -102,7 +100,7 @@ fn arm_each<S: Storage, D: Disks>(
 ) -> Result<(), AllocError>
     requires able { IsTrue (D.view disks.old).can_stop }
     requires picks { Every (λ (p : ℕ × ℕ). p.1 ≤ 4) pairs.now }
-    ensures stored { (s : UnitState) → Stored (S.holds (D.view disks.old) storage.old) (S.is_new (D.view disks.old) storage.old) s → Stored (S.holds (D.view disks.new) storage.new) (S.is_new (D.view disks.new) storage.new) s }
+    ensures stored { StaysStored S.holds S.is_new (D.view disks.old) (D.view disks.new) storage.old storage.new }
     ensures ok { OnOk result ((D.view disks.new).armed ≡ (D.view disks.old).armed ++ pairs.now) }
     ensures faults { (D.view disks.new).faults ≡ (D.view disks.old).faults }
     ensures within { StaysWithin (S.asked storage.old) (S.asked storage.new) (D.view disks.old) (D.view disks.new) }
@@ -114,6 +112,8 @@ fn arm_each<S: Storage, D: Disks>(
 }
 
 impl<S: Storage> Engine<S> {
+    ghost use Rattle.salt_engine.specs.Serving.{AsksLineOver, AsksOut, BeginsOut, IsToAskOver, StaysServing};
+
     /// The table or the program of a line is defined.
     fn define<D: Disks, F: Fn(PlaceKind, &Key, u32) -> u32>(
         &mut self,
@@ -125,10 +125,9 @@ impl<S: Storage> Engine<S> {
         requires answers { GivesPlaceOf (F.post place.now.place) }
         requires definition { is_definition line.now ≡ true }
         requires none { self.old.in_flight ≡ None }
-        requires ready { (s : State) × AsksLineIn (S.holds (D.view disks.old) self.old.storage) (S.is_new (D.view disks.old) self.old.storage) (D.view disks.old).can_stop line.now self.old.stage s }
-        ensures comes { (s : State) (r : WatchReading s.watch) → AsksLineIn (S.holds (D.view disks.old) self.old.storage) (S.is_new (D.view disks.old) self.old.storage) (D.view disks.old).can_stop line.now self.old.stage s
-            → ComesOut (λ e. e) (StandsAtEventIn (S.holds (D.view disks.new) self.new.storage) (S.is_new (D.view disks.new) self.new.storage) self.new.stage) (S.leaves (D.view disks.new) self.new.storage) (S.fills (D.view disks.new) self.new.storage) (stage_behind result self.new.stage) self.new.in_flight (line_in s.units (clash_by s) (items_by s r) line.now) s result }
-        ensures stays { Stays self.old.single self.new.single (S.asked self.old.storage) (S.asked self.new.storage) (D.view disks.old) (D.view disks.new) }
+        requires ready { (s : State) × AsksLineOver S.holds S.is_new (D.view disks.old) self.old line.now s }
+        ensures comes { BeginsOut S.holds S.is_new S.leaves S.fills (D.view disks.old) (D.view disks.new) line.now self.old self.new result }
+        ensures stays { StaysServing S.asked (D.view disks.old) (D.view disks.new) self.old self.new }
         ensures counts { CountsStops (D.view disks.old) (D.view disks.new) (disk_err result) (armed_by result) 0 }
     {
         definitions_may_be_kept();
@@ -160,10 +159,9 @@ impl<S: Storage> Engine<S> {
     ) -> Result<Option<Event>, Halt>
         requires line { line.now ≡ line_of.Crash pairs.now }
         requires none { self.old.in_flight ≡ None }
-        requires ready { (s : State) × AsksLineIn (S.holds (D.view disks.old) self.old.storage) (S.is_new (D.view disks.old) self.old.storage) (D.view disks.old).can_stop line.now self.old.stage s }
-        ensures comes { (s : State) (r : WatchReading s.watch) → AsksLineIn (S.holds (D.view disks.old) self.old.storage) (S.is_new (D.view disks.old) self.old.storage) (D.view disks.old).can_stop line.now self.old.stage s
-            → ComesOut (λ e. e) (StandsAtEventIn (S.holds (D.view disks.new) self.new.storage) (S.is_new (D.view disks.new) self.new.storage) self.new.stage) (S.leaves (D.view disks.new) self.new.storage) (S.fills (D.view disks.new) self.new.storage) (stage_behind result self.new.stage) self.new.in_flight (line_in s.units (clash_by s) (items_by s r) line.now) s result }
-        ensures stays { Stays self.old.single self.new.single (S.asked self.old.storage) (S.asked self.new.storage) (D.view disks.old) (D.view disks.new) }
+        requires ready { (s : State) × AsksLineOver S.holds S.is_new (D.view disks.old) self.old line.now s }
+        ensures comes { BeginsOut S.holds S.is_new S.leaves S.fills (D.view disks.old) (D.view disks.new) line.now self.old self.new result }
+        ensures stays { StaysServing S.asked (D.view disks.old) (D.view disks.new) self.old self.new }
         ensures counts { CountsStops (D.view disks.old) (D.view disks.new) (disk_err result) (armed_by result) 0 }
     {
         self.storage.stands(disks);
@@ -194,10 +192,9 @@ impl<S: Storage> Engine<S> {
         requires answers { GivesPlaceOf (F.post place.now.place) }
         requires plain { is_prepared_line line.now ≡ false }
         requires none { self.old.in_flight ≡ None }
-        requires ready { (s : State) × AsksLineIn (S.holds (D.view disks.old) self.old.storage) (S.is_new (D.view disks.old) self.old.storage) (D.view disks.old).can_stop line.now self.old.stage s }
-        ensures comes { (s : State) (r : WatchReading s.watch) → AsksLineIn (S.holds (D.view disks.old) self.old.storage) (S.is_new (D.view disks.old) self.old.storage) (D.view disks.old).can_stop line.now self.old.stage s
-            → ComesOut (λ e. e) (StandsAtEventIn (S.holds (D.view disks.new) self.new.storage) (S.is_new (D.view disks.new) self.new.storage) self.new.stage) (S.leaves (D.view disks.new) self.new.storage) (S.fills (D.view disks.new) self.new.storage) (stage_behind result self.new.stage) self.new.in_flight (line_in s.units (clash_by s) (items_by s r) line.now) s result }
-        ensures stays { Stays self.old.single self.new.single (S.asked self.old.storage) (S.asked self.new.storage) (D.view disks.old) (D.view disks.new) }
+        requires ready { (s : State) × AsksLineOver S.holds S.is_new (D.view disks.old) self.old line.now s }
+        ensures comes { BeginsOut S.holds S.is_new S.leaves S.fills (D.view disks.old) (D.view disks.new) line.now self.old self.new result }
+        ensures stays { StaysServing S.asked (D.view disks.old) (D.view disks.new) self.old self.new }
         ensures counts { CountsStops (D.view disks.old) (D.view disks.new) (disk_err result) (armed_by result) 0 }
     {
         self.storage.stands(disks);
@@ -218,10 +215,9 @@ impl<S: Storage> Engine<S> {
         requires callable { TakesEachKey (F.pre place.now.place) }
         requires answers { GivesPlaceOf (F.post place.now.place) }
         requires none { self.old.in_flight ≡ None }
-        requires ready { (s : State) × AsksLineIn (S.holds (D.view disks.old) self.old.storage) (S.is_new (D.view disks.old) self.old.storage) (D.view disks.old).can_stop line.now self.old.stage s }
-        ensures comes { (s : State) (r : WatchReading s.watch) → AsksLineIn (S.holds (D.view disks.old) self.old.storage) (S.is_new (D.view disks.old) self.old.storage) (D.view disks.old).can_stop line.now self.old.stage s
-            → ComesOut (λ e. e) (StandsAtEventIn (S.holds (D.view disks.new) self.new.storage) (S.is_new (D.view disks.new) self.new.storage) self.new.stage) (S.leaves (D.view disks.new) self.new.storage) (S.fills (D.view disks.new) self.new.storage) (stage_behind result self.new.stage) self.new.in_flight (line_in s.units (clash_by s) (items_by s r) line.now) s result }
-        ensures stays { Stays self.old.single self.new.single (S.asked self.old.storage) (S.asked self.new.storage) (D.view disks.old) (D.view disks.new) }
+        requires ready { (s : State) × AsksLineOver S.holds S.is_new (D.view disks.old) self.old line.now s }
+        ensures comes { BeginsOut S.holds S.is_new S.leaves S.fills (D.view disks.old) (D.view disks.new) line.now self.old self.new result }
+        ensures stays { StaysServing S.asked (D.view disks.old) (D.view disks.new) self.old self.new }
         ensures counts { CountsStops (D.view disks.old) (D.view disks.new) (disk_err result) (armed_by result) 0 }
     {
         match line {
@@ -242,10 +238,9 @@ impl<S: Storage> Engine<S> {
         requires callable { TakesEachKey (F.pre place.now.place) }
         requires answers { GivesPlaceOf (F.post place.now.place) }
         requires none { self.old.in_flight ≡ None }
-        requires ready { (s : State) × IsToAskIn (S.holds (D.view disks.old) self.old.storage) (S.is_new (D.view disks.old) self.old.storage) (D.view disks.old).can_stop line.now self.old.stage s }
-        ensures comes { (s : State) (r : WatchReading s.watch) → IsToAskIn (S.holds (D.view disks.old) self.old.storage) (S.is_new (D.view disks.old) self.old.storage) (D.view disks.old).can_stop line.now self.old.stage s
-            → ComesOut (λ e. e) (StandsAtEventIn (S.holds (D.view disks.new) self.new.storage) (S.is_new (D.view disks.new) self.new.storage) self.new.stage) (S.leaves (D.view disks.new) self.new.storage) (S.fills (D.view disks.new) self.new.storage) (stage_behind result self.new.stage) self.new.in_flight (asked_next s r (Tree line.now)) (asked_of (Tree line.now) s) result }
-        ensures stays { Stays self.old.single self.new.single (S.asked self.old.storage) (S.asked self.new.storage) (D.view disks.old) (D.view disks.new) }
+        requires ready { (s : State) × IsToAskOver S.holds S.is_new (D.view disks.old) self.old line.now s }
+        ensures comes { AsksOut S.holds S.is_new S.leaves S.fills (D.view disks.old) (D.view disks.new) line.now self.old self.new result }
+        ensures stays { StaysServing S.asked (D.view disks.old) (D.view disks.new) self.old self.new }
         ensures refused { (refusal : Refusal) → result ≡ Ok (Some (Refused refusal)) → disks.new ≡ disks.old }
         ensures counts { CountsStops (D.view disks.old) (D.view disks.new) (disk_err result) (armed_by result) 0 }
     {

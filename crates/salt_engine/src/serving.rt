@@ -4,8 +4,8 @@ ghost use Rattle.salt_books.specs.Coming.{event_meant};
 ghost use Rattle.salt_books.specs.declared.coming.Coming.TheVariants.{Nothing};
 ghost use Rattle.salt_disk.specs.Disks.{HasCause};
 ghost use Rattle.salt_engine.specs.Giving.{CanTakeUp, coming_of};
-ghost use Rattle.salt_engine.specs.Performing.{ComesOut, GoesOnServingIn, IsToServeIn, Stays, TurnsIn, TurnsTo, stage_behind};
-ghost use Rattle.salt_engine.specs.Standing.{StandsAtEventIn, follow_in};
+ghost use Rattle.salt_engine.specs.Performing.{TurnsTo};
+ghost use Rattle.salt_engine.specs.Standing.{follow_in};
 ghost use Rattle.law_states.specs.Nexts.{turned_next};
 ghost use Rattle.law_states.specs.Readings.{WatchReading};
 ghost use Rattle.law_states.specs.States.{State, turned_to};
@@ -67,6 +67,8 @@ fn take_up(scheduler: &mut Scheduler, given: Given) -> Result<Option<Event>, All
 }
 
 impl<S: Storage> Engine<S> {
+    ghost use Rattle.salt_engine.specs.Serving.{GoesOnOut, GoesOnOver, IsToServeOver, PerformsOut, StaysServing, TurnsOut, TurnsOver};
+
     /// What is to come in a line, behind its preparations.
     pub(crate) fn perform<D: Disks, F: Fn(PlaceKind, &Key, u32) -> u32>(
         &mut self,
@@ -77,10 +79,9 @@ impl<S: Storage> Engine<S> {
         requires callable { TakesEachKey (F.pre place.now.place) }
         requires answers { GivesPlaceOf (F.post place.now.place) }
         requires none { self.old.in_flight ≡ None }
-        requires ready { (s : State) × IsToServeIn (S.holds (D.view disks.old) self.old.storage) (S.is_new (D.view disks.old) self.old.storage) self.old.stage coming s }
-        ensures comes { (s : State) → IsToServeIn (S.holds (D.view disks.old) self.old.storage) (S.is_new (D.view disks.old) self.old.storage) self.old.stage coming s
-            → ComesOut (λ e. e) (StandsAtEventIn (S.holds (D.view disks.new) self.new.storage) (S.is_new (D.view disks.new) self.new.storage) self.new.stage) (S.leaves (D.view disks.new) self.new.storage) (S.fills (D.view disks.new) self.new.storage) (stage_behind result self.new.stage) self.new.in_flight (event_meant s.units coming) s result }
-        ensures stays { Stays self.old.single self.new.single (S.asked self.old.storage) (S.asked self.new.storage) (D.view disks.old) (D.view disks.new) }
+        requires ready { (s : State) × IsToServeOver S.holds S.is_new (D.view disks.old) self.old coming s }
+        ensures comes { PerformsOut S.holds S.is_new S.leaves S.fills (D.view disks.old) (D.view disks.new) coming self.old self.new result }
+        ensures stays { StaysServing S.asked (D.view disks.old) (D.view disks.new) self.old self.new }
         ensures cause { HasCause (D.view disks.old) (D.view disks.new) (disk_err result) }
         ensures still { coming ≡ Nothing → disks.new ≡ disks.old }
     {
@@ -111,13 +112,12 @@ impl<S: Storage> Engine<S> {
         requires callable { TakesEachKey (F.pre place.now.place) }
         requires answers { GivesPlaceOf (F.post place.now.place) }
         requires none { self.old.in_flight ≡ None }
-        requires ready { (s : State) × GoesOnServingIn (S.holds (D.view disks.old) self.old.storage) (S.is_new (D.view disks.old) self.old.storage) line.now self.old.stage s }
-        ensures comes { (s : State) (r : WatchReading s.watch) → GoesOnServingIn (S.holds (D.view disks.old) self.old.storage) (S.is_new (D.view disks.old) self.old.storage) line.now self.old.stage s
-            → ComesOut (λ e. e) (StandsAtEventIn (S.holds (D.view disks.new) self.new.storage) (S.is_new (D.view disks.new) self.new.storage) self.new.stage) (S.leaves (D.view disks.new) self.new.storage) (S.fills (D.view disks.new) self.new.storage) (stage_behind result self.new.stage) self.new.in_flight (behind_in s r (follow_in self.old.stage)) s result }
-        ensures stays { Stays self.old.single self.new.single (S.asked self.old.storage) (S.asked self.new.storage) (D.view disks.old) (D.view disks.new) }
+        requires ready { (s : State) × GoesOnOver S.holds S.is_new (D.view disks.old) self.old line.now s }
+        ensures comes { GoesOnOut S.holds S.is_new S.leaves S.fills (D.view disks.old) (D.view disks.new) line.now self.old self.new result }
+        ensures stays { StaysServing S.asked (D.view disks.old) (D.view disks.new) self.old self.new }
         ensures cause { HasCause (D.view disks.old) (D.view disks.new) (disk_err result) }
         ensures unarmed { IfOk result (λ next. armed_at next ≡ []) }
-        ensures still { (s : State) (r : WatchReading s.watch) → GoesOnServingIn (S.holds (D.view disks.old) self.old.storage) (S.is_new (D.view disks.old) self.old.storage) line.now self.old.stage s
+        ensures still { (s : State) (r : WatchReading s.watch) → GoesOnOver S.holds S.is_new (D.view disks.old) self.old line.now s
             → behind_in s r (follow_in self.old.stage) ≡ None → disks.new ≡ disks.old }
     {
         self.storage.stands(disks);
@@ -139,10 +139,9 @@ impl<S: Storage> Engine<S> {
         requires callable { TakesEachKey (F.pre place.now.place) }
         requires answers { GivesPlaceOf (F.post place.now.place) }
         requires none { self.old.in_flight ≡ None }
-        requires ready { (s : State) × TurnsIn (S.holds (D.view disks.old) self.old.storage) (S.is_new (D.view disks.old) self.old.storage) line.now base self.old.stage s }
-        ensures comes { (s : State) (r : WatchReading s.watch) → TurnsIn (S.holds (D.view disks.old) self.old.storage) (S.is_new (D.view disks.old) self.old.storage) line.now base self.old.stage s
-            → ComesOut (λ e. e) (StandsAtEventIn (S.holds (D.view disks.new) self.new.storage) (S.is_new (D.view disks.new) self.new.storage) self.new.stage) (S.leaves (D.view disks.new) self.new.storage) (S.fills (D.view disks.new) self.new.storage) (stage_behind result self.new.stage) self.new.in_flight (turned_next s r base) (turned_to base s) result }
-        ensures stays { Stays self.old.single self.new.single (S.asked self.old.storage) (S.asked self.new.storage) (D.view disks.old) (D.view disks.new) }
+        requires ready { (s : State) × TurnsOver S.holds S.is_new (D.view disks.old) self.old line.now base s }
+        ensures comes { TurnsOut S.holds S.is_new S.leaves S.fills (D.view disks.old) (D.view disks.new) line.now base self.old self.new result }
+        ensures stays { StaysServing S.asked (D.view disks.old) (D.view disks.new) self.old self.new }
         ensures cause { HasCause (D.view disks.old) (D.view disks.new) (disk_err result) }
         ensures unarmed { IfOk result (λ next. armed_at next ≡ []) }
     {

@@ -1,0 +1,89 @@
+-- What an opening does, over its storage and its devices. `holds`, `is_new`, `leaves`, `rests` and `fills` are those of the storage.
+use Rattle.law_states.specs.Points.{Moves, Point, Say}
+use Rattle.law_states.specs.States.{State}
+use Rattle.salt_books.specs.Coming.{event_meant}
+use Rattle.salt_books.specs.declared.coming.Coming.{Coming}
+use Rattle.salt_database.specs.Halves.{IsOnward, opening_left, opening_lies, opening_sees}
+use Rattle.salt_database.specs.Performing.{GoesOnOpening, IsToOpen}
+use Rattle.salt_database.specs.Standing.{OpensIn}
+use Rattle.salt_database.specs.declared.onward.Onward.{Onward}
+use Rattle.salt_database.specs.declared.opening.Opening.{Opening}
+use Rattle.salt_disk.specs.Disks.{View}
+use Rattle.salt_drain.specs.Follows.{comes_behind}
+use Rattle.salt_drain.specs.Recovering.{behind_of}
+use Rattle.salt_drain.specs.declared.recovery.Recovery.{Recovery}
+use Rattle.salt_driver.specs.Standing.{BreaksAt, IsOpeningAt, IsSoundPoint}
+use Rattle.salt_engine.specs.Flights.{flight_of}
+use Rattle.salt_engine.specs.Performing.{ComesOut, Stays}
+use Rattle.salt_model.specs.Kept.{Kept}
+use Rattle.salt_model.specs.Phases.{Fallen}
+use Rattle.salt_model.specs.declared.events.Event.{Event}
+use Rattle.salt_place.specs.declared.placement.Shape.{Shape}
+use Rattle.salt_storage.specs.Writing.{ToWrite}
+use Rattle.salt_storage.specs.declared.found.Numbers.{Numbers}
+use Rattle.salt_storage.specs.declared.halt.Halt.{Halt}
+use Rattle.salt_values.specs.declared.id.Id.{Id}
+use Rattle.std.specs.Prelude.{Bool, List, None, Option, Result, Some, ℕ, ◌≡◌}
+
+-- No call changes what is noted beside the stage, the shape that the storage is asked for, and devices that are not of it.
+abbrev pub StaysOpening : {S : Type 0} → (asked : S → Shape) → (old new : View) (x y : Opening S) → Type 0
+StaysOpening asked old new x y = Stays {A = Bool × Option Numbers} (x.single, x.found) (y.single, y.found) (asked x.storage) (asked y.storage) old new
+
+-- BROKEN OFF, it can be opened at a point, or only what it has left is known
+
+module _ {S : Type 0} (holds : View → S → Kept → Type 0) (leaves : View → S → Kept → Kept → Type 0) where
+  abbrev pub CanOpenAt : View → Opening S → ℕ → Point → Type 0
+  CanOpenAt d x room p = opening_lies (holds d) (leaves d) d.can_stop x room p
+
+  abbrev pub IsLeftAt : (rests : View → S → Kept → Type 0) → View → Opening S → Option Numbers → ℕ → Point → Type 0
+  IsLeftAt rests d x numbers room p = opening_left (holds d) (leaves d) (rests d) x numbers room p
+
+  -- a sound run has fallen at a point, and can be opened there
+  abbrev pub IsFallen : View → Opening S → Type 0
+  IsFallen d x = (room : ℕ) × (p : Point) × IsSoundPoint p × (p.state.units.phase ≡ Fallen) × CanOpenAt d x room p
+
+  -- this is so wherever it has
+  abbrev pub WhereFallen : View → Opening S → (ℕ → Point → Type 0) → Type 0
+  WhereFallen d x is_so = (room : ℕ) (p : Point) → IsSoundPoint p → p.state.units.phase ≡ Fallen → CanOpenAt d x room p → is_so room p
+
+  -- it was broken off behind an event, or before it for want of memory
+  abbrev pub BreaksOver : (rests : View → S → Kept → Type 0) (fills : View → S → ToWrite → ℕ → Type 0) → View → Opening S → Halt → Event → (story told : List Event) → Point → Type 0
+  BreaksOver rests fills d x halt event story told p =
+      BreaksAt (CanOpenAt d x 0) (IsLeftAt rests d x None 0) (fills d x.storage) (flight_of x.in_flight) halt p event story told
+
+module _ {S : Type 0} (holds : View → S → Kept → Type 0) (is_new : View → S → Id → Type 0) where
+  -- GOING ON: it stands for the state of a point, with the event at hand
+
+  abbrev pub SeesOver : View → Opening S → Option Event → State → Type 0
+  SeesOver d x next s = opening_sees (holds d) (is_new d) d.can_stop x next s
+
+  abbrev pub IsOpeningOver : View → Opening S → Event → Point → Type 0
+  IsOpeningOver d x event p = IsOpeningAt (opening_sees (holds d) (is_new d) d.can_stop) x (Some event) p
+
+  -- this is so at each sound point at which it does
+  abbrev pub WhereOpening : View → Opening S → Event → (Point → Type 0) → Type 0
+  WhereOpening d x event is_so = (p : Point) → IsSoundPoint p → IsOpeningOver d x event p → is_so p
+
+  -- the event is told, and it goes on, or lines are served behind it
+  abbrev pub MovesOn : View → Opening S → Event → Onward → Point → Type 0
+  MovesOn d x event onward p = (q : Point) × Moves (Say event) p q × IsOnward (holds d) (is_new d) d.can_stop x onward q
+
+  -- WHAT IS TO COME is chosen by a recovery, or comes behind its event
+
+  abbrev pub IsToOpenOver : View → Opening S → Recovery → Coming → State → Type 0
+  IsToOpenOver d x recovery coming s = IsToOpen (holds d x.storage) (is_new d x.storage) recovery coming s
+
+  abbrev pub GoesOnOver : View → Opening S → Recovery → State → Type 0
+  GoesOnOver d x recovery s = GoesOnOpening (holds d x.storage) (is_new d x.storage) recovery s
+
+  module _ (leaves : View → S → Kept → Kept → Type 0) (fills : View → S → ToWrite → ℕ → Type 0) where
+    -- what was meant is given, and done; or it is broken off
+    abbrev pub ComesOutOver : View → Opening S → Option Event → State → Result Event Halt → Type 0
+    ComesOutOver d x meant s result =
+        ComesOut Some (OpensIn (holds d x.storage) (is_new d x.storage) x.stage) (leaves d x.storage) (fills d x.storage) x.stage x.in_flight meant s result
+
+    abbrev pub PerformsOut : (d e : View) → Recovery → Coming → (x y : Opening S) → Result Event Halt → Type 0
+    PerformsOut d e recovery coming x y result = (s : State) → IsToOpenOver d x recovery coming s → ComesOutOver e y (event_meant s.units coming) s result
+
+    abbrev pub GoesOnOut : (d e : View) → Recovery → (x y : Opening S) → Result Event Halt → Type 0
+    GoesOnOut d e recovery x y result = (s : State) → GoesOnOver d x recovery s → ComesOutOver e y (comes_behind (behind_of recovery) s.units) s result
