@@ -23,6 +23,7 @@ use salt_values::{Id, Ids};
 use std::alloc::AllocError;
 
 impl Recovery {
+    ghost use Rattle.salt_drain.specs.Done.{DoesAlone};
     ghost use Rattle.salt_drain.specs.Recovering.{AnswersWith, ChoosesNext, ChoosesOf, DoesNext, IsInOpening, IsInOpeningOf, IsRecovering, StandsForState, books_of};
 
     /// A unit of an earlier boot is cut.
@@ -40,8 +41,7 @@ impl Recovery {
 
     /// A program goes on: a unit begins with its next part, where no other is open.
     fn begin(&mut self, base: Id, part: u32) -> Result<Event, AllocError>
-        ensures { IfOk result (λ e. (s : State) → StandsForState self.old s → IsRecovering s → s.units.units ≡ []
-            → AnswersWith s (Some (begins_in s.units (Later base part))) self.new (Some e)) }
+        ensures { IfOk result (DoesAlone (λ s. Some (begins_in s (Later base part))) self.old self.new) }
     {
         let unit = self
             .books
@@ -87,8 +87,7 @@ impl Recovery {
 
     /// Where no unit is open, programs that are unfinished are taken on; where none is left, the opening is done.
     fn drain(&mut self) -> Result<Event, AllocError>
-        ensures { IfOk result (λ e. (s : State) → StandsForState self.old s → IsRecovering s → s.units.units ≡ []
-            → AnswersWith s (Some (drains_in s.units s.units.kept.conts)) self.new (Some e)) }
+        ensures { IfOk result (DoesAlone (λ s. Some (drains_in s s.kept.conts)) self.old self.new) }
     {
         match self.books.next_drained() {
             Some(cont) => {

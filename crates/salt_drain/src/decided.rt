@@ -3,22 +3,13 @@
 ghost use Rattle.salt_ast.specs.ProgramTexts.{program_text};
 ghost use Rattle.salt_ast.specs.Texts.{table_text};
 ghost use Rattle.salt_ast.specs.declared.lines.Line.TheVariants.{Program, Table};
-ghost use Rattle.salt_books.specs.Asking.{IsAskedBy};
-ghost use Rattle.salt_books.specs.Books.{AreLoaded, HaveUnit, programs_in, tables_in};
+ghost use Rattle.salt_books.specs.Books.{HaveUnit, programs_in, tables_in};
 ghost use Rattle.salt_eval.specs.Scans.{IsKeyed};
 ghost use Rattle.salt_eval.specs.Views.{tables_of};
-ghost use Rattle.law_states.specs.OpenUnits.{OpenUnit, unit_named};
-ghost use Rattle.law_states.specs.States.{State};
-ghost use Rattle.salt_books.specs.Moves.{MovesTo};
-ghost use Rattle.law_states.specs.Told.{commits_in, does_in, next_decision};
-ghost use Rattle.salt_model.specs.Kept.{conts_branched, conts_committed};
-ghost use Rattle.salt_model.specs.declared.events.End.{End};
-ghost use Rattle.salt_model.specs.declared.events.Event.{Event};
-ghost use Rattle.salt_model.specs.declared.events.UnitKind.TheVariants.{Later};
 ghost use Rattle.salt_program.specs.Refusals.{parts_in, program_refusal};
 ghost use Rattle.salt_schema.specs.Refusals.{table_refusal};
 ghost use Rattle.salt_units.specs.Acting.{leaves_keys};
-ghost use Rattle.std.specs.Prelude.{IfOk, None, Some, length, true, ℕ, ◌+◌, ◌<◌, ◌^◌, ◌≡◌};
+ghost use Rattle.std.specs.Prelude.{IfOk, None, length, true, ◌+◌, ◌<◌, ◌^◌, ◌≡◌};
 
 use crate::behind::{Behind, behind_commit};
 use crate::recovery::Recovery;
@@ -32,7 +23,8 @@ use std::alloc::AllocError;
 use std::sync::ledger::Ledger;
 
 impl Recovery {
-    ghost use Rattle.salt_drain.specs.Recovering.{AnswersWith, IsOfPart, IsRecovering, StandsForState, books_of};
+    ghost use Rattle.salt_drain.specs.Done.{HasBranched, HasCommitted, HasDefined, HasDone};
+    ghost use Rattle.salt_drain.specs.Recovering.{books_of};
 
     /// A unit that goes on with a program does the statement that it asks for, over the rows that this reaches: one step, whatever it
     /// answers.
@@ -45,8 +37,7 @@ impl Recovery {
         requires there { HaveUnit (books_of self.old) asking.unit }
         requires leaves_keys { leaves_keys (tables_in (books_of self.old)) asking.statement ≡ true }
         requires keyed { IsKeyed (tables_of rows.now.entries) }
-        ensures gives { IfOk result (λ e. (s : State) (o : OpenUnit) → StandsForState self.old s → IsRecovering s → IsAskedBy asking s.units o → IsOfPart o
-            → AreLoaded asking.reach (tables_of rows.now.entries) s.units.kept.tables → AnswersWith s (Some (does_in s.units o asking.statement)) self.new (Some e)) }
+        ensures gives { IfOk result (HasDone asking (tables_of rows.now.entries) self.old self.new) }
         ensures ticks { steps.new ≡ steps.old + 1 }
     {
         let Asking {
@@ -72,9 +63,7 @@ impl Recovery {
     /// The commit of a unit has been decided, with this move of its program: it commits.
     pub fn committed(&mut self, unit: Id, made: Move) -> Result<Event, AllocError>
         requires { HaveUnit (books_of self.old) unit }
-        ensures { IfOk result (λ e. (s : State) (o : OpenUnit) → StandsForState self.old s → IsRecovering s → unit_named unit s.units.units ≡ Some o
-            → MovesTo made s.units.kept (conts_committed s.units.kept (next_decision s.units) o.kind o.vars)
-            → AnswersWith s (Some (commits_in s.units o)) self.new (Some e)) }
+        ensures { IfOk result (HasCommitted unit made self.old self.new) }
     {
         let Some(held) = self.books.unit_named(unit) else {
             unreachable!()
@@ -98,9 +87,7 @@ impl Recovery {
         made: Move,
     ) -> Result<Event, AllocError>
         requires { HaveUnit (books_of self.old) unit }
-        ensures { IfOk result (λ e. (s : State) (o : OpenUnit) (part : ℕ) → StandsForState self.old s → IsRecovering s → unit_named unit s.units.units ≡ Some o
-            → o.kind ≡ Later base part → MovesTo made s.units.kept (conts_branched s.units.kept o.kind)
-            → AnswersWith s (Some (Event.Ended unit (End.Branched (next_decision s.units) cause))) self.new (Some e)) }
+        ensures { IfOk result (HasBranched unit base cause made self.old self.new) }
     {
         let number = self.books.branch(unit, made)?;
         self.behind = Behind::Finish(base);
@@ -113,8 +100,7 @@ impl Recovery {
     /// The table of the last line has been decided: it is defined.
     pub fn table_defined(&mut self, def: &TableDef) -> Result<Event, AllocError>
         requires { table_refusal (tables_in (books_of self.old)) def.now ≡ None }
-        ensures { IfOk result (λ e. (s : State) → StandsForState self.old s → IsRecovering s → s.units.line ≡ Table def.now
-            → AnswersWith s (Some (Event.Defined (next_decision s.units) (table_text def.now))) self.new (Some e)) }
+        ensures { IfOk result (HasDefined (Table def.now) (table_text def.now) self.old self.new) }
     {
         let (number, text) = self.books.define_table(def)?;
         self.behind = Behind::Nothing;
@@ -125,8 +111,7 @@ impl Recovery {
     pub fn program_defined(&mut self, def: &ProgramDef) -> Result<Event, AllocError>
         requires parts { length (parts_in def.now.body) < 2 ^ 32 }
         requires allowed { program_refusal (tables_in (books_of self.old)) (programs_in (books_of self.old)) def.now ≡ None }
-        ensures { IfOk result (λ e. (s : State) → StandsForState self.old s → IsRecovering s → s.units.line ≡ Program def.now
-            → AnswersWith s (Some (Event.Defined (next_decision s.units) (program_text def.now))) self.new (Some e)) }
+        ensures { IfOk result (HasDefined (Program def.now) (program_text def.now) self.old self.new) }
     {
         let (number, text) = self.books.define_program(def)?;
         self.behind = Behind::Nothing;

@@ -5,3 +5,4 @@ pub mod Refusals
 pub mod Refused
 pub mod Serving
 pub mod Standing
+pub mod Done

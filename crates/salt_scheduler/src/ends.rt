@@ -1,23 +1,17 @@
 //! How units end, and what becomes of programs.
 
-ghost use Rattle.std.specs.Prelude.{◌≡◌, IfOk, None, Option, Some, option_map, ℕ};
+ghost use Rattle.std.specs.Prelude.{◌≡◌, IfOk, None, Option, Some, option_map};
 ghost use Rattle.salt_ast.specs.declared.lines.Line.{Line};
 ghost use Rattle.salt_books.specs.Books.{HaveUnit};
 ghost use Rattle.salt_books.specs.Ends.{IsUndecided, done_of};
-ghost use Rattle.salt_books.specs.Moves.{MovesTo};
 ghost use Rattle.salt_scheduler.specs.Follows.{event_of};
 ghost use Rattle.salt_scheduler.specs.declared.follow.Follow.TheVariants.{Accept, Release};
 ghost use Rattle.law_states.specs.Follows.{settles_in};
-ghost use Rattle.law_states.specs.OpenUnits.{OpenUnit, unit_named};
-ghost use Rattle.law_states.specs.Readings.{WatchReading, beside_by};
-ghost use Rattle.law_states.specs.States.{State};
-ghost use Rattle.law_states.specs.Told.{commits_in, finishes_in, next_decision};
-ghost use Rattle.salt_model.specs.Kept.{conts_branched, conts_committed};
+ghost use Rattle.law_states.specs.OpenUnits.{unit_named};
+ghost use Rattle.law_states.specs.Readings.{beside_by};
+ghost use Rattle.law_states.specs.Told.{commits_in, finishes_in};
 ghost use Rattle.salt_model.specs.Turns.{releases};
-ghost use Rattle.salt_books.specs.Sound.{IsSoundState};
-ghost use Rattle.salt_model.specs.declared.events.End.{End};
 ghost use Rattle.salt_model.specs.declared.events.Event.{Event};
-ghost use Rattle.salt_model.specs.declared.events.UnitKind.TheVariants.{Later};
 ghost use Rattle.salt_values.specs.declared.id.Id.{Id};
 
 use crate::called::{forget, forget_first};
@@ -32,7 +26,8 @@ use salt_values::Id;
 use std::alloc::AllocError;
 
 impl Scheduler {
-    ghost use Rattle.salt_scheduler.specs.Standing.{AnswersWith, AnswersWithComing, ChoosesNext, DoesNext, IsServing, IsServingBehind, ServesLine, StandsBehindEvent, StandsForState, behind_in, books_of, follow_of};
+    ghost use Rattle.salt_scheduler.specs.Done.{ChoosesBehind, HasBranched, HasCommitted};
+    ghost use Rattle.salt_scheduler.specs.Standing.{ChoosesNext, DoesNext, IsServing, IsServingBehind, behind_in, books_of, follow_of};
 
     /// A unit is to commit, if it is open.
     pub(crate) fn commit(&self, line: &Line, unit: Id) -> Coming
@@ -47,9 +42,7 @@ impl Scheduler {
     /// A unit that is to commit has been decided, with this move of its program: it commits.
     pub fn committed(&mut self, unit: Id, made: Move) -> Result<Event, AllocError>
         requires { HaveUnit (books_of self.old) unit }
-        ensures { IfOk result (λ e. (s : State) (o : OpenUnit) → StandsForState self.old s → IsSoundState s → unit_named unit s.units.units ≡ Some o
-            → MovesTo made s.units.kept (conts_committed s.units.kept (next_decision s.units) o.kind o.vars)
-            → AnswersWith s (Some (commits_in s.units o)) self.new (Some e)) }
+        ensures { IfOk result (HasCommitted unit made self.old self.new) }
     {
         let Some(held) = self.books.unit_named(unit) else {
             unreachable!()
@@ -95,9 +88,7 @@ impl Scheduler {
         made: Move,
     ) -> Result<Event, AllocError>
         requires { HaveUnit (books_of self.old) unit }
-        ensures { IfOk result (λ e. (s : State) (o : OpenUnit) (part : ℕ) → StandsForState self.old s → IsSoundState s → unit_named unit s.units.units ≡ Some o
-            → o.kind ≡ Later base part → MovesTo made s.units.kept (conts_branched s.units.kept o.kind)
-            → AnswersWith s (Some (Event.Ended unit (End.Branched (next_decision s.units) cause))) self.new (Some e)) }
+        ensures { IfOk result (HasBranched unit base cause made self.old self.new) }
     {
         self.watch.end(unit, None);
         let number = self.books.branch(unit, made)?;
@@ -176,8 +167,7 @@ impl Scheduler {
     /// The programs are released that are due now that this one has finished.
     fn release(&mut self, line: &Line, base: Id) -> Result<Coming, AllocError>
         requires { follow_of self.old ≡ Release base }
-        ensures { IfOk result (λ coming. (s : State) (r : WatchReading s.watch) → StandsBehindEvent self.old s → ServesLine line.now s
-            → AnswersWithComing s (releases (beside_by s r).due) self.new coming) }
+        ensures { IfOk result (ChoosesBehind (λ s r. releases (beside_by s r).due) line.now self.old self.new) }
     {
         let due = self.watch.finish(base)?;
         self.follow = Follow::Nothing;
@@ -207,8 +197,7 @@ impl Scheduler {
     /// What follows the event at hand in its turn.
     fn follow_up(&mut self, line: &Line) -> Result<Coming, AllocError>
         requires { IsServingBehind line.now self.old }
-        ensures { IfOk result (λ coming. (s : State) (r : WatchReading s.watch) → StandsBehindEvent self.old s → ServesLine line.now s
-            → AnswersWithComing s (event_of (follow_of self.old) s.units (beside_by s r)) self.new coming) }
+        ensures { IfOk result (ChoosesBehind (λ s r. event_of (follow_of self.old) s.units (beside_by s r)) line.now self.old self.new) }
     {
         match self.follow {
             Follow::Nothing => Ok(Coming::Nothing),
@@ -223,8 +212,7 @@ impl Scheduler {
     /// What comes behind the event at hand: what follows it in its turn, or what settles.
     pub fn go_on(&mut self, line: &Line) -> Result<Coming, AllocError>
         requires { IsServingBehind line.now self.old }
-        ensures { IfOk result (λ coming. (s : State) (r : WatchReading s.watch) → StandsBehindEvent self.old s → ServesLine line.now s
-            → AnswersWithComing s (behind_in s r (follow_of self.old)) self.new coming) }
+        ensures { IfOk result (ChoosesBehind (λ s r. behind_in s r (follow_of self.old)) line.now self.old self.new) }
     {
         let following = self.follow_up(line)?;
         match &following {

@@ -2,16 +2,12 @@
 
 ghost use Rattle.std.specs.Prelude.{◌≡◌, IfOk, Option, Some, option_and_then, true};
 ghost use Rattle.salt_ast.specs.declared.lines.Line.{Line};
-ghost use Rattle.salt_books.specs.Books.{AreLoaded, HaveUnit, tables_in};
+ghost use Rattle.salt_books.specs.Books.{HaveUnit, tables_in};
 ghost use Rattle.salt_eval.specs.Scans.{IsKeyed};
 ghost use Rattle.salt_eval.specs.Views.{tables_of};
-ghost use Rattle.salt_books.specs.Asking.{IsAskedBy};
-ghost use Rattle.salt_books.specs.Sound.{IsSoundState};
-ghost use Rattle.law_states.specs.OpenUnits.{OpenUnit, unit_named};
+ghost use Rattle.law_states.specs.OpenUnits.{unit_named};
 ghost use Rattle.law_states.specs.Readings.{clash_by};
-ghost use Rattle.law_states.specs.States.{State};
-ghost use Rattle.law_states.specs.Told.{begins_in, does_in, serve_in, turn_of_in};
-ghost use Rattle.salt_model.specs.declared.events.Event.{Event};
+ghost use Rattle.law_states.specs.Told.{begins_in, serve_in, turn_of_in};
 ghost use Rattle.salt_units.specs.Acting.{leaves_keys};
 
 use crate::called::note_call;
@@ -28,7 +24,8 @@ use salt_values::{Id, TryCopy};
 use std::alloc::AllocError;
 
 impl Scheduler {
-    ghost use Rattle.salt_scheduler.specs.Standing.{AnswersWith, ChoosesNext, DoesNext, IsServing, ServesLine, StandsForState, books_of};
+    ghost use Rattle.salt_scheduler.specs.Done.{HasDone, HasWaited};
+    ghost use Rattle.salt_scheduler.specs.Standing.{ChoosesNext, DoesNext, IsServing, books_of};
 
     /// A unit begins.
     pub(crate) fn begin(&mut self, line: &Line, kind: UnitKind) -> Result<Event, AllocError>
@@ -51,8 +48,7 @@ impl Scheduler {
         requires there { HaveUnit (books_of self.old) asking.unit }
         requires leaves_keys { leaves_keys (tables_in (books_of self.old)) asking.statement ≡ true }
         requires keyed { IsKeyed (tables_of rows.now.entries) }
-        ensures { IfOk result (λ e. (s : State) (o : OpenUnit) → StandsForState self.old s → IsSoundState s → IsAskedBy asking s.units o
-            → AreLoaded asking.reach (tables_of rows.now.entries) s.units.kept.tables → AnswersWith s (Some (does_in s.units o asking.statement)) self.new (Some e)) }
+        ensures { IfOk result (HasDone asking (tables_of rows.now.entries) self.old self.new) }
     {
         let Asking {
             unit,
@@ -78,8 +74,7 @@ impl Scheduler {
     /// A unit waits for these owners.
     fn wait(&mut self, line: &Line, asking: Asking, owners: Owners) -> Result<Event, AllocError>
         requires { HaveUnit (books_of self.old) asking.unit }
-        ensures { IfOk result (λ e. (s : State) (o : OpenUnit) → StandsForState self.old s → ServesLine line.now s → IsAskedBy asking s.units o
-            → AnswersWith s (Some (Event.Waits asking.unit owners)) self.new (Some e)) }
+        ensures { IfOk result (HasWaited asking owners line.now self.old self.new) }
     {
         let Asking {
             unit,
