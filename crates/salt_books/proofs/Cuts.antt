@@ -1,5 +1,5 @@
 -- The units that an opening cuts, the first of them.
-use Rattle.salt_books.specs.Books.{seen}
+use Rattle.salt_books.specs.Held.{seen}
 use Rattle.salt_books.specs.declared.held.Held.{Held}
 use Rattle.salt_books.proofs.LookUps.{names-seen}
 use Rattle.law_states.specs.OpenUnits.{names_in}

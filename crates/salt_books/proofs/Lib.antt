@@ -16,4 +16,5 @@ pub mod Numbering
 pub mod OneHeld
 pub mod Phases
 pub mod Replaced
+pub mod Shown
 mod Ordered

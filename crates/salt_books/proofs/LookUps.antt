@@ -1,5 +1,5 @@
 -- Units that are looked up among those that are held.
-use Rattle.salt_books.specs.Books.{seen}
+use Rattle.salt_books.specs.Held.{seen}
 use Rattle.salt_books.specs.Names.{has_name}
 use Rattle.salt_books.specs.declared.held.Held.{Held}
 use Rattle.law_states.specs.OpenUnits.{OpenUnit, names_in, unit_named}
@@ -12,7 +12,7 @@ use Rattle.salt_values.specs.declared.id.Id.{Id}
 use Rattle.std.proofs.Common.{ap, arith, subst, sym, ◌∙◌}
 use Rattle.std.proofs.lemmas.Bool.Decides.{nat_tests}
 use Rattle.std.specs.List.{cons_option, filter_map, find, position, position_or_len}
-use Rattle.std.specs.Prelude.{Bool, IsSome, List, None, Some, [], cond, get_or, length, map, nat_lt, not, option_map, refl, suc, true, false, ℕ, ◌+◌, ◌∷◌, ◌≡◌}
+use Rattle.std.specs.Prelude.{Bool, IsSome, List, None, Option, Some, [], cond, get_or, length, map, nat_lt, not, option_map, refl, suc, true, false, ℕ, ◌+◌, ◌∷◌, ◌≡◌}
 
 pub find-seen : (p : OpenUnit → Bool) (hs : List Held) → option_map seen (find (λ (h : Held). p (seen h)) hs) ≡ find p (map seen hs)
 find-seen p [] = refl
@@ -45,11 +45,14 @@ module _ (u : Id) (hs : List Held) where
   pub named : (at : ℕ) (d : Held) → find (has_name u) hs ≡ Some (get_or hs at d) → (get_or hs at d).open.unit ≡ u
   named at d e = is_same_id-true (get_or hs at d).open.unit u (find-in (has_name u) (get_or hs at d) hs e).1
 
-  pub not-there : (os : List OpenUnit) → map seen hs ≡ os → IsSome (unit_named u os) → find (has_name u) hs ≡ None → ⊥
-  not-there os same there e =
-      let none : unit_named u os ≡ None =
-      sym (ap (unit_named u) same) ∙ sym (find-seen (λ (o : OpenUnit). is_same_id o.unit u) hs) ∙ ap (option_map seen) e in
-      let none_is = subst IsSome none there in cc
+  -- one that is open is held
+  pub there : (is : List Held) (os : List OpenUnit) → is ≡ hs → map seen hs ≡ os → IsSome (unit_named u os) → IsSome (find (has_name u) is)
+  there is os items same some = by (find (has_name u) is)
+      (subst IsSome (sym (ap (λ l. option_map seen (find (has_name u) l)) items ∙ find-seen (λ (o : OpenUnit). is_same_id o.unit u) hs ∙ ap (unit_named u) same)) some)
+    where
+      by : (o : Option Held) → IsSome (option_map seen o) → IsSome o
+      by (Some h) it = it
+      by None it = it
 
 pub names-seen : (hs : List Held) → map (λ (h : Held). (seen h).unit) hs ≡ names_in (map seen hs)
 names-seen [] = refl

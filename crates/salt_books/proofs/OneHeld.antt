@@ -1,5 +1,5 @@
 -- The one unit of a name among those that are held: what changes there, and what is left without it.
-use Rattle.salt_books.specs.Books.{seen}
+use Rattle.salt_books.specs.Held.{seen}
 use Rattle.salt_books.specs.declared.held.Held.{Held}
 use Rattle.law_states.proofs.Held.{changed-one, left-one, seen-at, within}
 use Rattle.law_states.proofs.Rising.{named-at}

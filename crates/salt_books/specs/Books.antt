@@ -3,10 +3,8 @@ use Rattle.salt_ast.specs.declared.programs.ProgramDef.{ProgramDef}
 use Rattle.salt_ast.specs.declared.trees.Statement.{Statement}
 use Rattle.salt_ast.specs.declared.trees.TableDef.{TableDef}
 use Rattle.salt_books.specs.declared.books.Books.{Books}
-use Rattle.salt_books.specs.declared.held.Held.{Held}
 use Rattle.salt_books.specs.declared.known.Known.{Known}
-use Rattle.law_states.specs.OpenUnits.{OpenUnit, UnitState, belongs_to_program, belongs_to_session, unit_named}
-use Rattle.law_states.specs.Overlays.{edits_of}
+use Rattle.law_states.specs.OpenUnits.{OpenUnit, UnitState, unit_named}
 use Rattle.law_states.specs.Steps.{doing_one, outcome_under}
 use Rattle.salt_books.specs.Known.{IsKnown, boot_known, conts_known, decisions_known, programs_known, tables_known}
 use Rattle.salt_books.specs.Moves.{IsAtPart}
@@ -17,20 +15,7 @@ use Rattle.salt_model.specs.declared.locks.Reach.{Reach}
 use Rattle.salt_model.specs.declared.places.Place.{Place}
 use Rattle.salt_values.specs.declared.cont.Cont.{Cont}
 use Rattle.salt_values.specs.declared.id.Id.{Id}
-use Rattle.std.specs.Prelude.{Bool, IsSome, List, None, Option, Some, if◌then◌else◌, map, ℕ, ⊤, ◌≡◌}
-
--- a unit that is held, as an open unit
-abbrev pub seen : Held → OpenUnit
-seen h = record {
-  unit = h.open.unit;
-  kind = h.kind;
-  single = h.single;
-  waiting = h.waiting;
-  asks = h.asks;
-  done = h.done;
-  vars = h.open.vars;
-  changes = edits_of h.open.changes.items;
-}
+use Rattle.std.specs.Prelude.{Bool, IsSome, List, None, Option, Some, if◌then◌else◌, ℕ, ⊤, ◌≡◌}
 
 -- WHAT THEY SHOW: what is known, of it the tables and programs, where programs go on, the last boot and the last decision; the open units, how
 -- many have begun, and the programs to which `go all` has still to turn
@@ -54,7 +39,7 @@ abbrev pub decisions_in : Books → ℕ
 decisions_in x = decisions_known (known_in x)
 
 abbrev pub units_in : Books → List OpenUnit
-units_in x = map seen x.units.items
+units_in x = x.units
 
 abbrev pub begun_in : Books → ℕ
 begun_in x = x.unit_count
@@ -66,13 +51,6 @@ abbrev pub owes_turn : Books → Bool
 owes_turn x = x.owes
 
 -- WHAT THEY STAND FOR
-
--- whether a unit that is held is a session's, and a program's
-unfoldable pub is_of_session : ℕ → Held → Bool
-is_of_session session h = belongs_to_session session (seen h)
-
-unfoldable pub is_of_program : Id → Held → Bool
-is_of_program base h = belongs_to_program base (seen h)
 
 -- a unit has done a statement on what is kept, under its changes
 pub record HasActed (k : Kept) (st : Statement) (old : OpenUnit) (told : Answer) (new : OpenUnit) : Type 0 where
@@ -96,10 +74,8 @@ pub record AreBooks (x : Books) (s : UnitState) : Type 0 where
   pub owes : x.owes ≡ s.owes
 
 -- the books have an open unit of this name
-pub record HaveUnit (x : Books) (u : Id) : Type 0 where
-  pub state : UnitState
-  pub books : AreBooks x state
-  pub named : IsSome (unit_named u state.units)
+abbrev pub HaveUnit : Books → Id → Type 0
+HaveUnit x u = IsSome (unit_named u (units_in x))
 
 -- the part of the unit of this name is the one at which its program stands
 abbrev pub IsUnitAtPart : UnitState → Id → Type 0

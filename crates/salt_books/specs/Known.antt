@@ -1,7 +1,6 @@
 -- What is known in memory of a database, told by the definitions' record of what is kept.
 use Rattle.salt_ast.specs.declared.programs.ProgramDef.{ProgramDef}
 use Rattle.salt_ast.specs.declared.trees.TableDef.{TableDef}
-use Rattle.salt_cont.specs.Moves.{LeadOn, parts_named}
 use Rattle.salt_books.specs.declared.known.Known.{Known}
 use Rattle.salt_model.specs.Kept.{Kept, programs_of, schema_of}
 use Rattle.salt_values.specs.declared.cont.Cont.{Cont}
@@ -24,17 +23,10 @@ boot_known x = x.boot
 abbrev pub decisions_known : Known → ℕ
 decisions_known x = x.decisions
 
--- WHAT IT STANDS FOR
-
--- the ways of each program lead to later parts or to the end
-abbrev pub AllLeadOn : List ProgramDef → Type 0
-AllLeadOn catalogue = (name : List ℕ) → LeadOn (parts_named catalogue name)
-
--- each field has what is kept, and the ways of programs lead on; of the rows of tables nothing is said
+-- WHAT IT STANDS FOR: what is kept, but for the rows of tables, of which nothing is said
 pub record IsKnown (x : Known) (k : Kept) : Type 0 where
   pub schema : tables_known x ≡ schema_of k
   pub catalogue : programs_known x ≡ programs_of k
   pub conts : conts_known x ≡ k.conts
   pub boot : boot_known x ≡ k.boot
   pub decisions : decisions_known x ≡ k.decisions
-  pub lead_on : AllLeadOn (programs_of k)

@@ -3,8 +3,11 @@ pub mod Bases
 pub mod Books
 pub mod Called
 pub mod Coming
+pub mod Done
 pub mod Ends
+pub mod Held
 pub mod Known
 pub mod Moves
 pub mod Names
+pub mod Shown
 pub mod Sound

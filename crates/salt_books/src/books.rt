@@ -11,22 +11,19 @@ ghost use Rattle.salt_model.specs.Waiting.{statement_of_line};
 ghost use Rattle.salt_model.specs.declared.events.Event.{Event};
 ghost use Rattle.salt_model.specs.declared.events.Owner.{Owner};
 ghost use Rattle.salt_ast.specs.declared.lines.Line.{Line};
-ghost use Rattle.salt_books.specs.declared.held.Held.{Held};
-ghost use Rattle.salt_books.specs.Bases.{AreInOrder};
 ghost use Rattle.salt_books.specs.Known.{IsKnown};
-ghost use Rattle.salt_books.specs.Names.{names_held};
-ghost use Rattle.salt_values.specs.declared.id.Id.{Id};
-ghost use Rattle.std.specs.Prelude.{IfOk, IsTrue, List, OnOk, [], false, get_or, length, ◌<◌, ◌≡◌};
+ghost use Rattle.std.specs.Prelude.{IfOk, List, OnOk, [], false, ◌≡◌};
 
 use crate::held::{Held, count_bases};
 use crate::known::Known;
-use crate::places::{place_among, stays_in_order};
+use crate::places::{place_named, stays_in_order};
 use salt_ast::Statement;
 use salt_model::UnitKind;
 use salt_queue::Queue;
 use salt_units::OpenUnit;
 use salt_values::{Id, Ids, next_number};
 use std::alloc::{AllocError, Global};
+use std::marker::Model;
 
 /// The open units in order of their names and whether it is known that these rise, how many units and programs have begun in this
 /// boot, the programs to which `go all` has still to turn, whether openings may be early, the programs that the last early one
@@ -43,7 +40,24 @@ pub struct Books {
     pub(crate) early: bool,
     pub(crate) named: Ids,
     pub(crate) owes: bool,
-    ghost ordered: { IsTrue rising → AreInOrder (names_held units.items) },
+}
+
+impl Model for Books {
+    ghost use Rattle.salt_ast.specs.contracts.trees.Expr as expr;
+    ghost use Rattle.salt_books.specs.Bases.{AreInOrder};
+    ghost use Rattle.salt_books.specs.Held.{seen};
+    ghost use Rattle.salt_books.specs.Names.{names_held};
+    ghost use Rattle.salt_books.specs.Shown.{ShownBooks};
+    ghost use Rattle.std.specs.Coded.{codes};
+    ghost use Rattle.std.specs.Prelude.{IsTrue, map};
+
+    ghost Value = { ShownBooks };
+
+    ghost coded = { Prim.hlevel (codes, expr.the_row.coded) };
+
+    ghost view = { λ x. record { known = x.known; units = map seen x.units.items; unit_count = x.unit_count; base_count = x.base_count; to_go = x.to_go; early = x.early; named = x.named; owes = x.owes } };
+
+    ghost invariant = { λ x. IsTrue x.rising → AreInOrder (names_held x.units.items) };
 }
 
 impl Drop for Books {
@@ -116,18 +130,6 @@ impl Books {
         (known, unit_count)
     }
 
-    /// Where the unit of a name stands.
-    pub(crate) fn place(&self, unit: Id) -> usize
-        requires { HaveUnit self.now unit }
-        ensures within { result < length self.now.units.items }
-        ensures named { (d : Held) → (get_or self.now.units.items result d).open.unit ≡ unit }
-    {
-        match place_among(self.units.as_slice(), self.rising, unit) {
-            Some(at) => at,
-            None => unreachable!(),
-        }
-    }
-
     /// A unit begins, with the next name.
     pub fn begin(&mut self, kind: UnitKind, single: bool) -> Result<Id, AllocError>
         ensures name { IfOk result (λ unit. (s : UnitState) → AreBooks self.old s → unit ≡ next_unit s) }
@@ -161,7 +163,7 @@ impl Books {
         ensures { (s : UnitState) (owners : List Owner) → AreBooks self.old s → Rising (names_in s.units) → asks ≡ statement_of_line s.line
             → AreBooks self.new (units_after (Event.Waits unit owners) s) }
     {
-        let at = self.place(unit);
+        let at = place_named(self.units.as_slice(), self.rising, unit);
         let held = &mut self.units[at];
         held.waiting = true;
         held.asks = asks;

@@ -1,26 +1,23 @@
 //! How units do statements and end.
 
-ghost use Rattle.salt_books.specs.Books.{AreBooks, AreLoaded, HaveUnit, IsUnitAtPart, seen, tables_in};
+ghost use Rattle.salt_books.specs.Books.{AreBooks, HaveUnit, tables_in};
+ghost use Rattle.salt_books.specs.Held.{seen};
+ghost use Rattle.salt_books.specs.Done.{AnswersTo, HasBranched, HasCommitted, HasDone, IsMoveOfBranch, IsMoveOfCommit};
 ghost use Rattle.salt_books.specs.Ends.{IsUndecided};
 ghost use Rattle.salt_eval.specs.Scans.{IsKeyed};
 ghost use Rattle.salt_eval.specs.Views.{tables_of};
-ghost use Rattle.law_states.specs.OpenUnits.{OpenUnit, UnitState, names_in, unit_named};
+ghost use Rattle.law_states.specs.OpenUnits.{UnitState, names_in, unit_named};
 ghost use Rattle.law_states.specs.Rising.{Rising};
-ghost use Rattle.law_states.specs.Steps.{outcome_under, units_after};
+ghost use Rattle.law_states.specs.Steps.{units_after};
 ghost use Rattle.law_states.specs.Told.{next_decision};
-ghost use Rattle.salt_books.specs.Moves.{CanMove, MovesTo};
-ghost use Rattle.salt_model.specs.Kept.{conts_branched, conts_committed, schema_of};
-ghost use Rattle.salt_model.specs.Reaches.{reach};
-ghost use Rattle.salt_model.specs.declared.events.Answer.{Answer};
-ghost use Rattle.salt_model.specs.declared.events.Cause.{Cause};
 ghost use Rattle.salt_model.specs.declared.events.End.{End};
 ghost use Rattle.salt_model.specs.declared.events.Event.{Event};
 ghost use Rattle.salt_units.specs.Acting.{leaves_keys};
-ghost use Rattle.salt_values.specs.declared.cont.Cont.{Cont};
-ghost use Rattle.std.specs.Prelude.{IfOk, List, OnOk, Some, true, ◌≡◌};
+ghost use Rattle.std.specs.Prelude.{IfOk, OnOk, Some, true, ◌≡◌};
 
 use crate::books::Books;
 use crate::held::Held;
+use crate::places::{named_among, place_named};
 use salt_ast::Statement;
 use salt_cont::Move;
 use salt_eval::Tables;
@@ -40,14 +37,10 @@ impl Books {
         requires there { HaveUnit self.old unit }
         requires leaves_keys { leaves_keys (tables_in self.old) statement.now ≡ true }
         requires keyed { IsKeyed (tables_of rows.now.entries) }
-        ensures answer { IfOk result (λ answer. (s : UnitState) (o : OpenUnit) → AreBooks self.old s → Rising (names_in s.units)
-            → unit_named unit s.units ≡ Some o → AreLoaded (reach (schema_of s.kept) o.vars statement.now) (tables_of rows.now.entries) s.kept.tables
-            → answer ≡ (outcome_under s.kept o statement.now).answer) }
-        ensures state { OnOk result ((s : UnitState) (o : OpenUnit) (answer : Answer) → AreBooks self.old s → Rising (names_in s.units)
-            → unit_named unit s.units ≡ Some o → AreLoaded (reach (schema_of s.kept) o.vars statement.now) (tables_of rows.now.entries) s.kept.tables
-            → AreBooks self.new (units_after (Event.Did unit statement.now answer) s)) }
+        ensures answer { IfOk result (AnswersTo unit statement.now (tables_of rows.now.entries) self.old) }
+        ensures state { OnOk result (HasDone unit statement.now (tables_of rows.now.entries) self.old self.new) }
     {
-        let at = self.place(unit);
+        let at = place_named(self.units.as_slice(), self.rising, unit);
         let schema = self.known.schema();
         let answer = self.units[at].act(self.alloc, rows, schema, statement.get())?;
         Ok(answer)
@@ -59,15 +52,16 @@ impl Books {
         ensures { (s : UnitState) (end : End) → AreBooks self.old s → Rising (names_in s.units) → IsUndecided end
             → AreBooks self.new (units_after (Event.Ended unit end) s) }
     {
-        let at = self.place(unit);
+        let at = place_named(self.units.as_slice(), self.rising, unit);
         let _held = self.units.remove(at);
     }
 
-    fn held(&self, unit: Id) -> &Held
+    /// The open unit of this name.
+    pub fn held(&self, unit: Id) -> &Held
         requires { HaveUnit self.now unit }
         ensures { (s : UnitState) → AreBooks self.now s → unit_named unit s.units ≡ Some (seen result.now) }
     {
-        match self.unit_named(unit) {
+        match named_among(self.units.as_slice(), self.rising, unit) {
             Some(held) => held,
             None => unreachable!(),
         }
@@ -77,8 +71,7 @@ impl Books {
     /// stands by the law `later_units_stand_at_their_parts`.
     pub fn move_of_commit(&self, unit: Id) -> Result<Move, AllocError>
         requires { HaveUnit self.now unit }
-        ensures { IfOk result (λ made. (s : UnitState) (o : OpenUnit) → AreBooks self.now s → unit_named unit s.units ≡ Some o → IsUnitAtPart s unit
-            → CanMove s.kept o.kind → MovesTo made s.kept (conts_committed s.kept (next_decision s) o.kind o.vars)) }
+        ensures { IfOk result (IsMoveOfCommit self.now unit) }
     {
         let held = self.held(unit);
         self.known.move_of_commit(&held.kind, &held.open.vars)
@@ -88,8 +81,7 @@ impl Books {
     /// at which its program stands by the law `later_units_stand_at_their_parts`.
     pub fn move_of_branch(&self, unit: Id) -> Result<Move, AllocError>
         requires { HaveUnit self.now unit }
-        ensures { IfOk result (λ made. (s : UnitState) (o : OpenUnit) → AreBooks self.now s → unit_named unit s.units ≡ Some o → IsUnitAtPart s unit
-            → CanMove s.kept o.kind → MovesTo made s.kept (conts_branched s.kept o.kind)) }
+        ensures { IfOk result (IsMoveOfBranch self.now unit) }
     {
         let held = self.held(unit);
         self.known.move_of_branch(&held.kind)
@@ -99,11 +91,9 @@ impl Books {
     pub fn commit(&mut self, unit: Id, made: Move) -> Result<u64, AllocError>
         requires { HaveUnit self.old unit }
         ensures number { IfOk result (λ number. (s : UnitState) → AreBooks self.old s → number ≡ next_decision s) }
-        ensures state { OnOk result ((s : UnitState) (o : OpenUnit) (conts : List Cont) → AreBooks self.old s → Rising (names_in s.units)
-            → unit_named unit s.units ≡ Some o → MovesTo made s.kept conts → conts ≡ conts_committed s.kept (next_decision s) o.kind o.vars
-            → AreBooks self.new (units_after (Event.Ended unit (End.Committed (next_decision s))) s)) }
+        ensures state { OnOk result (HasCommitted unit made self.old self.new) }
     {
-        let at = self.place(unit);
+        let at = place_named(self.units.as_slice(), self.rising, unit);
         let _held = self.units.remove(at);
         let number = self.known.commit(made)?;
         Ok(number)
@@ -114,11 +104,9 @@ impl Books {
     pub fn branch(&mut self, unit: Id, made: Move) -> Result<u64, AllocError>
         requires { HaveUnit self.old unit }
         ensures number { IfOk result (λ number. (s : UnitState) → AreBooks self.old s → number ≡ next_decision s) }
-        ensures state { OnOk result ((s : UnitState) (o : OpenUnit) (conts : List Cont) (cause : Cause) → AreBooks self.old s → Rising (names_in s.units)
-            → unit_named unit s.units ≡ Some o → MovesTo made s.kept conts → conts ≡ conts_branched s.kept o.kind
-            → AreBooks self.new (units_after (Event.Ended unit (End.Branched (next_decision s) cause)) s)) }
+        ensures state { OnOk result (HasBranched unit made self.old self.new) }
     {
-        let at = self.place(unit);
+        let at = place_named(self.units.as_slice(), self.rising, unit);
         let _held = self.units.remove(at);
         let number = self.known.commit(made)?;
         Ok(number)

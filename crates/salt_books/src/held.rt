@@ -36,7 +36,8 @@ pub struct Held {
 }
 
 impl Held {
-    ghost use Rattle.salt_books.specs.Books.{AreLoaded, HasActed, is_of_program, is_of_session, seen};
+    ghost use Rattle.salt_books.specs.Books.{AreLoaded, HasActed};
+    ghost use Rattle.salt_books.specs.Held.{is_of_program, is_of_session, seen};
 
     /// Whether it has this name.
     pub fn is_named(&self, unit: Id) -> bool

@@ -2,18 +2,18 @@
 
 ghost use Rattle.salt_ast.specs.ProgramTexts.{program_text};
 ghost use Rattle.salt_ast.specs.Texts.{table_text};
-ghost use Rattle.salt_model.specs.Kept.{Kept, OfProgram, OfTable, block_of_kind, cont_of, conts_branched, conts_committed, kept_program, programs_of, schema_of, vars_of_kind};
+ghost use Rattle.salt_model.specs.Kept.{Kept, OfProgram, OfTable, block_of_kind, cont_of, conts_branched, conts_committed, kept_program, vars_of_kind};
 ghost use Rattle.salt_model.specs.Locks.{base_tables};
 ghost use Rattle.salt_model.specs.Refusals.{is_base_program};
 ghost use Rattle.salt_model.specs.Tables.{Tables};
+ghost use Rattle.salt_cont.specs.Catalogues.{AllLeadOn};
 ghost use Rattle.salt_values.specs.Id.{in_order};
 ghost use Rattle.salt_program.specs.Refusals.{parts_in, program_refusal};
 ghost use Rattle.salt_schema.specs.Refusals.{table_refusal};
-ghost use Rattle.salt_books.specs.Bases.{AreInOrder, bases_in};
 ghost use Rattle.salt_model.specs.declared.events.UnitKind.TheVariants.{Call, Later};
 ghost use Rattle.salt_values.specs.declared.cont.Cont.{Cont};
 ghost use Rattle.std.specs.Option.{option_copied};
-ghost use Rattle.std.specs.Prelude.{IfOk, IsTrue, List, None, OnOk, [], length, map, ◌++◌, ◌+◌, ◌<◌, ◌^◌, ℕ, ◌∷◌, ◌≡◌};
+ghost use Rattle.std.specs.Prelude.{IfOk, List, None, OnOk, [], length, map, ◌++◌, ◌+◌, ◌<◌, ◌^◌, ℕ, ◌∷◌, ◌≡◌};
 
 use crate::bindings::{vars_at_call, vars_at_cont};
 use crate::blocks::{block_of_call, block_of_part, is_base_program};
@@ -31,9 +31,11 @@ use salt_schema::Schema;
 use salt_values::{Bytes, Cont, Conts, Id, Name, Row, TryCopy, next_number};
 use sqlite_items::Items;
 use std::alloc::{AllocError, Global};
+use std::marker::Model;
 
 /// What is known in memory of a database: the tables and programs defined, and where programs go on, beside the boot and the
-/// number of the last decision. The rows stand in a storage. An error leaves it in no state that is told.
+/// number of the last decision. The ways of each program lead to later parts or to the end. The rows stand in a storage. An error
+/// leaves it in no state that is told.
 pub struct Known {
     alloc: Global,
     schema: Schema,
@@ -43,7 +45,23 @@ pub struct Known {
     rising: bool,
     boot: u64,
     decisions: u64,
-    ghost ordered: { IsTrue rising → AreInOrder (bases_in conts) },
+}
+
+impl Model for Known {
+    ghost use Rattle.salt_books.specs.Bases.{AreInOrder, bases_in};
+    ghost use Rattle.salt_ast.specs.contracts.trees.Expr as expr;
+    ghost use Rattle.salt_books.specs.Shown.{ShownKnown};
+    ghost use Rattle.salt_cont.specs.Catalogues.{AllLeadOn};
+    ghost use Rattle.std.specs.Coded.{codes};
+    ghost use Rattle.std.specs.Prelude.{IsTrue};
+
+    ghost Value = { ShownKnown };
+
+    ghost coded = { Prim.hlevel (codes, expr.the_row.coded) };
+
+    ghost view = { λ x. record { schema = x.schema; catalogue = x.catalogue; conts = x.conts; boot = x.boot; decisions = x.decisions } };
+
+    ghost invariant = { λ x. (IsTrue x.rising → AreInOrder (bases_in x.conts)) × AllLeadOn x.catalogue };
 }
 
 impl Drop for Known {
@@ -64,7 +82,7 @@ impl Drop for Known {
 pub type Defined = (u64, Bytes);
 
 impl Known {
-    ghost use Rattle.salt_books.specs.Known.{AllLeadOn, IsKnown, boot_known, conts_known, decisions_known, programs_known, tables_known};
+    ghost use Rattle.salt_books.specs.Known.{IsKnown, boot_known, conts_known, decisions_known, programs_known, tables_known};
     ghost use Rattle.salt_books.specs.Moves.{CanMove, IsAtPart, MovesTo};
 
     /// What a storage was found to hold.
@@ -76,8 +94,8 @@ impl Known {
         boot: u64,
         decisions: u64,
     ) -> Known
-        ensures { (k : Kept) → schema ≡ schema_of k → catalogue ≡ programs_of k → conts ≡ k.conts → boot ≡ k.boot
-            → decisions ≡ k.decisions → AllLeadOn (programs_of k) → IsKnown result k }
+        requires { AllLeadOn catalogue }
+        ensures { result ≡ record { schema = schema; catalogue = catalogue; conts = conts; boot = boot; decisions = decisions } }
     {
         let rising = conts.is_empty();
         Known {
@@ -95,6 +113,7 @@ impl Known {
     pub fn into_parts(self) -> (Schema, Catalogue, u64, u64)
         ensures schema { result.0 ≡ tables_known self }
         ensures catalogue { result.1 ≡ programs_known self }
+        ensures lead_on { AllLeadOn result.1 }
         ensures boot { result.2 ≡ boot_known self }
         ensures decisions { result.3 ≡ decisions_known self }
     {
@@ -242,7 +261,6 @@ impl Known {
 
     /// The move that a unit of this kind will make as it commits with these variables, by the next decision.
     pub fn move_of_commit(&self, kind: &UnitKind, vars: &Vars) -> Result<Move, AllocError>
-        requires { AllLeadOn (programs_known self.now) }
         ensures { IfOk result (λ made. (k : Kept) → IsKnown self.now k → IsAtPart k kind.now → CanMove k kind.now
             → MovesTo made k (conts_committed k (k.decisions + 1) kind.now vars.now)) }
     {
@@ -260,7 +278,6 @@ impl Known {
 
     /// The move that a unit of this kind will make as it fails, where its program goes on behind the failure.
     pub fn move_of_branch(&self, kind: &UnitKind) -> Result<Move, AllocError>
-        requires { AllLeadOn (programs_known self.now) }
         ensures { IfOk result (λ made. (k : Kept) → IsKnown self.now k → IsAtPart k kind.now → CanMove k kind.now
             → MovesTo made k (conts_branched k kind.now)) }
     {

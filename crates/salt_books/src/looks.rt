@@ -1,7 +1,8 @@
 //! What the books tell of units.
 
 ghost use Rattle.salt_ast.specs.declared.trees.Statement.{Statement};
-ghost use Rattle.salt_books.specs.Books.{AreBooks, is_of_program, is_of_session, known_in, seen};
+ghost use Rattle.salt_books.specs.Books.{AreBooks, known_in};
+ghost use Rattle.salt_books.specs.Held.{is_of_program, is_of_session, seen};
 ghost use Rattle.salt_books.specs.declared.held.Held.{Held};
 ghost use Rattle.law_states.specs.OpenUnits.{UnitState, asking, asks_next, names_in, unit_named, unit_of_program, unit_of_session};
 ghost use Rattle.law_states.specs.Readings.{first_parts};

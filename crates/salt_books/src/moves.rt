@@ -2,8 +2,8 @@
 
 ghost use Rattle.law_states.specs.Rising.{Rising};
 ghost use Rattle.salt_books.specs.Bases.{bases_in};
-ghost use Rattle.salt_books.specs.Known.{AllLeadOn};
 ghost use Rattle.salt_books.specs.Moves.{CanMove, IsAtPart, IsNext, MovesTo, begun, conts_ended};
+ghost use Rattle.salt_cont.specs.Catalogues.{AllLeadOn};
 ghost use Rattle.salt_model.specs.Kept.{Kept, conts_branched, conts_committed, programs_of, values_kept};
 ghost use Rattle.salt_model.specs.declared.events.UnitKind.TheVariants.{First, Later};
 ghost use Rattle.salt_stands.specs.OpenConts.{do_rise};
@@ -12,7 +12,7 @@ ghost use Rattle.std.specs.Prelude.{IfOk, IsTrue, true, ℕ, ◌+◌, ◌≡◌}
 use crate::bindings::values_kept;
 use crate::conts::cont_among;
 use salt_ast::ProgramDef;
-use salt_cont::{Move, advance};
+use salt_cont::{Move, advance, named_leads_on};
 use salt_model::{UnitKind, Vars};
 use salt_program::Catalogue;
 use salt_values::{Cont, Id, Name, Row, TryCopy};
@@ -75,6 +75,7 @@ fn move_of_first(
         → CanMove k (First session base program.now args.now)
         → MovesTo made k (conts_committed k number (First session base program.now args.now) vars.now)) }
 {
+    named_leads_on();
     let Some(def) = catalogue.find(program) else {
         return Ok(Move::Plain);
     };
@@ -99,6 +100,7 @@ fn move_of_part(
     ensures { IfOk result (λ made. (k : Kept) (number part : ℕ) → catalogue.now ≡ programs_of k → conts.now ≡ k.conts → IsNext k base part
         → do_rise k.conts ≡ true → MovesTo made k (conts_ended failed k number (Later base part) vars.now)) }
 {
+    named_leads_on();
     let Some(cont) = cont_among(conts, rising, base) else {
         return Ok(Move::Plain);
     };

@@ -1,6 +1,7 @@
 //! Stops and openings.
 
-ghost use Rattle.salt_books.specs.Books.{AreBooks, seen};
+ghost use Rattle.salt_books.specs.Books.{AreBooks};
+ghost use Rattle.salt_books.specs.Held.{seen};
 ghost use Rattle.salt_books.specs.declared.held.Held.{Held};
 ghost use Rattle.law_states.specs.Follows.{cut_in};
 ghost use Rattle.law_states.specs.OpenUnits.{UnitState, names_in};

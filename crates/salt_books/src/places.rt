@@ -7,7 +7,7 @@ ghost use Rattle.salt_values.specs.Id.{is_older};
 ghost use Rattle.std.specs.List.{find, position};
 ghost use Rattle.std.specs.List.Sorted.{IsPartitionPoint};
 ghost use Rattle.std.specs.Option.{option_copied};
-ghost use Rattle.std.specs.Prelude.{IsTrue, [], false, get_or, length, true, ◌++◌, ◌<◌, ◌∷◌, ◌≡◌, ◌≤◌};
+ghost use Rattle.std.specs.Prelude.{IsSome, IsTrue, [], false, get_or, length, true, ◌++◌, ◌<◌, ◌∷◌, ◌≡◌, ◌≤◌};
 
 use crate::held::Held;
 use salt_values::{Id, is_older};
@@ -66,6 +66,19 @@ pub fn place_among(units: &[Held], rising: bool, unit: Id) -> Option<usize>
         place_in_order(units, unit)
     } else {
         place_in(units, unit)
+    }
+}
+
+/// Where the unit of a name stands, where there is one.
+pub fn place_named(units: &[Held], rising: bool, unit: Id) -> usize
+    requires ordered { IsTrue rising → AreInOrder (names_held units.now) }
+    requires there { IsSome (find (has_name unit) units.now) }
+    ensures within { result < length units.now }
+    ensures named { (d : Held) → (get_or units.now result d).open.unit ≡ unit }
+{
+    match place_among(units, rising, unit) {
+        Some(at) => at,
+        None => unreachable!(),
     }
 }
 

@@ -3,7 +3,8 @@
 ghost use Rattle.salt_ast.specs.ProgramTexts.{program_text};
 ghost use Rattle.salt_ast.specs.Texts.{table_text};
 ghost use Rattle.salt_ast.specs.declared.lines.Line.TheVariants.{Program, Table};
-ghost use Rattle.salt_books.specs.Books.{AreBooks, programs_in, seen, tables_in};
+ghost use Rattle.salt_books.specs.Books.{AreBooks, programs_in, tables_in};
+ghost use Rattle.salt_books.specs.Held.{seen};
 ghost use Rattle.law_states.specs.OpenUnits.{UnitState, can_go_in, is_not_waiting, next_to_go_in, next_turn_in, turn_owed_in};
 ghost use Rattle.law_states.specs.Steps.{to_go_by, units_after, units_asked, units_turned};
 ghost use Rattle.law_states.specs.Told.{next_decision};

@@ -9,14 +9,12 @@ use Rattle.salt_ast.specs.declared.programs.Body.TheVariants.{Acid, Base}
 use Rattle.salt_ast.specs.declared.programs.Body.{Body}
 use Rattle.salt_ast.specs.declared.programs.ProgramDef.{ProgramDef}
 use Rattle.salt_ast.specs.declared.trees.TableDef.{TableDef}
-use Rattle.salt_books.specs.Known.{AllLeadOn}
-use Rattle.salt_cont.proofs.Defined.{of-named}
+use Rattle.salt_cont.specs.Catalogues.{AllLeadOn}
 use Rattle.salt_cont.specs.Moves.{LeadOn}
 use Rattle.salt_model.specs.Kept.{Kept, programs_of, schema_of}
 use Rattle.salt_model.specs.Printable.{IsSpelledProgram}
 use Rattle.salt_program.specs.Refusals.{parts_in}
 use Rattle.salt_storage.specs.Storing.{IsSoundKept}
-use Rattle.std.proofs.Common.{arith}
 use Rattle.std.specs.Prelude.{List, None, refl, ◌≡◌}
 
 leads : (schema : List TableDef) (p : ProgramDef) → IsProperProgram schema p → IsSpelledProgram p → LeadOn (parts_in p.body)
@@ -27,9 +25,8 @@ leads schema p proper spelled = record { few = few-parts p spelled; sound = by p
     by (Base parts) h = h
 
 pub leads-on : (k : Kept) → IsSoundKept k → AllLeadOn (programs_of k)
-leads-on k sound name =
-    of-named LeadOn (programs_of k) name (record { few = omega arith; sound = refl })
-    (every-both (IsProperProgram (schema_of k)) IsSpelledProgram (λ p. LeadOn (parts_in p.body)) (leads (schema_of k)) (programs_of k) sound.typed.programs (spelled-programs k.definitions sound.spelled))
+leads-on k sound =
+    every-both (IsProperProgram (schema_of k)) IsSpelledProgram (λ p. LeadOn (parts_in p.body)) (leads (schema_of k)) (programs_of k) sound.typed.programs (spelled-programs k.definitions sound.spelled)
 
 pub can-drain : (k : Kept) → IsSoundKept k → CanDrain k
 can-drain k sound = draining.can-drain k sound.typed sound.spelled

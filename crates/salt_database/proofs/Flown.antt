@@ -5,6 +5,7 @@ use Rattle.salt_ast.specs.declared.programs.ProgramDef.{ProgramDef}
 use Rattle.salt_ast.specs.declared.trees.TableDef.{TableDef}
 use Rattle.salt_books.proofs.AtParts.{at-part}
 use Rattle.salt_books.proofs.CanMoves.{can-move}
+use Rattle.salt_books.proofs.Shown.{have-unit}
 use Rattle.salt_books.specs.Books.{AreBooks, HaveUnit, IsUnitAtPart, programs_in, tables_in}
 use Rattle.salt_books.specs.Coming.{IsLaterUnit}
 use Rattle.salt_books.specs.declared.books.Books.{Books}
@@ -30,7 +31,7 @@ use Rattle.salt_schema.specs.Refusals.{table_refusal}
 use Rattle.salt_stands.specs.OpenConts.{make_move}
 use Rattle.salt_values.specs.declared.id.Id.{Id}
 use Rattle.std.proofs.Common.{ap, subst, sym, ◌∙◌}
-use Rattle.std.specs.Prelude.{IsSome, List, None, Option, Some, ℕ, refl, ◌≡◌}
+use Rattle.std.specs.Prelude.{List, None, Option, Some, ℕ, ◌≡◌}
 
 module _ (x : Recovery) (i : InFlight) (f : Event) (s : State) (h : Flies x i f s) where
   module _ (u : Id) (is : i ≡ asked.Commit u) where
@@ -38,11 +39,7 @@ module _ (x : Recovery) (i : InFlight) (f : Event) (s : State) (h : Flies x i f 
     commit-flies = subst (λ (j : InFlight). IsInFlight (Some j) (Some f) s.units) is h.flies
 
     pub commit-there : (y : Books) → y ≡ books_of x → HaveUnit y u
-    commit-there y same = record {
-      state = s.units;
-      books = subst (λ (z : Books). AreBooks z s.units) (sym same) h.rests.stands.books;
-      named = subst (λ (q : Option OpenUnit). IsSome q) (sym commit-flies.1) refl;
-    }
+    commit-there y same = have-unit y s.units u commit-flies.0 (subst (λ (z : Books). AreBooks z s.units) (sym same) h.rests.stands.books) commit-flies.1
 
     pub commit-moves : (y : Books) → y ≡ books_of x → (m : Move) → ((s : UnitState) (o : OpenUnit) → AreBooks y s → unit_named u s.units ≡ Some o → IsUnitAtPart s u → CanMove s.kept o.kind →
         make_move s.kept.conts m ≡ Some (conts_committed s.kept (next_decision s) o.kind o.vars)) →
@@ -61,11 +58,7 @@ module _ (x : Recovery) (i : InFlight) (f : Event) (s : State) (h : Flies x i f 
     branch-flies = subst (λ (j : InFlight). IsInFlight (Some j) (Some f) s.units) is h.flies
 
     pub branch-there : (y : Books) → y ≡ books_of x → HaveUnit y u
-    branch-there y same = record {
-      state = s.units;
-      books = subst (λ (z : Books). AreBooks z s.units) (sym same) h.rests.stands.books;
-      named = subst (λ (q : Option OpenUnit). IsSome q) (sym branch-flies.0.named) refl;
-    }
+    branch-there y same = have-unit y s.units u branch-flies.0.unit (subst (λ (z : Books). AreBooks z s.units) (sym same) h.rests.stands.books) branch-flies.0.named
 
     pub branch-moves : (y : Books) → y ≡ books_of x → (m : Move) → ((s : UnitState) (o : OpenUnit) → AreBooks y s → unit_named u s.units ≡ Some o → IsUnitAtPart s u → CanMove s.kept o.kind →
         make_move s.kept.conts m ≡ Some (conts_branched s.kept o.kind)) →

@@ -1,4 +1,5 @@
 -- What a recovery does with what was given for what is to come.
+use Rattle.salt_books.proofs.Shown.{have-unit}
 use Rattle.salt_books.specs.Asking.{IsAskedBy}
 use Rattle.salt_books.specs.Books.{AreBooks, HaveUnit, tables_in}
 use Rattle.salt_books.specs.Coming.{IsLaterUnit, event_meant}
@@ -14,7 +15,7 @@ use Rattle.salt_drain.proofs.Chosen.{gives-same}
 use Rattle.salt_drain.specs.Recovering as recovering
 use Rattle.salt_drain.specs.Recovering.{books_of}
 use Rattle.salt_drain.specs.declared.recovery.Recovery.{Recovery}
-use Rattle.salt_engine.proofs.Performed.{acts-meant, commits-meant, have-unit}
+use Rattle.salt_engine.proofs.Performed.{acts-meant, commits-meant}
 use Rattle.salt_engine.specs.Flights.{IsInFlight}
 use Rattle.salt_engine.specs.Giving.{AsksFor, CanBeAsked, IsGiven, coming_of, units_behind}
 use Rattle.salt_engine.specs.Performing.{Performs}

@@ -49,7 +49,8 @@ impl<S: Drop> Opening<S> {
     /// An opening over what was found on a storage, whose numbers are not spent; `early` tells whether openings may end early. No boot has
     /// begun.
     pub fn new(alloc: Global, storage: S, found: Found, early: bool) -> Opening<S>
-        requires { are_spent found.boot found.decisions ≡ false }
+        requires unspent { are_spent found.boot found.decisions ≡ false }
+        requires sound { (k : Kept) × IsFound found k × IsSoundKept k }
         ensures storage { result.storage ≡ storage }
         ensures found { IsFoundStage result.found result.stage }
         ensures is_new { (k : Kept) → IsFound found k → IsSoundKept k → IsNew early k result.found result.stage result.single result.in_flight }

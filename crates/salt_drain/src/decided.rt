@@ -65,9 +65,7 @@ impl Recovery {
         requires { HaveUnit (books_of self.old) unit }
         ensures { IfOk result (HasCommitted unit made self.old self.new) }
     {
-        let Some(held) = self.books.unit_named(unit) else {
-            unreachable!()
-        };
+        let held = self.books.held(unit);
         let behind = behind_commit(&held.kind);
         let number = self.books.commit(unit, made)?;
         self.behind = behind;

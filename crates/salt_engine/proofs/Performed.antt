@@ -1,6 +1,6 @@
 -- What is to come is performed by a call of the half that has chosen it.
 use Rattle.salt_books.specs.Asking.{IsAskedBy}
-use Rattle.salt_books.specs.Books.{AreBooks, HaveUnit}
+use Rattle.salt_books.specs.Books.{AreBooks}
 use Rattle.salt_books.specs.declared.asking.Asking.{Asking}
 use Rattle.salt_books.specs.declared.books.Books.{Books}
 use Rattle.salt_books.specs.Coming.{event_meant}
@@ -59,9 +59,6 @@ unit-there s u h = by (unit_named u s.units) h refl
     by : (q : Option OpenUnit) → IsSome q → unit_named u s.units ≡ q → (o : OpenUnit) × (unit_named u s.units ≡ Some o)
     by None h e = cc
     by (Some o) h e = (o, e)
-
-pub have-unit : (x : Books) (s : UnitState) (u : Id) (o : OpenUnit) → AreBooks x s → unit_named u s.units ≡ Some o → HaveUnit x u
-have-unit x s u o books named = record { state = s; books = books; named = subst (λ (q : Option OpenUnit). IsSome q) (sym named) refl }
 
 -- by a scheduler
 pub serves-by : (holds : Kept → Type 0) (is_new : Id → Type 0) (stage : Stage Scheduler) (in_flight : Option InFlight) (meant : Option Event) (s : State) (x : Scheduler) (e given : Event) →

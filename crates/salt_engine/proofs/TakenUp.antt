@@ -1,5 +1,6 @@
 -- What a scheduler does with what was given for what is to come.
 use Rattle.salt_ast.specs.declared.trees.TableDef.{TableDef}
+use Rattle.salt_books.proofs.Shown.{have-unit}
 use Rattle.salt_books.specs.Asking.{IsAskedBy}
 use Rattle.salt_books.specs.Books.{AreBooks, HaveUnit, tables_in}
 use Rattle.salt_books.specs.Coming.{IsLaterUnit, event_meant}
@@ -9,7 +10,7 @@ use Rattle.salt_books.specs.declared.books.Books.{Books}
 use Rattle.salt_books.specs.declared.coming.Coming.TheVariants as coming
 use Rattle.salt_books.specs.declared.coming.Coming.{Coming}
 use Rattle.salt_bytes.specs.declared.moves.Move.{Move}
-use Rattle.salt_engine.proofs.Performed.{acts-meant, commits-meant, have-unit}
+use Rattle.salt_engine.proofs.Performed.{acts-meant, commits-meant}
 use Rattle.salt_engine.specs.Flights.{IsInFlight}
 use Rattle.salt_engine.specs.Giving.{AsksFor, CanBeAsked, CanTakeUp, IsGiven, coming_of, units_behind}
 use Rattle.salt_engine.specs.Performing.{IsPlayedBefore, IsToServe, Performs}

@@ -12,7 +12,6 @@ use Rattle.law_states.specs.OpenUnits.{UnitState}
 use Rattle.law_states.specs.Points.{Point}
 use Rattle.law_states.specs.States.{State}
 use Rattle.law_states.specs.Watches.{empty_watch}
-use Rattle.salt_books.specs.Known.{AllLeadOn}
 use Rattle.salt_model.specs.Kept.{Kept, programs_of, schema_of}
 use Rattle.salt_model.specs.Next.{decision_in}
 use Rattle.salt_model.specs.Phases as phases
@@ -68,7 +67,6 @@ pub record IsReadyOver (numbers : Numbers) (ts : List TableDef) (ps : List Progr
   pub boot : b ≡ s.units.kept.boot
   pub decisions : numbers.decisions ≡ s.units.kept.decisions
   pub begun : u ≡ s.units.unit_count
-  pub lead_on : AllLeadOn (programs_of s.units.kept)
   pub units : s.units.units ≡ []
   pub bases : s.units.base_count ≡ 0
   pub conts : s.units.kept.conts ≡ []

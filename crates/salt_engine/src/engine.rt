@@ -2,6 +2,7 @@
 
 ghost use Rattle.salt_books.specs.Books.{tables_in};
 ghost use Rattle.salt_books.specs.declared.books.Books.{Books};
+ghost use Rattle.salt_cont.specs.Catalogues.{AllLeadOn};
 ghost use Rattle.salt_engine.specs.Flights.{flight_of};
 ghost use Rattle.salt_engine.specs.Resuming.{GoesOnBehindEarly};
 ghost use Rattle.salt_engine.specs.Standing.{IsReadyOver, ServesFrom, serving_books};
@@ -64,6 +65,7 @@ impl<S: Drop> Engine<S> {
         boot: u64,
         begun: u64,
     ) -> Engine<S>
+        requires { AllLeadOn catalogue }
         ensures store { result.storage ≡ store }
         ensures serves { (s : State) → IsReadyOver kept.now schema catalogue boot begun s → ServesFrom result.stage s }
         ensures none { result.in_flight ≡ None }

@@ -2,6 +2,7 @@
 use Rattle.salt_model.specs.declared.locks.Reach.{Reach}
 use Rattle.salt_model.specs.declared.events.Owner.TheVariants.{Unit}
 use Rattle.salt_ast.specs.declared.trees.Statement.{Statement}
+use Rattle.salt_books.proofs.Shown.{have-unit}
 use Rattle.salt_books.specs.Books.{AreBooks, HaveUnit}
 use Rattle.salt_scheduler.proofs.Beginning.{first-same}
 use Rattle.salt_scheduler.proofs.ApartCircles.{reads-close-none}
@@ -9,7 +10,7 @@ use Rattle.salt_scheduler.proofs.Calm.{calm-behind, never-calm}
 use Rattle.salt_scheduler.proofs.Done.{at-follow, called-stays, gives, gives-same, state_by, sub-called}
 use Rattle.salt_scheduler.proofs.Facts.{facts-did, facts-waits}
 use Rattle.salt_scheduler.proofs.InTurn.{did}
-use Rattle.salt_books.proofs.Named.{is-some, named-unit}
+use Rattle.salt_books.proofs.Named.{named-unit}
 use Rattle.salt_books.specs.Asking.{IsAsked, IsAskedBy}
 use Rattle.salt_scheduler.specs.Calm.{is_calm_behind}
 use Rattle.salt_scheduler.specs.Standing.{AnswersWithComing, AnswersWith, StandsForState}
@@ -123,7 +124,7 @@ serve-asked s u o st named asks = ap (option_and_then (serve_in s)) named ∙ ap
 -- what is asked is to be done
 
 pub have-asked : (x : Scheduler) (s : State) (a : Asking) (o : OpenUnit) → StandsForState x s → IsAskedBy a s.units o → HaveUnit x.books a.unit
-have-asked x s a o stands asked = record { state = s.units; books = stands.books; named = is-some (unit_named a.unit s.units.units) o asked.named }
+have-asked x s a o stands asked = have-unit x.books s.units a.unit o stands.books asked.named
 
 pub asked-at : (s : UnitState) (u : Id) (found : Option Asking) (a : Asking) → found ≡ Some a → IsAsked s u found → IsAsked s u (Some a)
 asked-at s u found a is h = subst (λ (f : Option Asking). IsAsked s u f) is h

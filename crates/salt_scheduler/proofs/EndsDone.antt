@@ -2,6 +2,7 @@
 use Rattle.std.specs.Option.{option_copied}
 use Rattle.std.specs.Bool.{then_some}
 use Rattle.salt_books.proofs.Decided.{undecided as nothing-decided}
+use Rattle.salt_books.proofs.Shown.{have-unit}
 use Rattle.salt_books.specs.Books.{AreBooks, HaveUnit}
 use Rattle.salt_books.specs.Called.{name_told}
 use Rattle.salt_books.specs.Ends.{IsUndecided}
@@ -187,7 +188,7 @@ copied-none None o same none = sym same
 copied-none (Some x) o same none = cc
 
 pub have-named : (x : Scheduler) (s : State) (u : Id) (o : OpenUnit) → StandsForState x s → unit_named u s.units.units ≡ Some o → HaveUnit x.books u
-have-named x s u o stands named = record { state = s.units; books = stands.books; named = is-some (unit_named u s.units.units) o named }
+have-named x s u o stands named = have-unit x.books s.units u o stands.books named
 
 pub undecided-free : (end : End) → IsUndecided end → IsCommitted end → ⊥
 undecided-free (Committed n) h g = h

@@ -8,7 +8,8 @@ use Rattle.salt_ast.specs.declared.lines.Line.TheVariants.{Program, Table}
 use Rattle.salt_ast.specs.declared.programs.ProgramDef.{ProgramDef}
 use Rattle.salt_ast.specs.declared.trees.Statement.{Statement}
 use Rattle.salt_ast.specs.declared.trees.TableDef.{TableDef}
-use Rattle.salt_books.specs.Books.{AreBooks, seen}
+use Rattle.salt_books.specs.Books.{AreBooks}
+use Rattle.salt_books.specs.Held.{seen}
 use Rattle.salt_books.specs.declared.held.Held.{Held}
 use Rattle.salt_scheduler.proofs.Allowing.{allowed-faultless, program-allowed, table-allowed}
 use Rattle.salt_scheduler.proofs.Done.{at-follow, called-stays, gives, state_by, sub-called}
@@ -28,7 +29,7 @@ use Rattle.law_states.specs.States.{State, named_by}
 use Rattle.law_states.specs.Steps.{units_after}
 use Rattle.law_states.specs.Told.{Clashes, Items, act_in, begins_in, calls_in, goes_on_in, kind_called_in, line_in, turn_of_in}
 use Rattle.law_states.specs.UnitFacts.{facts_in}
-use Rattle.salt_model.specs.Kept.{Kept, cont_of, kept_program}
+use Rattle.salt_model.specs.Kept.{cont_of, kept_program}
 use Rattle.salt_model.specs.declared.events.End.TheVariants.{RolledBack}
 use Rattle.salt_model.specs.declared.events.Event.{Event}
 use Rattle.salt_model.specs.declared.events.Event.TheVariants.{Ended}
@@ -36,8 +37,6 @@ use Rattle.salt_model.specs.declared.events.UnitKind.{UnitKind}
 use Rattle.salt_model.specs.declared.events.UnitKind.TheVariants.{Acid, Later}
 use Rattle.salt_program.specs.Refusals.{program_refusal}
 use Rattle.salt_schema.specs.Refusals.{table_refusal}
-use Rattle.salt_books.specs.Known.{IsKnown}
-use Rattle.salt_books.specs.declared.known.Known.{Known}
 use Rattle.salt_values.specs.declared.cont.Cont.{Cont}
 use Rattle.salt_values.specs.declared.id.Id.{Id}
 use Rattle.salt_values.specs.declared.value.Value.{Value}
@@ -159,9 +158,6 @@ pub goes-within : (s : UnitState) (clash : Clashes) (b u : Id) (o : Option OpenU
     goes_on_in s clash b o ≡ turn_of_in s clash o
 goes-within s clash b u None h = cc
 goes-within s clash b u (Some o) h = refl
-
-pub known-lent : (x y : Known) (k : Kept) → x ≡ y → IsKnown y k → IsKnown x k
-known-lent x y k same h = subst (λ (z : Known). IsKnown z k) (sym same) h
 
 pub goes-later : (s : UnitState) (clash : Clashes) (b : Id) (o : Option OpenUnit) (c : Option Cont) → o ≡ None → cont_of b s.kept ≡ c →
     goes_on_in s clash b o ≡ option_map (λ (c : Cont). begins_in s (Later b c.next)) c

@@ -44,9 +44,7 @@ impl Scheduler {
         requires { HaveUnit (books_of self.old) unit }
         ensures { IfOk result (HasCommitted unit made self.old self.new) }
     {
-        let Some(held) = self.books.unit_named(unit) else {
-            unreachable!()
-        };
+        let held = self.books.held(unit);
         let follow = behind_commit(&held.kind);
         let base = program_of(&held.kind);
         self.watch.commit(unit, base, held.open.changes())?;

@@ -4,7 +4,7 @@ ghost use Rattle.std.specs.Option.{option_copied};
 ghost use Rattle.std.specs.Prelude.{◌≡◌, ◌<◌, ◌^◌, IfOk, Option, Some, false, length, option_map};
 ghost use Rattle.salt_ast.specs.declared.lines.Act.{Act};
 ghost use Rattle.salt_ast.specs.declared.lines.Line.{Line};
-ghost use Rattle.salt_books.specs.Books.{seen};
+ghost use Rattle.salt_books.specs.Held.{seen};
 ghost use Rattle.law_states.specs.OpenUnits.{unit_of_session};
 ghost use Rattle.law_states.specs.Readings.{clash_by, items_by};
 ghost use Rattle.law_states.specs.States.{State};

@@ -2,7 +2,7 @@
 
 ghost use Rattle.std.specs.Prelude.{◌≡◌, IfOk};
 ghost use Rattle.salt_ast.specs.ProgramJudgement.{line_fault};
-ghost use Rattle.salt_books.specs.Books.{seen};
+ghost use Rattle.salt_books.specs.Held.{seen};
 ghost use Rattle.salt_scheduler.specs.Refused.{IsCountFor, calls, is_turn, refusal_by_state};
 ghost use Rattle.salt_scheduler.specs.Refusals.{HasFewParts, told};
 ghost use Rattle.law_states.specs.KeptWaits.{AreDistinct};

@@ -1,4 +1,4 @@
-use Rattle.salt_books.specs.Books.{seen}
+use Rattle.salt_books.specs.Held.{seen}
 use Rattle.salt_engine.proofs.Decided.{changes-back}
 use Rattle.salt_engine.proofs.deciding.changes_of.Goals as goal
 use Rattle.law_states.specs.OpenUnits.{OpenUnit}

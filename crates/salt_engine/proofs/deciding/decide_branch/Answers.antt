@@ -2,7 +2,7 @@ use Rattle.salt_engine.proofs.Counted.{cause-broken, cause-lost, same-cause}
 use Rattle.salt_engine.proofs.Outcome.{by-err, not-ok}
 use Rattle.salt_engine.proofs.Committing.{branch-done, branch-may, branch-moves, branch-new, branch-undone, own-branch, own-undone}
 use Rattle.salt_engine.proofs.Decided.{undone-before}
-use Rattle.salt_engine.proofs.Performed.{have-unit}
+use Rattle.salt_books.proofs.Shown.{have-unit}
 use Rattle.salt_engine.proofs.deciding.decide_branch.Goals as goal
 use Rattle.salt_model.specs.Kept.{conts_branched}
 use Rattle.salt_storage.proofs.Staying.{stays-same}

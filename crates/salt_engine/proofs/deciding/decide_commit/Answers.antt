@@ -2,7 +2,7 @@ use Rattle.salt_engine.proofs.Counted.{cause-broken, cause-lost, same-cause}
 use Rattle.salt_engine.proofs.Outcome.{by-err, not-ok}
 use Rattle.salt_engine.proofs.Committing.{commit-done, commit-may, commit-moves, commit-new, commit-undone}
 use Rattle.salt_engine.proofs.Decided.{undone-before}
-use Rattle.salt_engine.proofs.Performed.{have-unit}
+use Rattle.salt_books.proofs.Shown.{have-unit}
 use Rattle.salt_engine.proofs.deciding.decide_commit.Goals as goal
 use Rattle.law_states.specs.Told.{next_decision}
 use Rattle.salt_model.specs.Kept.{conts_committed}

@@ -23,7 +23,7 @@ use Rattle.std.proofs.Common.{ap, inl, inr, refl, subst, sym, ◌∙◌}
 use Rattle.std.specs.Prelude.{Err, None, false}
 
 pub new-opening-requires : goal.new-opening-requires
-new-opening-requires g c = c.in-Ok.ensures.found.unspent
+new-opening-requires g c = let f = c.in-Ok.ensures.found in record { unspent = f.unspent; sound = (f.kept, f.is, f.sound) }
 
 pub load-lines-requires-clause-settled : goal.load-lines-requires-clause-settled
 load-lines-requires-clause-settled g c = found-finds _ _ _ _ c.new-opening.ensures.found

@@ -19,7 +19,7 @@ use Rattle.std.proofs.Common.{ap, inl, inr, refl, subst, sym, ◌∙◌}
 use Rattle.std.specs.Prelude.{Err, None}
 
 pub new-opening-requires : goal.new-opening-requires
-new-opening-requires g c = c.in-Ok.ensures.found.unspent
+new-opening-requires g c = let f = c.in-Ok.ensures.found in record { unspent = f.unspent; sound = (f.kept, f.is, f.sound) }
 
 pub serve-done-requires-clause-settled : goal.serve-done-requires-clause-settled
 serve-done-requires-clause-settled g c = found-finds _ _ _ _ c.new-opening.ensures.found

@@ -1,33 +1,43 @@
 use Rattle.salt_books.proofs.Decided.{undecided}
 use Rattle.salt_books.proofs.ByName.{order-left}
+use Rattle.salt_books.proofs.LookUps.{there}
 use Rattle.salt_books.proofs.OneHeld.{left}
+use Rattle.salt_books.proofs.Shown.{books-shown}
 use Rattle.salt_books.proofs.books.Books.end.Goals as goal
 use Rattle.salt_books.specs.Bases.{AreInOrder}
-use Rattle.salt_books.specs.Books.{seen}
+use Rattle.salt_books.specs.Books.{units_in}
+use Rattle.salt_books.specs.Held.{seen}
 use Rattle.salt_books.specs.Names.{names_held}
 use Rattle.salt_books.specs.declared.held.Held.{Held}
 use Rattle.law_states.specs.OpenUnits.{unit_named}
 use Rattle.salt_books.specs.Known.{IsKnown}
 use Rattle.salt_model.specs.Kept.{Kept}
-use Rattle.std.proofs.Common.{List, ap, subst, sym, ◌∙◌}
-use Rattle.std.specs.Prelude.{map}
+use Rattle.std.proofs.Common.{List, ap, length, subst, sym, ◌<◌, ◌∙◌, ◌≡◌}
+use Rattle.std.specs.Prelude.{get_or, map}
 
 pub returns : goal.returns
 returns c = λ s end h rises free.
+    let was = books-shown _ _ s c.self.view_is h in
+    let within = subst (λ (hs : List Held). c.place_named-at.result < length hs) c.as_slice.ensures.value c.place_named-at.ensures.within in
+    let named-at = λ (d : Held). subst (λ (hs : List Held). (get_or hs c.place_named-at.result d).open.unit ≡ c.args.unit) c.as_slice.ensures.value (c.place_named-at.ensures.named d) in
     let gone = c.remove-held.result in
     record {
-      known = subst (λ (k : Kept). IsKnown c.args.self.now.known k) (sym (undecided end s.kept (unit_named c.args.unit s.units) free)) h.known;
+      known = subst (λ (k : Kept). IsKnown c.self.inside.known k) (sym (undecided end s.kept (unit_named c.args.unit s.units) free)) was.known;
       units = ap (map seen) c.remove-held.ensures.items
-          ∙ left c.args.self.now.units.items s.units c.place-at.result c.args.unit h.units rises c.place-at.ensures.within gone (c.place-at.ensures.named gone);
-      unit_count = h.unit_count;
-      base_count = h.base_count;
-      to_go = h.to_go;
-      early = h.early;
-      named = h.named;
-      owes = h.owes;
+          ∙ left c.self.inside.units.items s.units c.place_named-at.result c.args.unit was.units rises within gone (named-at gone);
+      unit_count = was.unit_count;
+      base_count = was.base_count;
+      to_go = was.to_go;
+      early = was.early;
+      named = was.named;
+      owes = was.owes;
     }
 
 pub invariant_of-self : goal.invariant_of-self
-invariant_of-self c = record {
-  ordered = λ is. subst (λ (hs : List Held). AreInOrder (names_held hs)) (sym c.remove-held.ensures.items) (order-left c.args.self.now.units.items c.place-at.result (c.args.self.now.ordered is));
+invariant_of-self c = λ is. subst (λ (hs : List Held). AreInOrder (names_held hs)) (sym c.remove-held.ensures.items) (order-left c.self.inside.units.items c.place_named-at.result (c.self.invariant is))
+
+pub place_named-at-requires : goal.place_named-at-requires
+place_named-at-requires c = record {
+  ordered = λ is. subst (λ (hs : List Held). AreInOrder (names_held hs)) (sym c.as_slice.ensures.value) (c.self.invariant is);
+  there = there c.args.unit c.self.inside.units.items _ _ c.as_slice.ensures.value (ap units_in c.self.view_is) c.requires;
 }

@@ -1,14 +1,17 @@
+use Rattle.salt_books.proofs.Shown.{books-shown}
 use Rattle.salt_books.proofs.books.Books.fall.Goals as goal
 use Rattle.std.proofs.Common.{refl}
 
 pub returns : goal.returns
-returns c = λ s why h. record {
-  known = h.known;
-  units = h.units;
-  unit_count = h.unit_count;
-  base_count = h.base_count;
-  to_go = c.new.ensures;
-  early = h.early;
-  named = h.named;
-  owes = refl;
-}
+returns c = λ s why h.
+    let was = books-shown _ _ s c.self.view_is h in
+    record {
+      known = was.known;
+      units = was.units;
+      unit_count = was.unit_count;
+      base_count = was.base_count;
+      to_go = c.new.ensures;
+      early = was.early;
+      named = was.named;
+      owes = refl;
+    }

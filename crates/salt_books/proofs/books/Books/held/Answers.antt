@@ -1,16 +1,28 @@
+use Rattle.law_states.specs.OpenUnits.{OpenUnit}
+use Rattle.salt_books.proofs.LookUps.{find-seen, there}
+use Rattle.salt_books.proofs.Shown.{books-shown}
 use Rattle.salt_books.proofs.books.Books.held.Goals as goal
-use Rattle.salt_books.specs.Books.{seen}
-use Rattle.law_states.specs.OpenUnits.{unit_named}
-use Rattle.std.proofs.Common.{None, ap, subst, sym, ◌∙◌, ◌≡◌}
+use Rattle.salt_books.specs.Bases.{AreInOrder}
+use Rattle.salt_books.specs.Books.{units_in}
+use Rattle.salt_books.specs.Held.{seen}
+use Rattle.salt_books.specs.Names.{names_held}
+use Rattle.salt_books.specs.declared.held.Held.{Held}
+use Rattle.salt_values.specs.Id.{is_same_id}
+use Rattle.std.proofs.Common.{List, ap, subst, sym, ◌∙◌}
+use Rattle.std.specs.List.{find}
 use Rattle.std.specs.Option.{option_copied}
-use Rattle.std.specs.Prelude.{IsSome, option_map}
+use Rattle.std.specs.Prelude.{IsSome, map, option_map}
+
+pub named_among-requires : goal.named_among-requires
+named_among-requires c = λ is. subst (λ (hs : List Held). AreInOrder (names_held hs)) (sym c.as_slice.ensures.value) (c.self.invariant is)
 
 pub unreachable-requires : goal.unreachable-requires
 unreachable-requires c =
-    let h = c.requires in
-    let none : unit_named c.args.unit h.state.units ≡ None =
-    sym (c.unit_named.ensures h.state h.books) ∙ ap (λ o. option_map seen (option_copied o)) c.in-None.is in
-    let none_is = subst IsSome none h.named in cc
+    let some = there c.args.unit c.self.inside.units.items c.as_slice.result.now _ c.as_slice.ensures.value (ap units_in c.self.view_is) c.requires in
+    let none_is = subst IsSome (sym c.named_among.ensures ∙ ap option_copied c.in-None.is) some in cc
 
 pub returns : goal.returns
-returns c = λ s h. sym (c.unit_named.ensures s h) ∙ ap (λ o. option_map seen (option_copied o)) c.in-Some.is
+returns c = λ s h.
+    sym (ap (λ o. option_map seen (option_copied o)) (sym c.in-Some.is) ∙ ap (option_map seen) c.named_among.ensures
+    ∙ find-seen (λ (o : OpenUnit). is_same_id o.unit c.args.unit) c.as_slice.result.now
+    ∙ ap (λ (os : List OpenUnit). find (λ (o : OpenUnit). is_same_id o.unit c.args.unit) os) (ap (map seen) c.as_slice.ensures.value ∙ (books-shown _ _ s c.self.view_is h).units))

@@ -1,18 +1,15 @@
+use Rattle.salt_books.proofs.Shown.{books-shown}
 use Rattle.salt_books.proofs.books.Books.move_of_branch.Goals as goal
-use Rattle.salt_books.specs.Books.{seen}
+use Rattle.salt_books.specs.Held.{seen}
 use Rattle.law_states.specs.OpenUnits.{OpenUnit}
-use Rattle.salt_books.specs.Known.{AllLeadOn}
 use Rattle.salt_books.specs.Moves.{CanMove}
 use Rattle.salt_model.specs.Kept.{conts_branched}
 use Rattle.std.proofs.Common.{Some, ap, subst, sym, ◌∙◌, ◌≡◌}
 use Rattle.std.proofs.lemmas.Result.{IfOk-weaker}
 
-pub move_of_branch-requires : goal.move_of_branch-requires
-move_of_branch-requires c = let h = c.requires in subst AllLeadOn (sym h.books.known.catalogue) h.books.known.lead_on
-
 pub returns : goal.returns
 returns c = IfOk-weaker c.move_of_branch.result _ _ (λ made f s o h named stands can.
     let found = c.held-held.ensures s h in
     let same : o ≡ seen c.held-held.result.now = let both : Some o ≡ Some (seen c.held-held.result.now) = sym named ∙ found in cc in
-    f s.kept h.known (stands (seen c.held-held.result.now) found) (subst (λ (x : OpenUnit). CanMove s.kept x.kind) same can)
+    f s.kept (books-shown _ _ s c.self.view_is h).known (stands (seen c.held-held.result.now) found) (subst (λ (x : OpenUnit). CanMove s.kept x.kind) same can)
     ∙ ap (λ (x : OpenUnit). Some (conts_branched s.kept x.kind)) (sym same)) c.move_of_branch.ensures

@@ -1,14 +1,17 @@
+use Rattle.salt_books.proofs.Shown.{books-shown}
 use Rattle.salt_books.proofs.books.Books.open_early.Goals as goal
 use Rattle.std.proofs.Common.{refl}
 
 pub returns : goal.returns
-returns c = λ s h. record {
-  known = h.known;
-  units = h.units;
-  unit_count = h.unit_count;
-  base_count = h.base_count;
-  to_go = h.to_go;
-  early = h.early;
-  named = refl;
-  owes = h.owes;
-}
+returns c = λ s h.
+    let was = books-shown _ _ s c.self.view_is h in
+    record {
+      known = was.known;
+      units = was.units;
+      unit_count = was.unit_count;
+      base_count = was.base_count;
+      to_go = was.to_go;
+      early = was.early;
+      named = refl;
+      owes = was.owes;
+    }

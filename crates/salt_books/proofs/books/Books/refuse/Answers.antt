@@ -1,14 +1,17 @@
+use Rattle.salt_books.proofs.Shown.{books-shown}
 use Rattle.salt_books.proofs.books.Books.refuse.Goals as goal
 use Rattle.std.proofs.Common.{refl}
 
 pub returns : goal.returns
-returns c = λ s refusal h. record {
-  known = h.known;
-  units = h.units;
-  unit_count = h.unit_count;
-  base_count = h.base_count;
-  to_go = h.to_go;
-  early = h.early;
-  named = h.named;
-  owes = refl;
-}
+returns c = λ s refusal h.
+    let was = books-shown _ _ s c.self.view_is h in
+    record {
+      known = was.known;
+      units = was.units;
+      unit_count = was.unit_count;
+      base_count = was.base_count;
+      to_go = was.to_go;
+      early = was.early;
+      named = was.named;
+      owes = refl;
+    }

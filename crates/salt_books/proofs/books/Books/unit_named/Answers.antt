@@ -1,7 +1,8 @@
 use Rattle.salt_books.proofs.LookUps.{find-seen}
+use Rattle.salt_books.proofs.Shown.{books-shown}
 use Rattle.salt_books.proofs.books.Books.unit_named.Goals as goal
 use Rattle.salt_books.specs.Bases.{AreInOrder}
-use Rattle.salt_books.specs.Books.{seen}
+use Rattle.salt_books.specs.Held.{seen}
 use Rattle.salt_books.specs.Names.{names_held}
 use Rattle.salt_books.specs.declared.held.Held.{Held}
 use Rattle.law_states.specs.OpenUnits.{OpenUnit}
@@ -13,7 +14,7 @@ use Rattle.std.specs.Prelude.{map, option_map}
 pub returns : goal.returns
 returns c = λ s h.
     ap (option_map seen) c.named_among.ensures ∙ find-seen (λ (o : OpenUnit). is_same_id o.unit c.args.unit) c.as_slice.result.now
-    ∙ ap (λ (os : List OpenUnit). find (λ (o : OpenUnit). is_same_id o.unit c.args.unit) os) (ap (map seen) c.as_slice.ensures.value ∙ h.units)
+    ∙ ap (λ (os : List OpenUnit). find (λ (o : OpenUnit). is_same_id o.unit c.args.unit) os) (ap (map seen) c.as_slice.ensures.value ∙ (books-shown _ _ s c.self.view_is h).units)
 
 pub named_among-requires : goal.named_among-requires
-named_among-requires c = λ is. subst (λ (hs : List Held). AreInOrder (names_held hs)) (sym c.as_slice.ensures.value) (c.args.self.now.ordered is)
+named_among-requires c = λ is. subst (λ (hs : List Held). AreInOrder (names_held hs)) (sym c.as_slice.ensures.value) (c.self.invariant is)

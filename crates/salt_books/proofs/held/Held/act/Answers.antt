@@ -1,6 +1,6 @@
 use Rattle.salt_books.proofs.Loaded.{loaded-views}
 use Rattle.salt_books.proofs.held.Held.act.Goals as goal
-use Rattle.salt_books.specs.Books.{seen}
+use Rattle.salt_books.specs.Held.{seen}
 use Rattle.salt_eval.specs.Scans.{IsKeyed}
 use Rattle.salt_eval.specs.Views.{tables_of}
 use Rattle.law_states.specs.OpenUnits.{OpenUnit}

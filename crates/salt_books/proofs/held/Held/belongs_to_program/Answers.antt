@@ -1,5 +1,5 @@
 use Rattle.salt_books.proofs.held.Held.belongs_to_program.Goals as goal
-use Rattle.salt_books.specs.Books.{is_of_program}
+use Rattle.salt_books.specs.Held.{is_of_program}
 use Rattle.salt_model.specs.Units.{program_of_kind}
 use Rattle.salt_model.specs.declared.events.UnitKind.{UnitKind}
 use Rattle.salt_values.specs.Id.{is_same_id}

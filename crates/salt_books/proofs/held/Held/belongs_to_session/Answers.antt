@@ -1,5 +1,5 @@
 use Rattle.salt_books.proofs.held.Held.belongs_to_session.Goals as goal
-use Rattle.salt_books.specs.Books.{is_of_session}
+use Rattle.salt_books.specs.Held.{is_of_session}
 use Rattle.salt_model.specs.Units.{session_of_kind}
 use Rattle.salt_model.specs.declared.events.UnitKind.{UnitKind}
 use Rattle.std.proofs.Common.{Bool, None, Some, ap, false, sym}

@@ -6,4 +6,4 @@ use Rattle.salt_values.specs.declared.cont.Cont.{Cont}
 use Rattle.std.proofs.Common.{List, subst, sym}
 
 pub bases_among-requires : goal.bases_among-requires
-bases_among-requires c = λ is. subst (λ (l : List Cont). Rising (bases_in l)) (sym c.as_slice.ensures) (rising-of (bases_in c.args.self.now.conts) (c.args.self.now.ordered is))
+bases_among-requires c = λ is. subst (λ (l : List Cont). Rising (bases_in l)) (sym c.as_slice.ensures) (rising-of (bases_in c.self.inside.conts) (c.self.invariant.0 is))

@@ -1,4 +1,5 @@
 use Rattle.salt_books.proofs.Ordered.{in-order, rising-of}
+use Rattle.salt_books.proofs.Shown.{known-shown}
 use Rattle.salt_books.proofs.known.Known.commit.Goals as goal
 use Rattle.salt_books.specs.Bases.{bases_in}
 use Rattle.salt_stands.specs.OpenConts.{make_move}
@@ -6,23 +7,24 @@ use Rattle.std.proofs.Common.{List, ap, false, true, ◌+◌, ◌≡◌, ◌∙�
 use Rattle.salt_values.specs.declared.cont.Cont.{Cont}
 
 pub returns-clause-kept : goal.returns-clause-kept
-returns-clause-kept c = λ k conts same moves es. record {
-  schema = same.schema;
-  catalogue = same.catalogue;
-  conts = c.in_ok-rising.ensures.moved conts (ap (λ (cs : List Cont). make_move cs c.args.made) same.conts ∙ moves);
-  boot = same.boot;
-  decisions = c.in_ok-number.ensures ∙ ap (λ n. n + 1) same.decisions;
-  lead_on = same.lead_on;
-}
+returns-clause-kept c = λ k conts h moves es.
+    let same = known-shown _ _ k c.self.view_is h in
+    record {
+      schema = same.schema;
+      catalogue = same.catalogue;
+      conts = c.in_ok-rising.ensures.moved conts (ap (λ (cs : List Cont). make_move cs c.args.made) same.conts ∙ moves);
+      boot = same.boot;
+      decisions = c.in_ok-number.ensures ∙ ap (λ n. n + 1) same.decisions;
+    }
 
 pub make_move-requires : goal.make_move-requires
-make_move-requires c = λ is. rising-of (bases_in c.args.self.now.conts) (c.args.self.now.ordered is)
+make_move-requires c = λ is. rising-of (bases_in c.self.inside.conts) (c.self.invariant.0 is)
 
 never : false ≡ true → ⊥
 never h = cc
 
 pub invariant_of-self : goal.invariant_of-self
-invariant_of-self c = record { ordered = λ is. absurd (never is) }
+invariant_of-self c = (λ is. absurd (never is), c.self.invariant.1)
 
 pub invariant_of-self-2 : goal.invariant_of-self-2
-invariant_of-self-2 c = record { ordered = λ is. in-order (bases_in c.make_move.new.conts) (c.in_ok-rising.ensures.rising is) }
+invariant_of-self-2 c = (λ is. in-order (bases_in c.make_move.new.conts) (c.in_ok-rising.ensures.rising is), c.self.invariant.1)

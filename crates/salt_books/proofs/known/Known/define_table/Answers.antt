@@ -1,10 +1,11 @@
 use Rattle.salt_books.proofs.Defining.{programs-with-table, tables-with-table}
+use Rattle.salt_books.proofs.Shown.{known-shown}
 use Rattle.salt_books.proofs.known.Known.define_table.Goals as goal
-use Rattle.salt_books.specs.Known.{AllLeadOn}
-use Rattle.std.proofs.Common.{[], ap, subst, sym, ◌+◌, ◌++◌, ◌∙◌, ◌∷◌}
+use Rattle.std.proofs.Common.{[], ap, sym, ◌+◌, ◌++◌, ◌∙◌, ◌∷◌}
 
 pub returns-in-Ok-clause-kept : goal.returns-in-Ok-clause-kept
-returns-in-Ok-clause-kept c = λ k same.
+returns-in-Ok-clause-kept c = λ k h.
+    let same = known-shown _ _ k c.self.view_is h in
     let d = c.args.def.now in
     record {
       schema = c.in-Ok.ensures.ok ∙ (λ i. same.schema i ++ c.in_ok-def.ensures i ∷ []) ∙ sym (tables-with-table k.definitions d);
@@ -12,5 +13,4 @@ returns-in-Ok-clause-kept c = λ k same.
       conts = same.conts;
       boot = same.boot;
       decisions = c.in_ok-number.ensures ∙ ap (λ n. n + 1) same.decisions;
-      lead_on = subst AllLeadOn (sym (programs-with-table k.definitions d)) same.lead_on;
     }

@@ -1,5 +1,6 @@
 use Rattle.law_states.specs.Rising.{Rising}
 use Rattle.salt_books.proofs.Ordered.{rising-of}
+use Rattle.salt_books.proofs.Shown.{known-shown}
 use Rattle.salt_books.proofs.known.Known.move_of_branch.Goals as goal
 use Rattle.salt_books.specs.Bases.{bases_in}
 use Rattle.salt_values.specs.declared.cont.Cont.{Cont}
@@ -7,8 +8,9 @@ use Rattle.std.proofs.Common.{List, subst, sym, ◌∙◌}
 use Rattle.std.proofs.lemmas.Result.{IfOk-weaker}
 
 pub returns : goal.returns
-returns c = IfOk-weaker c.move_of_branch.result _ _ (λ made f k same at can.
+returns c = IfOk-weaker c.move_of_branch.result _ _ (λ made f k h at can.
+    let same = known-shown _ _ k c.self.view_is h in
     f k same.catalogue (c.as_slice.ensures ∙ same.conts) at can) c.move_of_branch.ensures
 
 pub move_of_branch-requires-clause-ordered : goal.move_of_branch-requires-clause-ordered
-move_of_branch-requires-clause-ordered c = λ is. subst (λ (l : List Cont). Rising (bases_in l)) (sym c.as_slice.ensures) (rising-of (bases_in c.args.self.now.conts) (c.args.self.now.ordered is))
+move_of_branch-requires-clause-ordered c = λ is. subst (λ (l : List Cont). Rising (bases_in l)) (sym c.as_slice.ensures) (rising-of (bases_in c.self.inside.conts) (c.self.invariant.0 is))

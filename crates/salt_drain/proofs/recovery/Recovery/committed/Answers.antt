@@ -1,5 +1,5 @@
 use Rattle.salt_drain.proofs.recovery.Recovery.committed.Goals as goal
-use Rattle.salt_books.specs.Books.{seen}
+use Rattle.salt_books.specs.Held.{seen}
 use Rattle.law_states.specs.OpenUnits.{OpenUnit}
 use Rattle.law_states.specs.Steps.{units_after}
 use Rattle.law_states.specs.Told.{next_decision}
@@ -20,8 +20,8 @@ returns c = λ s o stands r named moves.
     let u = c.args.unit in
     let n = next_decision s.units in
     let e = Ended u (Committed n) in
-    let held : OpenUnit = seen c.in-Some.held.now in
-    let follows = committed u n s.units (units_after e s.units) held (sym (c.in-Some.ensures s.units stands.books)) in
+    let held : OpenUnit = seen c.held-held.result.now in
+    let follows = committed u n s.units (units_after e s.units) held (c.held-held.ensures s.units stands.books) in
     gives e _ _ s _ r (λ i. Ended u (Committed (c.in_ok-number.ensures.number s.units stands.books i)))
     (λ i. Some (Ended (sym (named-unit u s.units.units o named) i) (Committed n))) refl
     (record {

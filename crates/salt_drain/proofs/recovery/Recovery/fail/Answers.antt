@@ -1,5 +1,5 @@
 use Rattle.salt_drain.proofs.recovery.Recovery.fail.Goals as goal
-use Rattle.salt_books.specs.Books.{seen}
+use Rattle.salt_books.specs.Held.{seen}
 use Rattle.salt_drain.proofs.Chosen.{fail-brings}
 use Rattle.std.proofs.Common.{sym}
 

@@ -1,16 +1,18 @@
 use Rattle.salt_drain.proofs.recovery.Recovery.opened.Goals as goal
 use Rattle.law_states.specs.Follows.{cut_in}
+use Rattle.law_states.specs.OpenUnits.{unit_named}
 use Rattle.salt_drain.proofs.Chosen.{cuts-drain, cuts-first, cuts-wait, gives-same, none-open, nothing, rest-plain, told}
 use Rattle.salt_books.proofs.Named.{rising}
 use Rattle.salt_drain.proofs.Sound.{cut-open}
-use Rattle.std.proofs.Common.{subst, sym}
-use Rattle.std.specs.Prelude.{[], length, ◌<◌, ◌≡◌, ◌≤◌}
+use Rattle.std.proofs.Common.{ap, subst, sym}
+use Rattle.std.specs.Prelude.{IsSome, [], length, ◌<◌, ◌≡◌, ◌≤◌}
 
 pub cut-requires : goal.cut-requires
 cut-requires c =
     let s = c.requires.0 in
     let stands = c.requires.1 in
-    record { state = s.units; books = stands.books; named = cut-open s c.in-Some.unit c.requires.2 (sym (c.in-Some.ensures s.units stands.books (rising s c.requires.2.sound))) }
+    subst IsSome (sym (ap (unit_named c.in-Some.unit) stands.books.units))
+    (cut-open s c.in-Some.unit c.requires.2 (sym (c.in-Some.ensures s.units stands.books (rising s c.requires.2.sound))))
 
 pub returns-in-Some : goal.returns-in-Some
 returns-in-Some c = λ s stands r.

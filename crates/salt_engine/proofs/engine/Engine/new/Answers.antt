@@ -1,9 +1,12 @@
+use Rattle.salt_books.specs.Known.{IsKnown}
+use Rattle.salt_books.specs.declared.known.Known.{Known}
 use Rattle.salt_engine.proofs.engine.Engine.new.Goals as goal
-use Rattle.std.proofs.Common.{inl, sym, ◌∙◌}
+use Rattle.std.proofs.Common.{inl, subst, sym, ◌∙◌}
 
 pub returns-clause-serves : goal.returns-clause-serves
 returns-clause-serves g c = λ s r.
-    let known = c.new-known.ensures s.units.kept r.schema r.catalogue (c.new-conts.ensures ∙ sym r.conts) r.boot r.decisions r.lead_on in
+    let known = subst (λ (x : Known). IsKnown x s.units.kept) (sym c.new-known.ensures)
+    (record { schema = r.schema; catalogue = r.catalogue; conts = c.new-conts.ensures ∙ sym r.conts; boot = r.boot; decisions = r.decisions }) in
     let books = c.new.ensures s.units.kept s.units.phase s.units.line known in (
       c.new-scheduler.result,
       c.over.ensures.stage,

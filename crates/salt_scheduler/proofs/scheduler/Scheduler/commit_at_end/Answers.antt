@@ -2,7 +2,7 @@ use Rattle.salt_scheduler.proofs.scheduler.Scheduler.commit_at_end.Goals as goal
 use Rattle.std.proofs.Common.{sym}
 use Rattle.law_states.specs.OpenUnits.{unit_named}
 use Rattle.salt_scheduler.proofs.EndsDone.{commit-brings, done-at-end}
-use Rattle.salt_books.specs.Books.{seen}
+use Rattle.salt_books.specs.Held.{seen}
 
 pub returns-then-is_at_end : goal.returns-then-is_at_end
 returns-then-is_at_end c = λ s r stands serves.

@@ -1,5 +1,5 @@
 use Rattle.salt_scheduler.proofs.scheduler.Scheduler.committed.Goals as goal
-use Rattle.salt_books.specs.Books.{seen}
+use Rattle.salt_books.specs.Held.{seen}
 use Rattle.law_states.specs.OpenUnits.{OpenUnit}
 use Rattle.law_states.specs.Told.{next_decision}
 use Rattle.law_states.specs.UnitFacts.{facts_in}
@@ -17,14 +17,14 @@ use Rattle.std.specs.Prelude.{Some, map, refl, ◌≡◌}
 
 pub returns : goal.returns
 returns c = λ s o stands sound named made.
-    let is : o ≡ seen c.in-Some.held.now = one-found _ o (seen c.in-Some.held.now) named (sym (c.in-Some.ensures s.units stands.books)) in
+    let is : o ≡ seen c.held-held.result.now = one-found _ o (seen c.held-held.result.now) named (c.held-held.ensures s.units stands.books) in
     let e = Ended c.args.unit (Committed (next_decision s.units)) in
     commit-gives c.args.self.now _ c.args.unit o c.is_none.result s _ stands named
     (λ i. Some (Ended c.args.unit (Committed (c.in_ok-number.ensures.number s.units stands.books i))))
     (c.in_ok-number.ensures.state s.units o (conts_committed s.units.kept (next_decision s.units) o.kind o.vars) stands.books (rising s sound) named made refl)
     (c.in_ok-commit.ensures s.watch (facts_in s.units e) (next_decision s.units) stands.watch
     (ended-base s.units c.args.unit (Committed (next_decision s.units)) o named ∙ ap (λ (o : OpenUnit). program_of_kind o.kind) is ∙ sym c.program_of-base.ensures)
-    (ended-places s.units c.args.unit (Committed (next_decision s.units)) o c.in-Some.held.now.open.changes.items named (ap (λ (o : OpenUnit). o.changes) is)
+    (ended-places s.units c.args.unit (Committed (next_decision s.units)) o c.held-held.result.now.open.changes.items named (ap (λ (o : OpenUnit). o.changes) is)
     ∙ ap (map place_of) (sym c.changes.ensures.changes)))
     refl
     (c.behind_commit-follow.ensures ∙ ap (λ (o : OpenUnit). behind_commit o.kind) (sym is))

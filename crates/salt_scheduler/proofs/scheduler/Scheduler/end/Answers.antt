@@ -1,7 +1,7 @@
 use Rattle.salt_scheduler.proofs.scheduler.Scheduler.end.Goals as goal
 use Rattle.std.specs.Prelude.{refl}
 use Rattle.law_states.specs.UnitFacts.{facts_in}
-use Rattle.salt_books.specs.Books.{seen}
+use Rattle.salt_books.specs.Held.{seen}
 use Rattle.salt_books.proofs.Named.{rising}
 use Rattle.law_states.specs.Steps.{units_after}
 use Rattle.salt_model.specs.declared.events.Event.TheVariants.{Ended}

@@ -1,5 +1,5 @@
 use Rattle.salt_scheduler.proofs.scheduler.Scheduler.fail.Goals as goal
-use Rattle.salt_books.specs.Books.{seen}
+use Rattle.salt_books.specs.Held.{seen}
 use Rattle.salt_scheduler.proofs.EndsDone.{branch-brings, done-failed}
 use Rattle.salt_scheduler.proofs.Done.{brings-same, brings-told}
 use Rattle.law_states.specs.OpenUnits.{OpenUnit}
