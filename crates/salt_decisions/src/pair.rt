@@ -3,7 +3,7 @@
 ghost use Rattle.salt_bytes.specs.Generations.{later_of, pair_of};
 ghost use Rattle.salt_decisions.specs.Pair.{HasPair, contents, generation_of, pair_in};
 ghost use Rattle.salt_disk.specs.Disks.{HasCause, IsSettled, KeepsAll, OnlyFails};
-ghost use Rattle.std.specs.Prelude.{IfOk, IsTrue, ◌<◌, ◌≡◌};
+ghost use Rattle.std.specs.Prelude.{IfOk, ◌<◌, ◌≡◌};
 ghost use Rattle.std.specs.Result.{result_err};
 
 use crate::read::{Content, ReadLog, read_device};
@@ -57,7 +57,7 @@ pub fn read_pair<D: Disks>(alloc: Global, disks: &mut D) -> Result<LogPair, Disk
     ensures pair { IfOk result (λ pair. HasPair (D.view disks.new) (pair_in pair)) }
     ensures kept { KeepsAll (D.view disks.old) (D.view disks.new) (result_err result) }
     ensures cause { HasCause (D.view disks.old) (D.view disks.new) (result_err result) }
-    ensures answers { IsTrue (D.view disks.old).told → OnlyFails (result_err result) }
+    ensures answers { OnlyFails (result_err result) }
 {
     let a = read_device(alloc, disks, 0)?;
     let b = read_device(alloc, disks, 1)?;

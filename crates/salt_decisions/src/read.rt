@@ -181,7 +181,7 @@ pub fn read_device<D: Disks>(alloc: Global, disks: &mut D, dev: u32) -> Result<C
     ensures content { IfOk result (HasContent (D.view disks.new) dev) }
     ensures kept { KeepsAll (D.view disks.old) (D.view disks.new) (result_err result) }
     ensures cause { HasCause (D.view disks.old) (D.view disks.new) (result_err result) }
-    ensures answers { IsTrue (D.view disks.old).told → OnlyFails (result_err result) }
+    ensures answers { OnlyFails (result_err result) }
 {
     match open_log(alloc, disks, dev) {
         Ok(gate) => read_log(alloc, disks, gate),

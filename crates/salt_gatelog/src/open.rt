@@ -121,6 +121,7 @@ fn open_counted<D: Disks, L: Ledger>(
     ensures why { IsTrue (D.view disks.old).told → IfErr result (IsWhy ((D.view disks.old).bytes dev)) }
     ensures kept { KeepsAll (D.view disks.old) (D.view disks.new) (disk_err result) }
     ensures cause { HasCause (D.view disks.old) (D.view disks.new) (disk_err result) }
+    ensures answers { OnlyFails (disk_err result) }
     ensures steps { IfOk result (λ log. steps.new ≡ steps.old + count_of log + 1) }
     ensures most { IsTrue (D.view disks.old).told → 9 * steps.new ≤ 9 * steps.old + 9 + length ((D.view disks.old).bytes dev) }
 {
@@ -173,6 +174,7 @@ fn open_anew<D: Disks, L: Ledger>(
     ensures why { IsTrue (D.view disks.old).told → IfErr result (IsWhy ((D.view disks.old).bytes dev)) }
     ensures kept { KeepsAll (D.view disks.old) (D.view disks.new) (disk_err result) }
     ensures cause { HasCause (D.view disks.old) (D.view disks.new) (disk_err result) }
+    ensures answers { OnlyFails (disk_err result) }
 {
     let mut steps = Steps::<L>::new(blank);
     open_counted(disks, dev, block, &mut steps)
@@ -186,6 +188,7 @@ pub fn open_log<D: Disks>(alloc: Global, disks: &mut D, dev: u32) -> Result<Gate
     ensures why { IsTrue (D.view disks.old).told → IfErr result (IsWhy ((D.view disks.old).bytes dev)) }
     ensures kept { KeepsAll (D.view disks.old) (D.view disks.new) (disk_err result) }
     ensures cause { HasCause (D.view disks.old) (D.view disks.new) (disk_err result) }
+    ensures answers { OnlyFails (disk_err result) }
 {
     let mut block = Block::new(alloc)?;
     open_anew::<D, Brand>(disks, dev, &mut block, Blank::new(1))

@@ -3,7 +3,7 @@
 ghost use Rattle.salt_disk.specs.Disks.{HasCause, IsSettled, KeepsAll, OnlyFails};
 ghost use Rattle.salt_gatelog.specs.Log.{IsLog, device_of};
 ghost use Rattle.salt_partition.specs.Contents.{HasContent, IsContent};
-ghost use Rattle.std.specs.Prelude.{IfOk, IsTrue, List, length, ℕ, ◌<◌, ◌≡◌};
+ghost use Rattle.std.specs.Prelude.{IfOk, List, length, ℕ, ◌<◌, ◌≡◌};
 ghost use Rattle.std.specs.Result.{result_err};
 
 use crate::units::{header_at, read_units};
@@ -68,7 +68,7 @@ pub fn content_of<D: Disks>(
     ensures content { IfOk result (IsContent (D.view disks.old) (D.view disks.new) part dev) }
     ensures kept { KeepsAll (D.view disks.old) (D.view disks.new) (result_err result) }
     ensures cause { HasCause (D.view disks.old) (D.view disks.new) (result_err result) }
-    ensures answers { IsTrue (D.view disks.old).told → OnlyFails (result_err result) }
+    ensures answers { OnlyFails (result_err result) }
 {
     match open_log(alloc, disks, dev) {
         Ok(log) => read_log(alloc, disks, log, part),

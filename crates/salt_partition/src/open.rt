@@ -1,6 +1,6 @@
 //! A partition is opened from the bytes of its devices.
 
-ghost use Rattle.salt_disk.specs.Disks.{HasCause, IsSettled, KeepsAll};
+ghost use Rattle.salt_disk.specs.Disks.{HasCause, IsSettled, KeepsAll, OnlyFails};
 ghost use Rattle.salt_gatelog.specs.Pair.{pair_err};
 ghost use Rattle.salt_partition.specs.Openings.{HasChosen, IsWhy, OpensAs, has_pages};
 ghost use Rattle.salt_partition.specs.Contents.{log_of};
@@ -29,6 +29,7 @@ fn chosen_log<D: Disks>(alloc: Global, disks: &mut D, part: u8) -> Result<(Side,
     ensures why { IsTrue (D.view disks.old).told → IfErr result (λ e. (boot : ℕ) (decided : List Id) → IsWhy (D.view disks.old).bytes boot decided part e) }
     ensures kept { KeepsAll (D.view disks.old) (D.view disks.new) (pair_err result) }
     ensures cause { HasCause (D.view disks.old) (D.view disks.new) (pair_err result) }
+    ensures answers { OnlyFails (pair_err result) }
 {
     let a = content_of(alloc, disks, log_a(part), part)?;
     let b = content_of(alloc, disks, log_a(part) + 1, part)?;
@@ -63,6 +64,7 @@ pub fn open_partition<D: Disks>(
     ensures why { IsTrue (D.view disks.old).told → IfErr result (IsWhy (D.view disks.old).bytes boot decided.now part) }
     ensures kept { KeepsAll (D.view disks.old) (D.view disks.new) (pair_err result) }
     ensures cause { HasCause (D.view disks.old) (D.view disks.new) (pair_err result) }
+    ensures answers { OnlyFails (pair_err result) }
 {
     let (side, found) = chosen_log(alloc, disks, part)?;
     let known = is_known_log(alloc, boot, decided.as_slice(), &found)?;
