@@ -7,7 +7,7 @@ ghost use Rattle.salt_decisions.specs.Kept.{IsKept};
 ghost use Rattle.salt_decisions.specs.Opened.{FullAtFirst, IsBlankImage, IsFirstImage, IsOpened, OpenFails, Peeks, begun, first_payload};
 ghost use Rattle.salt_decisions.specs.Read.{IsOf};
 ghost use Rattle.salt_decisions.specs.Which.{which_in};
-ghost use Rattle.salt_disk.specs.Disks.{EachImage, HasCause, IsSettled, KeepsAll, KeepsBut};
+ghost use Rattle.salt_disk.specs.Disks.{EachImage, HasCause, IsSettled, KeepsAll, KeepsBut, OnlyFails};
 ghost use Rattle.salt_disk.specs.declared.disks.DiskErr.TheVariants.{Full};
 ghost use Rattle.salt_gatelog.specs.Pair.{pair_err};
 ghost use Rattle.salt_stands.specs.Coordinator.{coordinator_pair, device_of};
@@ -16,7 +16,7 @@ ghost use Rattle.salt_stands.specs.LogDevices.{IsCoordinatorLog};
 ghost use Rattle.salt_stands.specs.Stands.{are_spent, is_same_kind, is_same_shape, logs_of};
 ghost use Rattle.salt_place.specs.Placement.{IsParts};
 ghost use Rattle.salt_place.specs.declared.placement.Shape.{Shape};
-ghost use Rattle.std.specs.Prelude.{Err, IfErr, IfOk, IsTrue, Some, [], ℕ, ◌<◌, ◌≡◌};
+ghost use Rattle.std.specs.Prelude.{Err, IfErr, IfOk, IfSome, IsTrue, Some, [], ℕ, ◌<◌, ◌≡◌};
 ghost use Rattle.std.specs.Result.{result_err};
 
 use crate::decisions::Decisions;
@@ -74,8 +74,10 @@ pub fn peek<D: Disks>(alloc: Global, disks: &mut D) -> Result<Option<(Shape, Kep
     requires settled_a { IsSettled (D.view disks.old) 0 }
     requires settled_b { IsSettled (D.view disks.old) 1 }
     ensures answer { IsTrue (D.view disks.old).told → Peeks result (coordinator_pair (logs_of (D.view disks.old).bytes)) }
+    ensures keeps { IfOk result (λ found. IfSome found (λ peeked. (log : CoordinatorLog) × IsKept peeked.1 log)) }
     ensures kept { KeepsAll (D.view disks.old) (D.view disks.new) (pair_err result) }
     ensures cause { HasCause (D.view disks.old) (D.view disks.new) (pair_err result) }
+    ensures answers { OnlyFails (pair_err result) }
 {
     match read_pair(alloc, disks)? {
         LogPair::BothBlank => Ok(None),

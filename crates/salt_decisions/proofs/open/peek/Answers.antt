@@ -18,3 +18,9 @@ returns-in_ok-kept_of-in-Counts-clause-answer g c told =
       keeps = c.in_ok-kept_of-in-Counts.ensures.keeps h.read.log h.read.is_of;
       device = c.in_ok-kept_of-in-Counts.ensures.device;
     }
+
+pub returns-in_ok-kept_of-in-Counts-clause-keeps : goal.returns-in_ok-kept_of-in-Counts-clause-keeps
+returns-in_ok-kept_of-in-Counts-clause-keeps g c =
+    let e = g.D.Disks.view c.read_pair.new.disks in
+    let h : IsCounted e (which_in c.in-Counts.which) c.in-Counts.log = subst (λ p. HasPair e (pair_in p)) c.in-Counts.is c.in_ok-read_pair.ensures.pair in
+    (h.read.log, c.in_ok-kept_of-in-Counts.ensures.keeps h.read.log h.read.is_of)
