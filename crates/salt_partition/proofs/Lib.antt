@@ -14,3 +14,4 @@ pub mod Framed
 mod Witnesses
 mod Opened
 mod Steps
+pub mod Reopened

@@ -22,6 +22,10 @@ use Rattle.salt_values.specs.declared.change.Change.{Change}
 use Rattle.salt_values.specs.declared.id.Id.{Id}
 use Rattle.std.specs.Prelude.{Bool, IsTrue, List, Option, Some, [], false, length, option_map, true, ℕ, ◌++◌, ◌-◌, ◌<◌, ◌≡◌, ◌∷◌}
 
+-- its number
+abbrev pub number_of : Partition → ℕ
+number_of x = x.part
+
 -- the device of the log that counts
 abbrev pub log_device : Partition → ℕ
 log_device x = gates.device_of x.log

@@ -12,6 +12,7 @@ mod generations;
 mod known;
 mod open;
 mod partition;
+mod reopen;
 mod rows;
 mod sets;
 mod units;

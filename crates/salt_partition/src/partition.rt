@@ -8,7 +8,7 @@ ghost use Rattle.salt_disk.specs.declared.disks.DiskErr.{DiskErr};
 ghost use Rattle.salt_eval.specs.Views.{next_row};
 ghost use Rattle.salt_gatelog.specs.Log.{IsBeforeOrWith};
 ghost use Rattle.salt_model.specs.Tables.{Tables, place, row_at, with_changes};
-ghost use Rattle.salt_partition.specs.Partitions.{IsPartition, IsPreparedLast, MayPrepare, StandsOnDevices, StandsFor, StandsWith, changes_in, log_device, log_gate, prepared, rows_in, spells_nulls, unit_count};
+ghost use Rattle.salt_partition.specs.Partitions.{IsPartition, IsPreparedLast, MayPrepare, StandsOnDevices, StandsFor, StandsWith, changes_in, log_device, log_gate, number_of, prepared, rows_in, spells_nulls, unit_count};
 ghost use Rattle.salt_stands.specs.Partition.{part_tables};
 ghost use Rattle.salt_stands.specs.Pieces.{PartView, with_prepared_unit};
 ghost use Rattle.salt_values.specs.declared.id.Id.{Id};
@@ -44,6 +44,13 @@ pub struct Partition {
 }
 
 impl Partition {
+    /// Its number.
+    pub fn number(&self) -> u8
+        ensures { result ≡ number_of self.now }
+    {
+        self.part
+    }
+
     /// The device of the log that counts.
     pub fn device(&self) -> u32
         ensures { result ≡ log_device self.now }
