@@ -33,3 +33,4 @@ mod Shown
 mod Sound
 mod Reopened
 pub mod Limits
+mod Restarted

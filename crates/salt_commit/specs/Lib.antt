@@ -5,3 +5,4 @@ pub mod Commits
 pub mod Openings
 pub mod Reads
 pub mod Loads
+pub mod Again

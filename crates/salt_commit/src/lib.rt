@@ -2,6 +2,7 @@
 //! then decided, and then applied; a stop at any moment leaves what stood before it, or what stands with it.
 #![tactic(auto)]
 
+mod again;
 mod commit;
 mod error;
 mod fits;
