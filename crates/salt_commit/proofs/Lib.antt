@@ -34,3 +34,4 @@ mod Sound
 mod Reopened
 pub mod Limits
 mod Restarted
+mod Voters

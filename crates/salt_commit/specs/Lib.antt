@@ -6,3 +6,4 @@ pub mod Openings
 pub mod Reads
 pub mod Loads
 pub mod Again
+pub mod Messages

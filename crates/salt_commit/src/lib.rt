@@ -9,6 +9,7 @@ mod fits;
 mod load;
 mod named;
 mod nexts;
+mod nodes;
 mod open;
 mod parts;
 mod prepare;

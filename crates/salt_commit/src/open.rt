@@ -65,6 +65,7 @@ fn begin_store<D: Disks>(
             alloc,
             decisions,
             parts,
+            messages: None,
         },
         kept,
     ))
@@ -97,6 +98,7 @@ fn open_counting<D: Disks, F: Fn(PlaceKind, &Key, u32) -> u32>(
             alloc,
             decisions,
             parts,
+            messages: None,
         },
         kept,
     ))

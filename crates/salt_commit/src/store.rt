@@ -2,6 +2,7 @@
 
 ghost use Rattle.salt_bytes.specs.Coordinator.{Boots, Defines, spell_entry};
 ghost use Rattle.salt_bytes.specs.Generations.{WhichLog};
+ghost use Rattle.salt_commit.specs.Messages.{IsAtRest, net_of, nothing_sent, with_waiting};
 ghost use Rattle.salt_commit.specs.Stores.{IsStore, MayDefine, StandForEither, StandsOnDevices, StandsToDefine, coordinator_device, coordinator_gate, last_boot, last_decision, next_text, reading, rows_of_store};
 ghost use Rattle.salt_decisions.specs.Decisions.{next_definition};
 ghost use Rattle.salt_disk.specs.Disks.{FullExactly, HasCause, IsUnchanged, KeepsOthers};
@@ -11,17 +12,18 @@ ghost use Rattle.salt_place.specs.Placement.{GivesPlaceOf, TakesEachKey};
 ghost use Rattle.salt_stands.specs.Commits.{found_of};
 ghost use Rattle.salt_stands.specs.Coordinator.{Coordinator};
 ghost use Rattle.salt_stands.specs.Pieces.{PartView, with_boot, with_definition};
-ghost use Rattle.std.specs.Prelude.{Err, IfOk, IsTrue, OnOk, length, ℕ, ◌+◌, ◌-◌, ◌<◌, ◌^◌, ◌≡◌};
+ghost use Rattle.std.specs.Prelude.{Err, IfOk, IsTrue, OnErr, OnOk, Some, length, option_map, ℕ, ◌+◌, ◌-◌, ◌<◌, ◌^◌, ◌≡◌};
 ghost use Rattle.std.specs.Result.{result_err};
 
 use crate::error::StoreErr;
 use salt_decisions::Decisions;
 use salt_disk::Disks;
+use salt_net::{Messages, Net};
 use salt_partition::Partition;
 use salt_place::{PlaceKind, Placement};
 use salt_stands::what_fits_still_fits;
 use salt_values::Key;
-use std::alloc::Global;
+use std::alloc::{AllocError, Global};
 
 /// A database on its devices: the coordinator's log, and the partitions in order of their numbers. After an error of a call on
 /// it that goes to the devices it is opened again before it is used.
@@ -30,6 +32,8 @@ pub struct Store {
     pub(crate) alloc: Global,
     pub(crate) decisions: Decisions,
     pub(crate) parts: Vec<Partition>,
+    // the net that commits go over, and its turns, where they do
+    pub(crate) messages: Option<Messages>,
 }
 
 impl Store {
@@ -45,6 +49,41 @@ impl Store {
         ensures { result ≡ last_decision self.now }
     {
         self.decisions.last_decision()
+    }
+
+    /// From now on commits go over messages, in a net in which nothing has happened and no pairs wait.
+    pub fn over_net(&mut self)
+        ensures net { net_of self.new ≡ Some nothing_sent }
+        ensures rests { IsAtRest self.new }
+        ensures rest { self.new ≡ record self.old { messages = self.new.messages } }
+    {
+        self.messages = Some(Messages::new(self.alloc));
+    }
+
+    /// These pairs wait behind the others. Where commits go over no messages none wait.
+    pub fn arm_net(&mut self, pairs: &[(u64, u8)]) -> Result<(), AllocError>
+        requires { IsAtRest self.old }
+        ensures ok { OnOk result (net_of self.new ≡ option_map (with_waiting pairs.now) (net_of self.old)) }
+        ensures err { OnErr result (net_of self.new ≡ net_of self.old) }
+        ensures rests { IsAtRest self.new }
+        ensures rest { self.new ≡ record self.old { messages = self.new.messages } }
+    {
+        match &mut self.messages {
+            Some(messages) => messages.arm(pairs),
+            None => Ok(()),
+        }
+    }
+
+    /// Gives the net, where commits go over messages.
+    pub fn into_net(self) -> Option<Net>
+        requires { IsAtRest self }
+        ensures { result ≡ option_map (λ turning. turning.events) (net_of self) }
+    {
+        let messages = self.messages;
+        match messages {
+            Some(messages) => Some(messages.into_net()),
+            None => None,
+        }
     }
 
     /// Begins the next boot, and gives its number. After Ok it is kept. Whatever the call answers, each image of the devices

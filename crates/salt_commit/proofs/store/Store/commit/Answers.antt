@@ -82,7 +82,7 @@ decide-requires-clause-log g c =
     let below : last_decision x + 1 < 2 ^ 64 = omega (arith, c.requires.below) in
     let s = c.requires.stands in
     let b = g.D.Disks.view c.prepare_all.new.disks in
-    let y : Store = record { alloc = x.alloc; decisions = x.decisions; parts = c.prepare_all.new.parts } in
+    let y : Store = record { alloc = x.alloc; decisions = x.decisions; parts = c.prepare_all.new.parts; messages = x.messages } in
     let h = between reading d x s.which s.c s.v s.is c.args.unit cs c.args.mv.now s.m s.conts s.may c.deref-2.result.now shared hand below b y refl c.in_ok-prepare_all.ensures.size c.in_ok-prepare_all.ensures.others c.in_ok-prepare_all.ensures.ok in
     (s.which, (s.c.log, h.decisions))
 
@@ -104,7 +104,7 @@ returns-in_err-number-clause-images g c which co v m conts is may told asked ima
     let hand : IsInHand c.args.unit cs c.args.mv.now = record { unit = record { boot = omega arith; seq = omega arith }; count = omega arith; move = omega arith; changes = c.told_changes.ensures } in
     let below : last_decision x + 1 < 2 ^ 64 = omega (arith, c.requires.below) in
     let b = g.D.Disks.view c.prepare_all.new.disks in
-    let y : Store = record { alloc = x.alloc; decisions = x.decisions; parts = c.prepare_all.new.parts } in
+    let y : Store = record { alloc = x.alloc; decisions = x.decisions; parts = c.prepare_all.new.parts; messages = x.messages } in
     let shared-1 : c.deref.result.now ≡ c.deref-2.result.now = c.deref.ensures.value ∙ sym c.deref-2.ensures.value in
     let masked : c.mask_of-mask.result ≡ mask_of c.deref-2.result.now = c.mask_of-mask.ensures.mask ∙ ap mask_of shared-1 in
     let dev = device_of 0 which in
@@ -142,7 +142,7 @@ apply_all-requires-clause-stand g c =
     let below : last_decision x + 1 < 2 ^ 64 = omega (arith, c.requires.below) in
     let s = c.requires.stands in
     let b = g.D.Disks.view c.prepare_all.new.disks in
-    let y : Store = record { alloc = x.alloc; decisions = x.decisions; parts = c.prepare_all.new.parts } in
+    let y : Store = record { alloc = x.alloc; decisions = x.decisions; parts = c.prepare_all.new.parts; messages = x.messages } in
     let third : c.deref-2.result.now ≡ c.deref-3.result.now = c.deref-2.ensures.value ∙ sym c.deref-3.ensures.value in
     subst (λ l. Rattle.salt_commit.specs.Prepares.StandWithShares (g.D.Disks.view c.decide.new.disks) c.prepare_all.new.parts.items c.args.unit l) third
     (may_apply_all reading d x s.which s.c s.v s.is c.args.unit cs c.args.mv.now s.m s.conts s.may c.deref-2.result.now shared hand below b y refl c.in_ok-prepare_all.ensures.size c.in_ok-prepare_all.ensures.others c.in_ok-prepare_all.ensures.ok (g.D.Disks.view c.decide.new.disks) c.in_ok-number.ensures.others)
@@ -156,7 +156,7 @@ returns-in_err-apply_all-clause-images g c which co v m conts is may told asked 
     let hand : IsInHand c.args.unit cs c.args.mv.now = record { unit = record { boot = omega arith; seq = omega arith }; count = omega arith; move = omega arith; changes = c.told_changes.ensures } in
     let below : last_decision x + 1 < 2 ^ 64 = omega (arith, c.requires.below) in
     let b = g.D.Disks.view c.prepare_all.new.disks in
-    let y : Store = record { alloc = x.alloc; decisions = x.decisions; parts = c.prepare_all.new.parts } in
+    let y : Store = record { alloc = x.alloc; decisions = x.decisions; parts = c.prepare_all.new.parts; messages = x.messages } in
     let shared-1 : c.deref.result.now ≡ c.deref-2.result.now = c.deref.ensures.value ∙ sym c.deref-2.ensures.value in
     let masked : c.mask_of-mask.result ≡ mask_of c.deref-2.result.now = c.mask_of-mask.ensures.mask ∙ ap mask_of shared-1 in
     let dev = device_of 0 which in
@@ -193,7 +193,7 @@ returns-clause-ok g c which co v m conts is may =
     let hand : IsInHand c.args.unit cs c.args.mv.now = record { unit = record { boot = omega arith; seq = omega arith }; count = omega arith; move = omega arith; changes = c.told_changes.ensures } in
     let below : last_decision x + 1 < 2 ^ 64 = omega (arith, c.requires.below) in
     let b = g.D.Disks.view c.prepare_all.new.disks in
-    let y : Store = record { alloc = x.alloc; decisions = x.decisions; parts = c.prepare_all.new.parts } in
+    let y : Store = record { alloc = x.alloc; decisions = x.decisions; parts = c.prepare_all.new.parts; messages = x.messages } in
     let third : c.deref-2.result.now ≡ c.deref-3.result.now = c.deref-2.ensures.value ∙ sym c.deref-3.ensures.value in
     let shared-1 : c.deref.result.now ≡ c.deref-2.result.now = c.deref.ensures.value ∙ sym c.deref-2.ensures.value in
     let masked : c.mask_of-mask.result ≡ mask_of c.deref-2.result.now = c.mask_of-mask.ensures.mask ∙ ap mask_of shared-1 in
@@ -215,7 +215,7 @@ returns-clause-images g c which co v m conts is may told asked image left =
     let hand : IsInHand c.args.unit cs c.args.mv.now = record { unit = record { boot = omega arith; seq = omega arith }; count = omega arith; move = omega arith; changes = c.told_changes.ensures } in
     let below : last_decision x + 1 < 2 ^ 64 = omega (arith, c.requires.below) in
     let b = g.D.Disks.view c.prepare_all.new.disks in
-    let y : Store = record { alloc = x.alloc; decisions = x.decisions; parts = c.prepare_all.new.parts } in
+    let y : Store = record { alloc = x.alloc; decisions = x.decisions; parts = c.prepare_all.new.parts; messages = x.messages } in
     let shared-1 : c.deref.result.now ≡ c.deref-2.result.now = c.deref.ensures.value ∙ sym c.deref-2.ensures.value in
     let masked : c.mask_of-mask.result ≡ mask_of c.deref-2.result.now = c.mask_of-mask.ensures.mask ∙ ap mask_of shared-1 in
     let dev = device_of 0 which in
