@@ -72,6 +72,13 @@ impl GateLog {
         self.dev
     }
 
+    /// Where its closed gate stands.
+    pub fn gate(&self) -> u64
+        ensures { result ≡ gate_of self.now }
+    {
+        self.end
+    }
+
     /// How many entries there are.
     pub fn count(&self) -> u64
         ensures { result ≡ count_of self.now }

@@ -1,17 +1,17 @@
 -- A partition that is opened again goes on from what it was.
 use Rattle.salt_bytes.specs.Formats.{has_nulls}
 use Rattle.salt_bytes.specs.Generations.{Counts, WhichLog}
-use Rattle.salt_bytes.specs.Log.{entries_in}
+use Rattle.salt_bytes.specs.Log.{entries_in, spelled}
 use Rattle.salt_disk.specs.Disks.{IsUnchanged, KeepsAll, View}
 use Rattle.salt_gatelog.proofs.Entries.{not_told}
 use Rattle.salt_gatelog.specs.Log.{IsLog}
 use Rattle.salt_gatelog.specs.declared.log.GateLog.{GateLog}
 use Rattle.salt_model.specs.Tables.{Tables, with_changes}
-use Rattle.salt_partition.proofs.Standing.{decided_rows, settled_kept}
+use Rattle.salt_partition.proofs.Standing.{decided_rows, entries_stand, settled_kept}
 use Rattle.salt_partition.proofs.Steps.{unchanged}
 use Rattle.salt_partition.specs.Openings.{OpensAs, are_some, fault_of, has_pages, part_fault}
 use Rattle.salt_partition.specs.Partitions.{IsLastKept, IsPartition, IsPreparedLast}
-use Rattle.salt_partition.specs.Reopening.{GoesOn, IsLater}
+use Rattle.salt_partition.specs.Reopening.{GoesOn, IsLastIn, IsLater}
 use Rattle.salt_partition.specs.declared.partition.Partition.{Partition}
 use Rattle.salt_stands.proofs.Pairs.{pair_same}
 use Rattle.salt_stands.specs.Coordinator.{device_of}
@@ -23,7 +23,7 @@ use Rattle.salt_stands.specs.Stands.{logs_of}
 use Rattle.salt_values.specs.Id.{has_id, is_same_id}
 use Rattle.salt_values.specs.declared.change.Change.{Change}
 use Rattle.salt_values.specs.declared.id.Id.{Id}
-use Rattle.std.proofs.Common.{Bool, IsTrue, List, None, Some, [], ap, arith, false, refl, subst, sym, true, ℕ, ◌+◌, ◌++◌, ◌≡◌, ◌∙◌, ◌∷◌}
+use Rattle.std.proofs.Common.{Bool, IsTrue, List, None, Some, [], ap, arith, false, length, refl, subst, sym, true, ℕ, ◌+◌, ◌++◌, ◌≡◌, ◌∙◌, ◌∷◌}
 use Rattle.std.specs.Prelude.{◌||◌, ◌↔◌}
 
 -- WHAT GOES ON
@@ -51,12 +51,15 @@ goes_next v applied u last = record { kept = λ w new. not_before w applied u ne
 pub other_log_than : (x before : Partition) (cs : List Change) (t : Tables) → (x.log.dev ≡ before.log.dev → ⊥) → IsTrue false ↔ IsLater x before cs t
 other_log_than x before cs t differ = (λ yes. absurd (cc yes), λ later. absurd (differ later.device))
 
+pub other_gate : (x before : Partition) (cs : List Change) (t : Tables) → (x.log.end ≡ before.log.end → ⊥) → IsTrue false ↔ IsLater x before cs t
+other_gate x before cs t differ = (λ yes. absurd (cc yes), λ later. absurd (differ later.gate))
+
 pub spells_otherwise : (x before : Partition) (cs : List Change) (t : Tables) → (x.nulls ≡ before.nulls → ⊥) → IsTrue false ↔ IsLater x before cs t
 spells_otherwise x before cs t differ = (λ yes. absurd (cc yes), λ later. absurd (differ later.nulls))
 
-pub by_rows : (x before : Partition) (cs : List Change) (t : Tables) (b : Bool) → x.log.dev ≡ before.log.dev → x.nulls ≡ before.nulls
+pub by_rows : (x before : Partition) (cs : List Change) (t : Tables) (b : Bool) → x.log.dev ≡ before.log.dev → x.log.end ≡ before.log.end → x.nulls ≡ before.nulls
     → (IsTrue b ↔ (x.rows.entries ≡ (with_changes cs t).list)) → IsTrue b ↔ IsLater x before cs t
-by_rows x before cs t b device nulls decides = (λ yes. record { device = device; nulls = nulls; rows = decides.0 yes }, λ later. decides.1 later.rows)
+by_rows x before cs t b device gate nulls decides = (λ yes. record { device = device; gate = gate; nulls = nulls; rows = decides.0 yes }, λ later. decides.1 later.rows)
 
 -- IT OPENS
 
@@ -102,9 +105,19 @@ module _ (d e : View) (x y : Partition) (boot : ℕ) (units : List Id) (keeps : 
     same_log : w.log ≡ v.log
     same_log = one_log w.which v.which w.log v.log same_counts
 
+    same_device : y.log.dev ≡ x.log.dev
+    same_device = opens.is.device ∙ ap (λ n. device_of (part_device n) w.which) is.part ∙ ap (device_of a) same_which ∙ sym is.device
+
+    one_list : (es fs : List (List ℕ)) → Some es ≡ Some fs → es ≡ fs
+    one_list es fs e = cc
+
+    same_entries : opens.is.entries ≡ is.entries
+    same_entries = one_list opens.is.entries is.entries (sym (entries_stand e y.log opens.is.entries opens.is.is_log still_told) ∙ ap entries_in (ap e.bytes same_device ∙ (unchanged d e keeps x.log.dev).bytes) ∙ entries_stand d x.log is.entries is.is_log told)
+
     pub is_later : units ≡ decided → IsLater y x cs (part_tables applied v.log v.rows)
     is_later same = record {
-      device = opens.is.device ∙ ap (λ n. device_of (part_device n) w.which) is.part ∙ ap (device_of a) same_which ∙ sym is.device;
+      device = same_device;
+      gate = opens.is.is_log.end ∙ ap (λ (es : List (List ℕ)). length (spelled es)) same_entries ∙ sym is.is_log.end;
       nulls = opens.is.nulls ∙ ap (λ (l : PartitionLog). has_nulls l.header.format) same_log ∙ sym is.nulls;
       rows = opens.is.rows
           ∙ ap (λ (us : List Id). (part_tables us w.log w.rows).list) same
@@ -123,8 +136,18 @@ module _ (d e : View) (x y : Partition) (boot : ℕ) (units : List Id) (keeps : 
       differ : false ≡ true → ⊥
       differ e = cc
 
+  -- the unit that was prepared last is kept in it, or is decided
+  pub last_stays : (z : Partition) → z.last ≡ x.last → IsLastKept decided v.log.prepared z.last
+  last_stays z last = subst (IsLastKept decided v.log.prepared) (sym last) (λ before u at new. is.last before u at (goes.kept u.unit new))
+
+  pub last_decided : (z : Partition) → IsLastIn decided v.log.prepared → IsLastKept decided v.log.prepared z.last
+  last_decided z named before u at new = absurd (differ (sym new ∙ named before u at))
+    where
+      differ : false ≡ true → ⊥
+      differ e = cc
+
   -- one that is later takes its place
-  pub reopened : (z : Partition) → IsLater y x cs (part_tables applied v.log v.rows) → z.part ≡ x.part → z.nulls ≡ x.nulls → z.last ≡ x.last → z.log ≡ y.log → z.rows ≡ y.rows → IsPartition e z p v decided
+  pub reopened : (z : Partition) → IsLater y x cs (part_tables applied v.log v.rows) → z.part ≡ x.part → z.nulls ≡ x.nulls → IsLastKept decided v.log.prepared z.last → z.log ≡ y.log → z.rows ≡ y.rows → IsPartition e z p v decided
   reopened z later part nulls last log rows =
       let other = device_of a (other_log v.which) in
       record {
@@ -139,7 +162,7 @@ module _ (d e : View) (x y : Partition) (boot : ℕ) (units : List Id) (keeps : 
         pages = is.pages;
         none = is.none;
         keyed = is.keyed;
-        last = subst (IsLastKept decided v.log.prepared) (sym last) (λ before u at new. is.last before u at (goes.kept u.unit new));
+        last = last;
         rows = ap (λ r. r.entries) rows ∙ later.rows ∙ ap (λ (t : Tables). t.list) (sym goes.rows);
         told = λ now.
             let told : IsTrue d.told = sym keeps.shape.told ∙ now in
