@@ -1,41 +1,54 @@
 -- A commit, by what its calls say one after another.
 use Rattle.salt_bytes.specs.Coordinator.{Decides, is_number_of_parts, spell_entry}
 use Rattle.salt_bytes.specs.Generations.{LogA, LogB, WhichLog}
-use Rattle.salt_bytes.specs.Partition.{spell_prepared}
+use Rattle.salt_bytes.specs.Partition.{Prepared, spell_prepared}
 use Rattle.salt_bytes.specs.declared.moves.Move.{Move}
-use Rattle.salt_commit.proofs.Decided.{decision_images, shares_last, store_after, store_prepared}
+use Rattle.salt_commit.proofs.Restarted.{reads_of}
+use Rattle.salt_commit.proofs.Decided.{applied_now, decision_images, shares_last, sound_decided, sound_share, store_after, store_prepared}
 use Rattle.salt_commit.proofs.Shared.{length-listed, mask_small}
 use Rattle.salt_commit.proofs.Pageless.{prepared_unnamed}
 use Rattle.salt_commit.proofs.Standing.{apart_from_part, if_some, partitions_stay}
 use Rattle.salt_commit.proofs.Undecided.{IsInHand, before_decision, decisions_kept, may_prepare}
+use Rattle.salt_commit.specs.Again.{decided_in}
 use Rattle.salt_commit.specs.Commits.{IsCommitLog, MayCommitUnit, shares_in}
 use Rattle.salt_commit.specs.Openings.{NamesPages}
-use Rattle.salt_commit.specs.Prepares.{AreSharesLast, IsLogOfShares, MayPrepareEach, StandForShares, StandWithShares, applied_with_shares, with_shares}
-use Rattle.salt_commit.specs.Shares.{mask_of, next_decision, share_at, shares_of}
+use Rattle.salt_commit.specs.Prepares.{AreSharesLast, IsLogOfShares, MayPrepareEach, applied_with_shares, with_shares}
+use Rattle.salt_commit.specs.Shares.{applied_with, has_changes, mask_of, next_decision, share_at, shares_of, with_share}
 use Rattle.salt_commit.specs.Stores.{ArePartitions, IsStore, StandForEither, decided_by, last_decision}
+use Rattle.salt_commit.specs.Telling.{IsBehind, MayTell}
+use Rattle.salt_commit.specs.Voting.{MayVote, MayVoteAs}
 use Rattle.salt_commit.specs.declared.store.Store.{Store}
 use Rattle.salt_decisions.proofs.Appended.{spelled_so}
 use Rattle.salt_decisions.specs.Decisions as decisions
 use Rattle.salt_decisions.specs.Decisions.{IsBeforeOrWith, IsDecisions, decided, device_in}
+use Rattle.salt_decisions.specs.declared.decisions.Decisions.{Decisions}
 use Rattle.salt_disk.proofs.CallAfterCall.{keeps_on, keeps_wider, kept_on}
 use Rattle.salt_disk.specs.Disks.{EachImage, IsImage, IsUnchanged, KeepsAll, KeepsBut, KeepsOthers, Shrinks, View}
 use Rattle.salt_disk.specs.declared.disks.DiskErr.{DiskErr}
-use Rattle.salt_partition.specs.Partitions.{IsPartition, prepared}
+use Rattle.salt_net.proofs.Lists.{same_self}
+use Rattle.salt_partition.proofs.Reopened.{goes_next}
+use Rattle.salt_partition.specs.Partitions.{IsPartition, MayPrepare, prepared}
+use Rattle.salt_partition.specs.Reopening.{GoesOn, IsLastIn}
+use Rattle.salt_stands.proofs.Booleans.{left}
+use Rattle.salt_stands.proofs.OpenedPart.{sound_is}
 use Rattle.salt_stands.specs.Commits.{found_after, found_of, parts_of, view_after}
-use Rattle.salt_stands.specs.Coordinator.{Coordinator, device_of}
-use Rattle.salt_stands.specs.Partition.{part_device}
-use Rattle.salt_stands.specs.Pieces.{PartView, with_decision}
+use Rattle.salt_stands.specs.Coordinator.{Coordinator, decided_for, device_of}
+use Rattle.salt_stands.specs.OpenedPart.{is_fitting_log, is_known_log}
+use Rattle.salt_stands.specs.Partition.{is_sound_log, part_device}
+use Rattle.salt_stands.specs.PartitionLog.{PartitionLog}
+use Rattle.salt_stands.specs.Pieces.{PartView, with_decision, with_prepared_unit}
 use Rattle.salt_stands.specs.Placed.{changes_at}
 use Rattle.salt_stands.specs.Reading.{Reading}
 use Rattle.salt_stands.specs.Stands.{judged}
 use Rattle.salt_place.specs.Placement.{IsParts}
+use Rattle.salt_values.specs.Id.{has_id, is_same_id}
 use Rattle.salt_values.specs.declared.change.Change.{Change}
 use Rattle.salt_values.specs.declared.cont.Cont.{Cont}
 use Rattle.salt_values.specs.declared.id.Id.{Id}
 use Rattle.salt_place.specs.declared.placement.Shape.{Shape}
-use Rattle.std.proofs.Common.{Err, IsTrue, List, None, Ok, Option, Result, Some, ap, arith, inl, inr, length, subst, sym, true, ℕ, ◌*◌, ◌+◌, ◌<◌, ◌^◌, ◌≡◌, ◌≤◌, ◌∙◌}
+use Rattle.std.proofs.Common.{Err, IsTrue, List, None, Ok, Option, Result, Some, [], ap, arith, false, inl, inr, length, length-append, refl, subst, sym, true, ℕ, ◌*◌, ◌+◌, ◌++◌, ◌<◌, ◌^◌, ◌≡◌, ◌≤◌, ◌∙◌, ◌∷◌}
 use Rattle.std.proofs.lemmas.Bool.Decides.{nat_tests}
-use Rattle.std.specs.Prelude.{nat_lt, slice_get}
+use Rattle.std.specs.Prelude.{Bool, nat_lt, slice_get, ◌||◌}
 use Rattle.std.specs.Result.{result_err}
 
 parts_known : (n : ℕ) → is_number_of_parts n ≡ true → IsParts n
@@ -50,6 +63,39 @@ parts_known n h = (low, high)
 -- a call's answer goes on
 pub answer_is : {T : Type 0} (result : Result T DiskErr) (s e : DiskErr) → result ≡ Err s → s ≡ e → result_err result ≡ Some e
 answer_is result s e is from = ap result_err is ∙ ap (λ (k : DiskErr). Some k) from
+
+-- a sound log is one that the coordinator may have
+known_log : {D : Type 0} (r : Reading D) (c : Coordinator D) (p : ℕ) (log : PartitionLog) → is_sound_log r c p log ≡ true → is_known_log c.log.told.boot (decided_for p c.log.told.decided) log ≡ true
+known_log r c p log sound = left (is_known_log c.log.told.boot (decided_for p c.log.told.decided) log) (is_fitting_log r c p log) (sym (sound_is r c p log) ∙ sound)
+
+-- a share that is decided comes into the rows, and its entry is the last
+goes_with : (u : Id) (cs : List Change) (w : PartView) (us : List Id) → has_changes cs ≡ true → MayPrepare w us u cs → GoesOn (with_share u cs w) us (applied_with u cs us) cs
+goes_with u [] w us some may = absurd cc
+goes_with u (c ∷ cs) w us some may =
+    goes_next (with_prepared_unit w (prepared u (c ∷ cs))) us u (record { before = w.log.prepared; changes = c ∷ cs; last = refl; fresh = may.fresh; new = may.new })
+
+last_one : (xs ys : List Prepared) (a b : Prepared) → xs ++ a ∷ [] ≡ ys ++ b ∷ [] → a ≡ b
+last_one [] [] a b e = cc
+last_one [] (y ∷ ys) a b e = absurd (omega (arith, ap (λ (l : List Prepared). length l) e, length-append ys (b ∷ [])))
+last_one (x ∷ xs) [] a b e = absurd (omega (arith, ap (λ (l : List Prepared). length l) e, length-append xs (a ∷ [])))
+last_one (x ∷ xs) (y ∷ ys) a b e = last_one xs ys a b (tails x y (xs ++ a ∷ []) (ys ++ b ∷ []) e)
+  where
+    tails : (x y : Prepared) (xs ys : List Prepared) → x ∷ xs ≡ y ∷ ys → xs ≡ ys
+    tails x y xs ys e = cc
+
+last_with : (u : Id) (cs : List Change) (w : PartView) (us : List Id) → has_changes cs ≡ true → IsLastIn (applied_with u cs us) (with_share u cs w).log.prepared
+last_with u [] w us some before x at = absurd cc
+last_with u (c ∷ cs) w us some before x at =
+    let same : prepared u (c ∷ cs) ≡ x = last_one w.log.prepared before (prepared u (c ∷ cs)) x at in
+    ap (λ (y : Prepared). has_id y.unit (us ++ u ∷ [])) (sym same) ∙ in_last us
+  where
+    in_last : (us : List Id) → has_id u (us ++ u ∷ []) ≡ true
+    in_last [] = ap (λ (b : Bool). b || false) (same_self u)
+    in_last (w ∷ us) = by (is_same_id u w) (in_last us)
+      where
+        by : (b : Bool) → has_id u (us ++ u ∷ []) ≡ true → (b || has_id u (us ++ u ∷ [])) ≡ true
+        by true h = refl
+        by false h = h
 
 module _ {D : Type 0} (r : Reading D) (d : View) (x : Store) (which : WhichLog) (c : Coordinator D) (v : ℕ → PartView) (is : IsStore r d x which c v)
     (u : Id) (cs : List Change) (mv : List ℕ) (m : Move) (conts : List Cont) (may : MayCommitUnit r c v u cs mv m conts)
@@ -72,45 +118,55 @@ module _ {D : Type 0} (r : Reading D) (d : View) (x : Store) (which : WhichLog) 
   each_may : MayPrepareEach v (decided_by c) u ss
   each_may = subst (MayPrepareEach v (decided_by c) u) (sym same) (may_prepare r d x which c v is u cs mv m conts may parts)
 
-  pub may_begin : StandForShares d x.parts.items u ss
-  may_begin = record { v = v; applied = decided_by c; are = is.parts; may = each_may }
+  pub may_vote_as : MayVoteAs d x.parts.items u ss which c.log v
+  may_vote_as = record { reads = reads_of d x.decisions which c.log is.decisions; are = is.parts; may = each_may }
 
   module _ (hand : IsInHand u cs mv) (below : last_decision x + 1 < 2 ^ 64) where
     room : c.log.told.decisions + 1 < 2 ^ 64
     room = omega (arith, below, is.decisions.holds.decisions)
 
+    pub may_vote : MayVote d x.parts.items u ss
+    may_vote = record {
+      which = which;
+      log = c.log;
+      v = v;
+      stand = may_vote_as;
+      known = λ told p low. known_log r c p (v p).log ((is.sound told).part p (omega (arith, low, is.size)));
+      known_with = λ told p low.
+          ap (λ l. is_known_log c.log.told.boot (decided_in c.log p) (with_share u (share_at l p) (v p)).log) same
+          ∙ known_log r c p (with_shares u (shares_of c.log.header.shape cs) v p).log (sound_share r d x which c v is u cs mv m conts may parts hand room told p (omega (arith, low, is.size)));
+    }
+
     -- each image while the shares are prepared
     pub undecided_image : IsTrue d.told → (b : View) (answer : Option DiskErr) → KeepsBut (IsLogOfShares x.parts.items ss (length x.parts.items)) d b answer
-        → ((w : ℕ → PartView) (applied : ℕ → List Id) → ArePartitions d x.parts.items w applied → (p : ℕ) → p < length x.parts.items
-        → EachImage b (device_of (part_device p) (w p).which) (IsBeforeOrWith (d.bytes (device_of (part_device p) (w p).which)) (spell_prepared (prepared u (share_at ss p)))))
+        → ((p : ℕ) → p < length x.parts.items → EachImage b (device_of (part_device p) (v p).which) (IsBeforeOrWith (d.bytes (device_of (part_device p) (v p).which)) (spell_prepared (prepared u (share_at ss p)))))
         → (asked : Shape) (image : ℕ → List ℕ) → IsImage b image → judged r image asked ≡ Ok (found_of c v)
     undecided_image told b answer others images asked image left =
         before_decision r d x which c v is u cs mv m conts may parts hand room told b answer
         (subst (λ l. KeepsBut (IsLogOfShares x.parts.items l (length x.parts.items)) d b answer) same others)
         (subst (λ l. (p : ℕ) → p < length x.parts.items → EachImage b (device_of (part_device p) (v p).which) (IsBeforeOrWith (d.bytes (device_of (part_device p) (v p).which)) (spell_prepared (prepared u (share_at l p))))) same
-        (images v (decided_by c) is.parts))
+        images)
         image left asked
 
     -- no image names pages, while the shares are prepared or behind it
     pub unnamed : IsTrue d.told → (b e : View) (answer : Option DiskErr) → KeepsBut (IsLogOfShares x.parts.items ss (length x.parts.items)) d b answer
-        → ((w : ℕ → PartView) (applied : ℕ → List Id) → ArePartitions d x.parts.items w applied → (p : ℕ) → p < length x.parts.items
-        → EachImage b (device_of (part_device p) (w p).which) (IsBeforeOrWith (d.bytes (device_of (part_device p) (w p).which)) (spell_prepared (prepared u (share_at ss p)))))
+        → ((p : ℕ) → p < length x.parts.items → EachImage b (device_of (part_device p) (v p).which) (IsBeforeOrWith (d.bytes (device_of (part_device p) (v p).which)) (spell_prepared (prepared u (share_at ss p)))))
         → e.count ≡ d.count → ((dev : ℕ) → 1 < dev → Shrinks b e dev) → (image : ℕ → List ℕ) → IsImage e image → (p dev : ℕ) → p < parts_of c → NamesPages image p dev → ⊥
     unnamed told b e answer others images count there image left =
         prepared_unnamed r d x which c v is told u cs mv m conts may parts hand b e answer
         (subst (λ l. KeepsBut (IsLogOfShares x.parts.items l (length x.parts.items)) d b answer) same others)
         (subst (λ l. (p : ℕ) → p < length x.parts.items → EachImage b (device_of (part_device p) (v p).which) (IsBeforeOrWith (d.bytes (device_of (part_device p) (v p).which)) (spell_prepared (prepared u (share_at l p))))) same
-        (images v (decided_by c) is.parts))
+        images)
         count there image left
 
     -- AFTER THE SHARES ARE PREPARED
     module _ (b : View) (y : Store) (kept : y.decisions ≡ x.decisions) (size : length y.parts.items ≡ length x.parts.items)
         (others : KeepsBut (IsLogOfShares x.parts.items ss (length x.parts.items)) d b None)
-        (ok : (w : ℕ → PartView) (applied : ℕ → List Id) → ArePartitions d x.parts.items w applied → MayPrepareEach w applied u ss → ArePartitions b y.parts.items (with_shares u ss w) applied) where
+        (ok : ArePartitions b y.parts.items (with_shares u ss v) (decided_by c)) where
       pub between : IsStore r b y which c (with_shares u (shares_of c.log.header.shape cs) v)
       between = store_prepared r d x which c v is u cs mv m conts may parts hand room b y kept size
           (subst (λ l. KeepsBut (IsLogOfShares x.parts.items l (length x.parts.items)) d b None) same others)
-          (subst (λ l. ArePartitions b y.parts.items (with_shares u l v) (decided_by c)) same (ok v (decided_by c) is.parts each_may))
+          (subst (λ l. ArePartitions b y.parts.items (with_shares u l v) (decided_by c)) same ok)
 
       next_is : decisions.next_decision x.decisions u (mask_of ss) mv ≡ next_decision c u cs mv
       next_is = ap (λ n. record { number = n + 1; unit = u; mask = mask_of ss; move = mv }) is.decisions.holds.decisions ∙ ap (λ l. record { number = c.log.told.decisions + 1; unit = u; mask = mask_of l; move = mv }) same
@@ -125,28 +181,52 @@ module _ {D : Type 0} (r : Reading D) (d : View) (x : Store) (which : WhichLog) 
 
       -- AFTER THE DECISION
       module _ (e : View) (keeps : KeepsOthers (device_in y.decisions) b e None) where
-        pub may_apply_all : StandWithShares e y.parts.items u ss
-        may_apply_all = record {
+        is_last : AreSharesLast (with_shares u (shares_of c.log.header.shape cs) v) (decided_by c) u ss
+        is_last = subst (λ l. AreSharesLast (with_shares u (shares_of c.log.header.shape cs) v) (decided_by c) u l) (sym same)
+            (shares_last r d x which c v is u cs mv m conts may parts hand room (may_prepare r d x which c v is u cs mv m conts may parts))
+
+        now_decided : (p : ℕ) → decided_in (decided c.log (next_decision c u cs mv)) p ≡ applied_with u (share_at ss p) (decided_by c p)
+        now_decided p = sym (applied_now r d x which c v is u cs mv m conts may parts hand room p) ∙ ap (λ l. applied_with u (share_at l p) (decided_by c p)) (sym same)
+
+        -- the partitions behind the decision
+        pub behind : (w : Decisions) → IsDecisions e w which (decided c.log (decisions.next_decision x.decisions u (mask_of ss) mv))
+            → IsBehind e y.parts.items u ss which (decided c.log (next_decision c u cs mv)) (with_shares u (shares_of c.log.header.shape cs) v) (decided_by c)
+        behind w log = record {
+          reads = reads_of e w which (decided c.log (next_decision c u cs mv)) (subst (λ k. IsDecisions e w which (decided c.log k)) next_is log);
+          are = partitions_stay r b y which c (with_shares u (shares_of c.log.header.shape cs) v) between e keeps;
+          last = is_last;
+          goes = λ p some.
+              subst (λ (w : PartView). GoesOn w (decided_by c p) (decided_in (decided c.log (next_decision c u cs mv)) p) (share_at ss p)) (ap (λ l. with_share u (share_at l p) (v p)) same)
+              (subst (λ (us : List Id). GoesOn (with_share u (share_at ss p) (v p)) (decided_by c p) us (share_at ss p)) (sym (now_decided p))
+              (goes_with u (share_at ss p) (v p) (decided_by c p) some (each_may.each p some)));
+          named = λ p some.
+              subst (λ (w : PartView). IsLastIn (decided_in (decided c.log (next_decision c u cs mv)) p) w.log.prepared) (ap (λ l. with_share u (share_at l p) (v p)) same)
+              (subst (λ (us : List Id). IsLastIn us (with_share u (share_at ss p) (v p)).log.prepared) (sym (now_decided p)) (last_with u (share_at ss p) (v p) (decided_by c p) some));
+          decided = now_decided;
+        }
+
+        pub may_tell : (w : Decisions) → IsDecisions e w which (decided c.log (decisions.next_decision x.decisions u (mask_of ss) mv)) → MayTell e y.parts.items u ss
+        may_tell w log = record {
+          which = which;
+          log = decided c.log (next_decision c u cs mv);
           v = with_shares u (shares_of c.log.header.shape cs) v;
           applied = decided_by c;
-          are = partitions_stay r b y which c (with_shares u (shares_of c.log.header.shape cs) v) between e keeps;
-          last = subst (λ l. AreSharesLast (with_shares u (shares_of c.log.header.shape cs) v) (decided_by c) u l) (sym same)
-              (shares_last r d x which c v is u cs mv m conts may parts hand room (may_prepare r d x which c v is u cs mv m conts may parts));
+          behind = behind w log;
+          known = λ told p low.
+              let s = sound_decided r d x which c v is u cs mv m conts may parts hand room b y between (sym keeps.shape.told ∙ told) in
+              known_log r (with_decision c (next_decision c u cs mv) conts) p (with_shares u (shares_of c.log.header.shape cs) v p).log (s.part p (omega (arith, low, size, is.size)));
         }
 
         pub committed : (f : View) (z : Store) (w : Store) → KeepsAll e f None → z.decisions ≡ w.decisions → IsDecisions e w.decisions which (decided c.log (decisions.next_decision x.decisions u (mask_of ss) mv))
             → length z.parts.items ≡ length y.parts.items
-            → ((w : ℕ → PartView) (applied : ℕ → List Id) → ArePartitions e y.parts.items w applied → AreSharesLast w applied u ss → ArePartitions f z.parts.items w (applied_with_shares u ss applied))
+            → ArePartitions f z.parts.items (with_shares u (shares_of c.log.header.shape cs) v) (applied_with_shares u ss (decided_by c))
             → IsStore r f z which (with_decision c (next_decision c u cs mv) conts) (view_after c v cs (next_decision c u cs mv))
-        unfolding may_apply_all
         committed f z w all own log sized applied =
-            let h = may_apply_all in
             store_after r d x which c v is u cs mv m conts may parts hand room b y between f z (λ told. sym keeps.shape.told ∙ (sym all.shape.told ∙ told))
             (decisions_kept e f z.decisions which (decided c.log (next_decision c u cs mv)) all.shape (all.kept 0 (λ none. none)) (all.kept 1 (λ none. none))
             (subst (λ k. IsDecisions e k which (decided c.log (next_decision c u cs mv))) (sym own) (subst (λ k. IsDecisions e w.decisions which (decided c.log k)) next_is log)))
             sized
-            (subst (λ l. ArePartitions f z.parts.items (with_shares u (shares_of c.log.header.shape cs) v) (applied_with_shares u l (decided_by c))) same
-            (applied (with_shares u (shares_of c.log.header.shape cs) v) (decided_by c) h.are h.last))
+            (subst (λ l. ArePartitions f z.parts.items (with_shares u (shares_of c.log.header.shape cs) v) (applied_with_shares u l (decided_by c))) same applied)
 
 -- A FULL DEVICE is as it was before all calls
 

@@ -9,8 +9,8 @@ use Rattle.salt_commit.proofs.Standing.{apart_from_part, each_image, if_some, ma
 use Rattle.salt_commit.proofs.Undecided.{IsInHand, decision_reads, decisions_kept, may_commit, share_reads, sound_of, spelled}
 use Rattle.salt_commit.specs.Commits.{MayCommitUnit}
 use Rattle.salt_commit.specs.Prepares.{AreSharesLast, IsLogOfShares, MayPrepareEach, applied_with_shares, with_shares}
-use Rattle.salt_commit.specs.Shares.{applied_with, has_changes, mask_of, next_decision, share_at, shares_of, with_share}
-use Rattle.salt_commit.specs.Stores.{ArePartitions, IsStore, StandForEither, decided_by}
+use Rattle.salt_commit.specs.Shares.{applied_with, has_changes, next_decision, share_at, shares_of, with_share}
+use Rattle.salt_commit.specs.Stores.{ArePartitions, IsSound, IsStore, StandForEither, decided_by}
 use Rattle.salt_commit.specs.declared.store.Store.{Store}
 use Rattle.salt_decisions.proofs.Contents.{log_bytes}
 use Rattle.salt_decisions.specs.Decisions.{IsBeforeOrWith, IsDecisions, device_in}
@@ -88,7 +88,7 @@ module _ {D : Type 0} (r : Reading D) (d : View) (x : Store) (which : WhichLog) 
       (logs_of d.bytes) (logs_of d.bytes) d.bytes d.bytes (stood r d x which c v is told) (pages_same r d x which c v is told d.bytes)
 
   -- a log with its share is sound
-  sound_share : IsTrue d.told → (p : ℕ) → p < parts_of c → is_sound_log r c p (with_shares u (shares_of c.log.header.shape cs) v p).log ≡ true
+  pub sound_share : IsTrue d.told → (p : ℕ) → p < parts_of c → is_sound_log r c p (with_shares u (shares_of c.log.header.shape cs) v p).log ≡ true
   sound_share told p low = by (share_at (shares_of c.log.header.shape cs) p) refl
     where
       own : PartStands r c (logs_of d.bytes) d.bytes p (v p)
@@ -141,6 +141,14 @@ module _ {D : Type 0} (r : Reading D) (d : View) (x : Store) (which : WhichLog) 
       by p [] h e = cc
       by p (ch ∷ chs) h e = may_apply (v p) (decided_by c p) u (ch ∷ chs) (h refl)
 
+  -- the units that are decided with the unit
+  pub applied_now : (p : ℕ) → applied_with_shares u (shares_of c.log.header.shape cs) (decided_by c) p ≡ decided_for p (c.log.told.decided ++ next_decision c u cs mv ∷ [])
+  applied_now p = by (share_at (shares_of c.log.header.shape cs) p) (mask_bit (shares_of c.log.header.shape cs) p)
+    where
+      by : (s : List Change) → has_bit (next_decision c u cs mv).mask p ≡ has_changes s → applied_with u s (decided_by c p) ≡ decided_for p (c.log.told.decided ++ next_decision c u cs mv ∷ [])
+      by [] bit = sym (decided_without p c.log.told.decided (next_decision c u cs mv) bit)
+      by (ch ∷ chs) bit = sym (decided_with p c.log.told.decided (next_decision c u cs mv) bit)
+
   -- THE DECISION
   module _ (b : View) (y : Store) (is' : IsStore r b y which c (with_shares u (shares_of c.log.header.shape cs) v)) where
     makes_decision : IsTrue b.told → (logs : Logs) → HasOneMore (logs_of b.bytes) logs (device_of 0 which) (spell_entry (Decides (next_decision c u cs mv))) → IsSameAt (device_of 0 (other_log which)) (logs_of b.bytes) logs
@@ -162,6 +170,11 @@ module _ {D : Type 0} (r : Reading D) (d : View) (x : Store) (which : WhichLog) 
             (share_there u (share_at (shares_of c.log.header.shape cs) p) (v p) (sym (mask_bit (shares_of c.log.header.shape cs) p) ∙ bit))
         each p low false bit = undecided_stands r c logs b.bytes p (with_shares u (shares_of c.log.header.shape cs) v p) (next_decision c u cs mv) conts (kept p low) bit
 
+    -- each log is sound under the decision
+    pub sound_decided : IsTrue b.told → IsSound r (with_decision c (next_decision c u cs mv) conts) (with_shares u (shares_of c.log.header.shape cs) v)
+    sound_decided told =
+        sound_with r b y which c (with_shares u (shares_of c.log.header.shape cs) v) is' (spell_entry (Decides (next_decision c u cs mv))) (with_decision c (next_decision c u cs mv) conts) refl told (makes_decision told)
+
     -- each image, whatever the call answers
     pub decision_images : (e : View) (answer : Option DiskErr) → KeepsOthers (device_in y.decisions) b e answer → IsTrue d.told → IsTrue b.told
         → EachImage e (device_of 0 which) (IsBeforeOrWith (b.bytes (device_of 0 which)) (spell_entry (Decides (next_decision c u cs mv))))
@@ -181,19 +194,12 @@ module _ {D : Type 0} (r : Reading D) (d : View) (x : Store) (which : WhichLog) 
       size = size ∙ is'.size;
       parts = record { each = λ p. make_some (slice_get z.parts.items p) (λ q. IsPartition f q p (view_after c v cs (next_decision c u cs mv) p) (decided_by now p)) (each p) };
       sound = λ told.
-          let s = sound_with r b y which c (with_shares u (shares_of c.log.header.shape cs) v) is' (spell_entry (Decides (next_decision c u cs mv))) now refl (was told) (makes_decision (was told)) in
+          let s = sound_decided (was told) in
           record { coordinator = s.coordinator; part = λ p low. subst (λ w. is_sound_log r now p w.log ≡ true) (views_after p low) (s.part p low) };
     }
       where
         now : Coordinator D
         now = with_decision c (next_decision c u cs mv) conts
-
-        applied_now : (p : ℕ) → applied_with_shares u (shares_of c.log.header.shape cs) (decided_by c) p ≡ decided_for p (c.log.told.decided ++ next_decision c u cs mv ∷ [])
-        applied_now p = by (share_at (shares_of c.log.header.shape cs) p) (mask_bit (shares_of c.log.header.shape cs) p)
-          where
-            by : (s : List Change) → has_bit (next_decision c u cs mv).mask p ≡ has_changes s → applied_with u s (decided_by c p) ≡ decided_for p (c.log.told.decided ++ next_decision c u cs mv ∷ [])
-            by [] bit = sym (decided_without p c.log.told.decided (next_decision c u cs mv) bit)
-            by (ch ∷ chs) bit = sym (decided_with p c.log.told.decided (next_decision c u cs mv) bit)
 
         each : (p : ℕ) (q : Partition) → slice_get z.parts.items p ≡ Some q → IsPartition f q p (view_after c v cs (next_decision c u cs mv) p) (decided_for p (c.log.told.decided ++ next_decision c u cs mv ∷ []))
         each p q e =

@@ -35,3 +35,7 @@ mod Reopened
 pub mod Limits
 mod Restarted
 mod Voters
+mod Voting
+mod Votes
+mod Telling
+mod Turned

@@ -1,24 +1,24 @@
 -- A partition that is opened again under what is read of the coordinator's log.
-use Rattle.salt_bytes.specs.Generations.{BothBlank, Counts, Faulty, Pair, WhichLog}
-use Rattle.salt_commit.proofs.Units.{kept_units}
-use Rattle.salt_commit.specs.Again.{ReadsAs}
-use Rattle.salt_commit.specs.Openings.{named_units}
+use Rattle.salt_bytes.specs.Generations.{BothBlank, Counts, Faulty, LogA, LogB, Pair, WhichLog}
+use Rattle.salt_commit.specs.Again.{ReadsAs, decided_in}
+use Rattle.salt_decisions.specs.Decisions.{IsDecisions}
 use Rattle.salt_decisions.specs.Kept.{IsKept}
 use Rattle.salt_decisions.specs.Opened.{Peeks}
 use Rattle.salt_decisions.specs.Said.{mask_of}
+use Rattle.salt_decisions.specs.declared.decisions.Decisions.{Decisions}
 use Rattle.salt_decisions.specs.declared.kept.Kept.{Kept}
-use Rattle.salt_disk.specs.Disks.{IsUnchanged, KeepsAll, View}
+use Rattle.salt_disk.specs.Disks.{IsSettled, IsUnchanged, KeepsAll, View}
 use Rattle.salt_gatelog.proofs.Entries.{not_told}
 use Rattle.salt_partition.proofs.Framed.{partition_kept}
 use Rattle.salt_partition.specs.Partitions.{IsPartition}
 use Rattle.salt_partition.specs.Reopening.{GoesOn, StandsToReopen}
 use Rattle.salt_partition.specs.declared.partition.Partition.{Partition}
 use Rattle.salt_place.specs.declared.placement.Shape.{Shape}
-use Rattle.salt_stands.specs.Coordinator.{coordinator_pair, decided_for, unit_of}
+use Rattle.salt_stands.specs.Coordinator.{coordinator_pair, device_of, unit_of}
 use Rattle.salt_stands.specs.CoordinatorLog.{CoordinatorLog}
 use Rattle.salt_stands.specs.OpenedPart.{is_known_log}
 use Rattle.salt_stands.specs.Partition.{part_device}
-use Rattle.salt_stands.specs.Pieces.{PartView}
+use Rattle.salt_stands.specs.Pieces.{PartView, other_log}
 use Rattle.salt_stands.specs.Stands.{logs_of}
 use Rattle.salt_values.specs.declared.change.Change.{Change}
 use Rattle.salt_values.specs.declared.id.Id.{Id}
@@ -28,6 +28,19 @@ use Rattle.std.proofs.lemmas.List.{length-map}
 -- a log keeps a mask of each decided unit
 pub masks_many : (log : CoordinatorLog) (k : Kept) → IsKept k log → length k.masks ≡ length k.decided
 masks_many log k h = omega (arith, ap length h.masks, ap length h.decided, length-map log.told.decided mask_of, length-map log.told.decided unit_of)
+
+-- where a value is the coordinator's log, that is read
+pub reads_of : (d : View) (x : Decisions) (which : WhichLog) (log : CoordinatorLog) → IsDecisions d x which log → ReadsAs d which log
+reads_of d x which log is = record { known = is.counting.known; settled_a = settled LogA; settled_b = settled LogB; counts = is.counting.counts }
+  where
+    pick : (y z : WhichLog) → IsSettled d (device_of 0 y) → IsSettled d (device_of 0 (other_log y)) → IsSettled d (device_of 0 z)
+    pick LogA LogA one two = one
+    pick LogA LogB one two = two
+    pick LogB LogA one two = two
+    pick LogB LogB one two = one
+
+    settled : (w : WhichLog) → IsSettled d (device_of 0 w)
+    settled w = pick which w (subst (IsSettled d) is.counting.device is.counting.is_log.settled) is.counting.other
 
 one_log : (w z : WhichLog) (a b : CoordinatorLog) → Counts w a ≡ Counts z b → a ≡ b
 one_log w z a b e = cc
@@ -57,27 +70,27 @@ module _ (d e : View) (keeps : KeepsAll d e None) (which : WhichLog) (log : Coor
   pub never_faulty : (z : IsTrue d.told → WhichLog) → ((told : IsTrue d.told) → coordinator_pair (logs_of d.bytes) ≡ Faulty (z told)) → e.told ≡ false
   never_faulty z faulty = not_told e.told (λ now. counts_or_faulty which (z (was_told now)) log (coordinator_pair (logs_of d.bytes)) (reads.counts (was_told now)) (faulty (was_told now)))
 
-  module _ (x : Partition) (p : ℕ) (v : PartView) (applied : List Id) (is : IsPartition d x p v applied) (k : Kept) (kept : IsTrue d.told → IsKept k log) where
-    -- the units that are decided there are those of the log
-    pub same_units : IsTrue d.told → named_units x.part k.decided k.masks ≡ decided_for p log.told.decided
-    same_units told = ap (λ n. named_units n k.decided k.masks) is.part ∙ kept_units p k log (kept told)
-
+  module _ (x : Partition) (p : ℕ) (v : PartView) (applied : List Id) (is : IsPartition d x p v applied) where
     pub still_stands : IsPartition e x p v applied
     still_stands =
         let same : (dev : ℕ) → IsUnchanged d e dev = λ dev. keeps.kept dev (λ none. none) in
         partition_kept d e x p v applied keeps.shape (same (part_device p)) (same (part_device p + 1)) is
 
-    pub stands_again : (cs : List Change) → GoesOn v applied (decided_for p log.told.decided) cs → (IsTrue d.told → is_known_log log.told.boot (decided_for p log.told.decided) v.log ≡ true)
-        → StandsToReopen e x k.boot (named_units x.part k.decided k.masks) cs
-    stands_again cs goes known = record {
-      p = p;
-      v = v;
-      applied = applied;
-      decided = decided_for p log.told.decided;
-      is = still_stands;
-      goes_on = goes;
-      same = λ now. same_units (was_told now);
-      known = λ now.
-          let told = was_told now in
-          ap (λ b. is_known_log b (named_units x.part k.decided k.masks) v.log) (kept told).boot ∙ ap (λ us. is_known_log log.told.boot us v.log) (same_units told) ∙ known told;
-    }
+    module _ (boot : ℕ) (units : List Id) (said : IsTrue d.told → (boot ≡ log.told.boot) × (units ≡ decided_in log x.part)) where
+      -- the units that are decided there are those of the log
+      pub same_units : IsTrue d.told → units ≡ decided_in log p
+      same_units told = (said told).1 ∙ ap (decided_in log) is.part
+
+      pub stands_again : (cs : List Change) → GoesOn v applied (decided_in log p) cs → (IsTrue d.told → is_known_log log.told.boot (decided_in log p) v.log ≡ true) → StandsToReopen e x boot units cs
+      stands_again cs goes known = record {
+        p = p;
+        v = v;
+        applied = applied;
+        decided = decided_in log p;
+        is = still_stands;
+        goes_on = goes;
+        same = λ now. same_units (was_told now);
+        known = λ now.
+            let told = was_told now in
+            ap (λ b. is_known_log b units v.log) (said told).0 ∙ ap (λ us. is_known_log log.told.boot us v.log) (same_units told) ∙ known told;
+      }

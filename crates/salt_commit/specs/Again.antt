@@ -13,6 +13,10 @@ use Rattle.salt_values.specs.declared.change.Change.{Change}
 use Rattle.salt_values.specs.declared.id.Id.{Id}
 use Rattle.std.specs.Prelude.{IsTrue, List, true, ℕ, ◌<◌, ◌≡◌}
 
+-- the units that are decided with a partition's bit
+abbrev pub decided_in : CoordinatorLog → ℕ → List Id
+decided_in log p = decided_for p log.told.decided
+
 -- The coordinator's log counts, and nothing is pending on the devices of its pair.
 pub record ReadsAs (d : View) (which : WhichLog) (log : CoordinatorLog) : Type 0 where
   pub known : 1 < d.count
@@ -30,5 +34,5 @@ pub record StandsUnder (d : View) (x : Partition) (cs : List Change) : Type 0 wh
   pub v : PartView
   pub applied : List Id
   pub is : IsPartition d x p v applied
-  pub goes_on : GoesOn v applied (decided_for p log.told.decided) cs
-  pub known : IsTrue d.told → is_known_log log.told.boot (decided_for p log.told.decided) v.log ≡ true
+  pub goes_on : GoesOn v applied (decided_in log p) cs
+  pub known : IsTrue d.told → is_known_log log.told.boot (decided_in log p) v.log ≡ true

@@ -7,3 +7,5 @@ pub mod Reads
 pub mod Loads
 pub mod Again
 pub mod Messages
+pub mod Voting
+pub mod Telling

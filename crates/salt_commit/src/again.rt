@@ -1,16 +1,15 @@
 //! A partition of a store is opened again, as a node does that restarts.
 
 ghost use Rattle.salt_bytes.specs.Generations.{WhichLog};
-ghost use Rattle.salt_commit.specs.Again.{ReadsAs, StandsUnder};
-ghost use Rattle.salt_commit.specs.Openings.{named_units};
+ghost use Rattle.salt_commit.specs.Again.{ReadsAs, StandsUnder, decided_in};
+ghost use Rattle.salt_decisions.specs.Kept.{IsKept};
 ghost use Rattle.salt_disk.specs.Disks.{HasCause, KeepsAll, OnlyFails};
-ghost use Rattle.salt_partition.specs.Partitions.{IsPartition, number_of};
-ghost use Rattle.salt_partition.specs.Reopening.{GoesOn, StandsToReopen};
-ghost use Rattle.salt_stands.specs.Coordinator.{decided_for};
+ghost use Rattle.salt_partition.specs.Partitions.{IsPartition, log_gate};
+ghost use Rattle.salt_partition.specs.Reopening.{GoesOn, IsLastIn};
 ghost use Rattle.salt_stands.specs.CoordinatorLog.{CoordinatorLog};
 ghost use Rattle.salt_stands.specs.Pieces.{PartView};
 ghost use Rattle.salt_values.specs.declared.id.Id.{Id};
-ghost use Rattle.std.specs.Prelude.{IsTrue, List, OnErr, OnOk, length, ℕ, ◌<◌, ◌≡◌};
+ghost use Rattle.std.specs.Prelude.{IfOk, IsTrue, List, OnErr, OnOk, length, ℕ, ◌<◌, ◌≡◌};
 ghost use Rattle.std.specs.Result.{result_err};
 
 use crate::named::units_in_part;
@@ -18,34 +17,39 @@ use salt_decisions::{Kept, peek};
 use salt_disk::{DiskErr, Disks};
 use salt_gatelog::{PairErr, rejected};
 use salt_partition::Partition;
-use salt_values::Changes;
+use salt_values::{Changes, Ids};
 use std::alloc::Global;
 
-/// Opens a partition again under what the coordinator's log keeps.
-fn reopen_under<D: Disks>(
-    alloc: Global,
-    disks: &mut D,
-    part: &mut Partition,
-    kept: &Kept,
-    changes: &Changes,
-) -> Result<(), DiskErr>
-    requires part { number_of part.old < 8 }
-    requires each { length kept.now.masks ≡ length kept.now.decided }
-    requires stands { StandsToReopen (D.view disks.old) part.old kept.now.boot (named_units (number_of part.old) kept.now.decided kept.now.masks) changes.now }
-    ensures ok { (p : ℕ) (v : PartView) (applied now : List Id) → IsPartition (D.view disks.old) part.old p v applied → GoesOn v applied now changes.now
-        → (IsTrue (D.view disks.old).told → named_units (number_of part.old) kept.now.decided kept.now.masks ≡ now) → OnOk result (IsPartition (D.view disks.new) part.new p v now) }
-    ensures err { OnErr result (part.new ≡ part.old) }
+/// What the coordinator's log keeps. Disks that give none have failed.
+fn kept_now<D: Disks>(alloc: Global, disks: &mut D) -> Result<Kept, DiskErr>
+    requires { (which : WhichLog) × (log : CoordinatorLog) × ReadsAs (D.view disks.old) which log }
+    ensures keeps { (which : WhichLog) (log : CoordinatorLog) → ReadsAs (D.view disks.old) which log → IsTrue (D.view disks.old).told → IfOk result (λ kept. IsKept kept log) }
+    ensures masks { IfOk result (λ kept. length kept.masks ≡ length kept.decided) }
     ensures kept { KeepsAll (D.view disks.old) (D.view disks.new) (result_err result) }
     ensures cause { HasCause (D.view disks.old) (D.view disks.new) (result_err result) }
     ensures answers { OnlyFails (result_err result) }
 {
-    let decided = units_in_part(
-        alloc,
-        kept.decided.as_slice(),
-        kept.masks.as_slice(),
-        part.number(),
-    )?;
-    part.reopen(disks, kept.boot, &decided, changes)
+    match peek(alloc, disks) {
+        Ok(Some(peeked)) => Ok(peeked.1),
+        Ok(None) => Err(rejected(disks)),
+        Err(PairErr::NotSalt(_)) => Err(rejected(disks)),
+        Err(PairErr::Disk(e)) => Err(e),
+    }
+}
+
+/// The number of the last boot, and the units that are decided with a partition's bit, as the coordinator's log says now.
+fn said_now<D: Disks>(alloc: Global, disks: &mut D, part: u8) -> Result<(u64, Ids), DiskErr>
+    requires part { part < 8 }
+    requires reads { (which : WhichLog) × (log : CoordinatorLog) × ReadsAs (D.view disks.old) which log }
+    ensures log { (which : WhichLog) (log : CoordinatorLog) → ReadsAs (D.view disks.old) which log → IsTrue (D.view disks.old).told
+        → IfOk result (λ said. (said.0 ≡ log.told.boot) × (said.1 ≡ decided_in log part)) }
+    ensures kept { KeepsAll (D.view disks.old) (D.view disks.new) (result_err result) }
+    ensures cause { HasCause (D.view disks.old) (D.view disks.new) (result_err result) }
+    ensures answers { OnlyFails (result_err result) }
+{
+    let kept = kept_now(alloc, disks)?;
+    let units = units_in_part(alloc, kept.decided.as_slice(), kept.masks.as_slice(), part)?;
+    Ok((kept.boot, units))
 }
 
 /// Opens a partition again while it stands: the coordinator's log is read anew, and the partition opened under it. Its rows are then
@@ -59,16 +63,32 @@ pub fn reopen_part<D: Disks>(
 ) -> Result<(), DiskErr>
     requires { StandsUnder (D.view disks.old) part.old changes.now }
     ensures ok { (which : WhichLog) (log : CoordinatorLog) (p : ℕ) (v : PartView) (applied : List Id) → ReadsAs (D.view disks.old) which log → IsPartition (D.view disks.old) part.old p v applied
-        → GoesOn v applied (decided_for p log.told.decided) changes.now → OnOk result (IsPartition (D.view disks.new) part.new p v (decided_for p log.told.decided)) }
+        → GoesOn v applied (decided_in log p) changes.now → OnOk result (IsPartition (D.view disks.new) part.new p v (decided_in log p)) }
+    ensures gate { log_gate part.new ≡ log_gate part.old }
     ensures err { OnErr result (part.new ≡ part.old) }
     ensures kept { KeepsAll (D.view disks.old) (D.view disks.new) (result_err result) }
     ensures cause { HasCause (D.view disks.old) (D.view disks.new) (result_err result) }
     ensures answers { OnlyFails (result_err result) }
 {
-    match peek(alloc, disks) {
-        Ok(Some(peeked)) => reopen_under(alloc, disks, part, &peeked.1, changes),
-        Ok(None) => Err(rejected(disks)),
-        Err(PairErr::NotSalt(_)) => Err(rejected(disks)),
-        Err(PairErr::Disk(e)) => Err(e),
-    }
+    let told = said_now(alloc, disks, part.number())?;
+    part.reopen(disks, told.0, &told.1, changes)
+}
+
+/// Opens a partition again as `reopen_part`, where the unit that was prepared last is decided, and gives what its devices give: it
+/// stands itself as it did.
+pub fn open_behind<D: Disks>(
+    alloc: Global,
+    disks: &mut D,
+    part: &Partition,
+    changes: &Changes,
+) -> Result<Partition, DiskErr>
+    requires { StandsUnder (D.view disks.old) part.now changes.now }
+    ensures ok { (which : WhichLog) (log : CoordinatorLog) (p : ℕ) (v : PartView) (applied : List Id) → ReadsAs (D.view disks.old) which log → IsPartition (D.view disks.old) part.now p v applied
+        → GoesOn v applied (decided_in log p) changes.now → IsLastIn (decided_in log p) v.log.prepared → IfOk result (λ opened. IsPartition (D.view disks.new) opened p v (decided_in log p)) }
+    ensures kept { KeepsAll (D.view disks.old) (D.view disks.new) (result_err result) }
+    ensures cause { HasCause (D.view disks.old) (D.view disks.new) (result_err result) }
+    ensures answers { OnlyFails (result_err result) }
+{
+    let told = said_now(alloc, disks, part.number())?;
+    part.opened_anew(disks, told.0, &told.1, changes)
 }

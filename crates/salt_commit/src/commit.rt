@@ -3,24 +3,29 @@
 ghost use Rattle.salt_bytes.specs.Generations.{WhichLog};
 ghost use Rattle.salt_bytes.specs.declared.moves.Move.{Move};
 ghost use Rattle.salt_commit.specs.Commits.{CommitPassesLimit, IsCommitLog, MayCommitUnit, StandsToCommit};
+ghost use Rattle.salt_commit.specs.Messages.{IsAtRest, IsNewIn, net_of};
 ghost use Rattle.salt_commit.specs.Openings.{NamesPages};
 ghost use Rattle.salt_commit.specs.Prepares.{FullWhere};
 ghost use Rattle.salt_commit.specs.Shares.{next_decision};
-ghost use Rattle.salt_commit.specs.Stores.{IsStore, StandForEither, last_decision, reading, rows_of_store};
-ghost use Rattle.salt_disk.specs.declared.disks.DiskErr.{DiskErr};
+ghost use Rattle.salt_commit.specs.Stores.{IsStore, StandForEither, last_decision, reading, rows_of_store, shape_of_store};
 ghost use Rattle.salt_disk.specs.Disks.{HasCause, IsImage, IsUnchanged, KeepsBut};
+ghost use Rattle.salt_disk.specs.declared.disks.DiskErr.{DiskErr};
 ghost use Rattle.salt_disk.specs.declared.disks.DiskErr.TheVariants.{Full, Memory};
 ghost use Rattle.salt_model.specs.Kept.{Definition};
+ghost use Rattle.salt_net.specs.Turns.{commits};
+ghost use Rattle.salt_place.specs.Placement.{GivesPlaceOf, TakesEachKey};
 ghost use Rattle.salt_stands.specs.Commits.{found_after, found_of, parts_of, view_after};
 ghost use Rattle.salt_stands.specs.Coordinator.{Coordinator};
 ghost use Rattle.salt_stands.specs.Pieces.{PartView, with_decision};
-ghost use Rattle.salt_place.specs.Placement.{GivesPlaceOf, TakesEachKey};
+ghost use Rattle.salt_stands.specs.Placed.{nodes_in};
+ghost use Rattle.salt_values.specs.Id.{is_same_id};
 ghost use Rattle.salt_values.specs.declared.cont.Cont.{Cont};
-ghost use Rattle.std.specs.Prelude.{Err, IfOk, IsTrue, List, OnOk, ℕ, ◌+◌, ◌-◌, ◌<◌, ◌^◌, ◌≡◌, ◌≢◌};
+ghost use Rattle.salt_values.specs.declared.id.Id.{Id};
+ghost use Rattle.std.specs.Prelude.{Err, IfOk, IsTrue, List, OnOk, false, option_map, ℕ, ◌+◌, ◌-◌, ◌<◌, ◌^◌, ◌≡◌, ◌≢◌};
 ghost use Rattle.std.specs.Result.{result_err};
 
+use crate::each::{end_each, prepare_each};
 use crate::error::StoreErr;
-use crate::prepare::{apply_all, prepare_all};
 use crate::shares::{mask_of, shares_of};
 use crate::store::Store;
 use salt_codec::told_changes;
@@ -30,7 +35,8 @@ use salt_values::{Change, Id, Key};
 
 impl Store {
     /// Commits a unit, and gives the number of its decision: its changes are prepared in each partition that has some, in order
-    /// of numbers, then it is decided with its move, and then applied. After Ok the unit is kept. Whatever the call answers,
+    /// of numbers, then it is decided with its move, and then applied; or where commits go over messages, by turns of the net, which
+    /// then rests. After Ok the unit is kept. Whatever the call answers,
     /// each image of the devices stands for what stood before, or for that with the unit: its changes in the rows, one decision
     /// more, and the continuations that its move leaves open. No image names pages.
     pub fn commit<D: Disks, F: Fn(PlaceKind, &Key, u32) -> u32>(
@@ -45,6 +51,8 @@ impl Store {
         requires answers { GivesPlaceOf (F.post place.now.place) }
         requires stands { StandsToCommit (D.view disks.old) self.old unit changes.now mv.now }
         requires below { last_decision self.old < 2 ^ 64 - 1 }
+        requires rests { IsAtRest self.old }
+        requires new { IsNewIn self.old unit }
 
         ensures ok { (which : WhichLog) (c : Coordinator Definition) (v : ℕ → PartView) (m : Move) (conts : List Cont) → IsStore reading (D.view disks.old) self.old which c v
             → MayCommitUnit reading c v unit changes.now mv.now m conts
@@ -57,6 +65,10 @@ impl Store {
             → MayCommitUnit reading c v unit changes.now mv.now m conts → IsTrue (D.view disks.old).told
             → (image : ℕ → List ℕ) → IsImage (D.view disks.new) image → (p dev : ℕ) → p < parts_of c → NamesPages image p dev → ⊥ }
 
+        ensures net { OnOk result (net_of self.new ≡ option_map (commits unit (nodes_in (shape_of_store self.old) changes.now)) (net_of self.old)) }
+        ensures rests { OnOk result (IsAtRest self.new) }
+        ensures others_new { OnOk result ((w : Id) → is_same_id w unit ≡ false → IsNewIn self.old w → IsNewIn self.new w) }
+
         ensures stay { (e : DiskErr) → result ≡ Err e → e ≢ Memory → rows_of_store self.new ≡ rows_of_store self.old }
         ensures others { KeepsBut (IsCommitLog self.old changes.now) (D.view disks.old) (D.view disks.new) (result_err result) }
         ensures cause { HasCause (D.view disks.old) (D.view disks.new) (result_err result) }
@@ -67,9 +79,26 @@ impl Store {
         let shape = self.decisions.shape();
         let shares = shares_of(self.alloc, place, shape, changes)?;
         let mask = mask_of(&shares);
-        prepare_all(disks, &mut self.parts, unit, &shares)?;
+        let mut doubted = Vec::new(self.alloc);
+        prepare_each(
+            self.alloc,
+            disks,
+            &mut self.parts,
+            &mut self.messages,
+            unit,
+            &shares,
+            &mut doubted,
+        )?;
         let number = self.decisions.decide(self.alloc, disks, unit, mask, mv)?;
-        apply_all(disks, &mut self.parts, unit, &shares)?;
+        end_each(
+            self.alloc,
+            disks,
+            &mut self.parts,
+            &mut self.messages,
+            unit,
+            &shares,
+            doubted.as_slice(),
+        )?;
         Ok(number)
     }
 }

@@ -4,6 +4,7 @@
 
 mod again;
 mod commit;
+mod each;
 mod error;
 mod fits;
 mod load;
@@ -18,6 +19,8 @@ mod rows;
 mod same;
 mod shares;
 mod store;
+mod tell;
+mod vote;
 
 pub use error::StoreErr;
 pub use open::open_store;

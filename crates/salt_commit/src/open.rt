@@ -1,6 +1,7 @@
 //! A store is opened, or begun.
 
 ghost use Rattle.salt_bytes.specs.Generations.{BothBlank};
+ghost use Rattle.salt_commit.specs.Messages.{messages_of};
 ghost use Rattle.salt_commit.specs.Openings.{HasRoom, IsNoRefusal, IsSchemaWhere, LeavesPages, OpeningFails, OpensStore, PartPassesLimit, StorePassesLimit};
 ghost use Rattle.salt_stands.specs.LogDevices.{IsPartLog, IsStoreLog};
 ghost use Rattle.salt_commit.specs.Prepares.{FullWhere};
@@ -11,7 +12,7 @@ ghost use Rattle.salt_stands.specs.Coordinator.{coordinator_pair};
 ghost use Rattle.salt_stands.specs.FirstOpening.{first_view};
 ghost use Rattle.salt_stands.specs.Stands.{judged, logs_of, nothing_found};
 ghost use Rattle.salt_place.specs.Placement.{GivesPlaceOf, IsParts, TakesEachKey};
-ghost use Rattle.std.specs.Prelude.{IfErr, IfOk, IsTrue, List, Ok, [], length, ℕ, ◌≡◌};
+ghost use Rattle.std.specs.Prelude.{IfErr, IfOk, IsTrue, List, None, Ok, [], length, ℕ, ◌≡◌};
 ghost use Rattle.std.specs.Result.{result_err};
 
 use crate::parts::open_all;
@@ -51,6 +52,7 @@ fn begin_store<D: Disks>(
     requires blank { IsTrue (D.view disks.old).told → coordinator_pair (logs_of (D.view disks.old).bytes) ≡ BothBlank }
     requires parts { IsParts shape.parts }
     ensures ok { IfOk result (λ made. OpensStore (D.view disks.old) (D.view disks.new) shape made.0 made.1) }
+    ensures plain { IfOk result (λ made. messages_of made.0 ≡ None) }
     ensures err { IsTrue (D.view disks.old).told → IfErr result IsNoRefusal }
     ensures images { IsTrue (D.view disks.old).told → (image : ℕ → List ℕ) → IsImage (D.view disks.new) image → judged reading image shape ≡ Ok (nothing_found shape) }
     ensures pages { IsTrue (D.view disks.old).told → (image : ℕ → List ℕ) → IsImage (D.view disks.new) image → (dev : ℕ) → LeavesPages shape image dev → ⊥ }
@@ -86,6 +88,7 @@ fn open_counting<D: Disks, F: Fn(PlaceKind, &Key, u32) -> u32>(
     requires schema { IsTrue (D.view disks.old).told → IsSchemaWhere schema.now (coordinator_pair (logs_of (D.view disks.old).bytes)) }
     requires counts { IsTrue (D.view disks.old).told → ¬ (coordinator_pair (logs_of (D.view disks.old).bytes) ≡ BothBlank) }
     ensures ok { IfOk result (λ made. OpensStore (D.view disks.old) (D.view disks.new) shape made.0 made.1) }
+    ensures plain { IfOk result (λ made. messages_of made.0 ≡ None) }
     ensures err { IsTrue (D.view disks.old).told → IfErr result (OpeningFails shape (D.view disks.old).bytes) }
     ensures kept { IsTrue (D.view disks.old).told → KeepsAll (D.view disks.old) (D.view disks.new) (open_err result) }
     ensures others { KeepsBut (IsStoreLog shape.parts) (D.view disks.old) (D.view disks.new) (open_err result) }
@@ -125,6 +128,7 @@ pub fn open_store<D: Disks, F: Fn(PlaceKind, &Key, u32) -> u32>(
     requires schema { IsTrue (D.view disks.old).told → IsSchemaWhere schema.now (coordinator_pair (logs_of (D.view disks.old).bytes)) }
 
     ensures ok { IfOk result (λ made. OpensStore (D.view disks.old) (D.view disks.new) shape made.0 made.1) }
+    ensures plain { IfOk result (λ made. messages_of made.0 ≡ None) }
     ensures err { IsTrue (D.view disks.old).told → IfErr result (OpeningFails shape (D.view disks.old).bytes) }
 
     ensures kept { IsTrue (D.view disks.old).told → ¬ (coordinator_pair (logs_of (D.view disks.old).bytes) ≡ BothBlank) → KeepsAll (D.view disks.old) (D.view disks.new) (open_err result) }

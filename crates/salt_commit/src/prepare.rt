@@ -22,7 +22,7 @@ use salt_values::{Changes, Id};
 
 /// Prepares a unit's share in one partition; an empty share leaves everything as it was. Whatever it answers, each image of
 /// the partition's log has the entries from before, with the share's or without it.
-fn prepare_share<D: Disks>(
+pub fn prepare_share<D: Disks>(
     disks: &mut D,
     part: &mut Partition,
     unit: Id,
@@ -75,7 +75,7 @@ pub fn prepare_all<D: Disks>(
 }
 
 /// Applies a unit's share in one partition, where it was prepared last; nothing where it is empty. No byte is written.
-fn apply_share<D: Disks>(
+pub fn apply_share<D: Disks>(
     disks: &mut D,
     part: &mut Partition,
     unit: Id,

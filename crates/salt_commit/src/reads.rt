@@ -1,6 +1,7 @@
 //! What stands in a store is read.
 
 ghost use Rattle.salt_bytes.specs.Generations.{WhichLog};
+ghost use Rattle.salt_commit.specs.Messages.{messages_of};
 ghost use Rattle.salt_commit.specs.Reads.{StandsInPlace, is_over, is_past};
 ghost use Rattle.salt_commit.specs.Stores.{IsStore, StandsOnDevices, reading, row_in, rows_of_store};
 ghost use Rattle.salt_disk.specs.Disks.{HasCause, KeepsAll, OnlyFails, UnlessDown};
@@ -85,6 +86,7 @@ impl Store {
         ensures stands { (which : WhichLog) (c : Coordinator Definition) (v : ℕ → PartView) → IsStore reading (D.view disks.old) self.old which c v
             → UnlessDown (result_err result) (IsStore reading (D.view disks.new) self.new which c v) }
         ensures stay { rows_of_store self.new ≡ rows_of_store self.old }
+        ensures messages { messages_of self.new ≡ messages_of self.old }
         ensures kept { KeepsAll (D.view disks.old) (D.view disks.new) (result_err result) }
         ensures cause { HasCause (D.view disks.old) (D.view disks.new) (result_err result) }
         ensures answers { OnlyFails (result_err result) }
@@ -108,6 +110,7 @@ impl Store {
         ensures stands { (which : WhichLog) (c : Coordinator Definition) (v : ℕ → PartView) → IsStore reading (D.view disks.old) self.old which c v
             → UnlessDown (result_err result) (IsStore reading (D.view disks.new) self.new which c v) }
         ensures stay { rows_of_store self.new ≡ rows_of_store self.old }
+        ensures messages { messages_of self.new ≡ messages_of self.old }
         ensures kept { KeepsAll (D.view disks.old) (D.view disks.new) (result_err result) }
         ensures cause { HasCause (D.view disks.old) (D.view disks.new) (result_err result) }
         ensures answers { OnlyFails (result_err result) }
@@ -135,6 +138,7 @@ impl Store {
         ensures stands { (which : WhichLog) (c : Coordinator Definition) (v : ℕ → PartView) → IsStore reading (D.view disks.old) self.old which c v
             → UnlessDown (result_err result) (IsStore reading (D.view disks.new) self.new which c v) }
         ensures stay { rows_of_store self.new ≡ rows_of_store self.old }
+        ensures messages { messages_of self.new ≡ messages_of self.old }
         ensures kept { KeepsAll (D.view disks.old) (D.view disks.new) (result_err result) }
         ensures cause { HasCause (D.view disks.old) (D.view disks.new) (result_err result) }
         ensures answers { OnlyFails (result_err result) }

@@ -2,7 +2,7 @@
 
 ghost use Rattle.salt_bytes.specs.Coordinator.{Boots, Defines, spell_entry};
 ghost use Rattle.salt_bytes.specs.Generations.{WhichLog};
-ghost use Rattle.salt_commit.specs.Messages.{IsAtRest, net_of, nothing_sent, with_waiting};
+ghost use Rattle.salt_commit.specs.Messages.{IsAtRest, IsNewIn, messages_of, net_of, nothing_sent, with_waiting};
 ghost use Rattle.salt_commit.specs.Stores.{IsStore, MayDefine, StandForEither, StandsOnDevices, StandsToDefine, coordinator_device, coordinator_gate, last_boot, last_decision, next_text, reading, rows_of_store};
 ghost use Rattle.salt_decisions.specs.Decisions.{next_definition};
 ghost use Rattle.salt_disk.specs.Disks.{FullExactly, HasCause, IsUnchanged, KeepsOthers};
@@ -12,6 +12,7 @@ ghost use Rattle.salt_place.specs.Placement.{GivesPlaceOf, TakesEachKey};
 ghost use Rattle.salt_stands.specs.Commits.{found_of};
 ghost use Rattle.salt_stands.specs.Coordinator.{Coordinator};
 ghost use Rattle.salt_stands.specs.Pieces.{PartView, with_boot, with_definition};
+ghost use Rattle.salt_values.specs.declared.id.Id.{Id};
 ghost use Rattle.std.specs.Prelude.{Err, IfOk, IsTrue, OnErr, OnOk, Some, length, option_map, ℕ, ◌+◌, ◌-◌, ◌<◌, ◌^◌, ◌≡◌};
 ghost use Rattle.std.specs.Result.{result_err};
 
@@ -62,10 +63,10 @@ impl Store {
 
     /// These pairs wait behind the others. Where commits go over no messages none wait.
     pub fn arm_net(&mut self, pairs: &[(u64, u8)]) -> Result<(), AllocError>
-        requires { IsAtRest self.old }
         ensures ok { OnOk result (net_of self.new ≡ option_map (with_waiting pairs.now) (net_of self.old)) }
         ensures err { OnErr result (net_of self.new ≡ net_of self.old) }
-        ensures rests { IsAtRest self.new }
+        ensures rests { IsAtRest self.old → IsAtRest self.new }
+        ensures new { (u : Id) → IsNewIn self.old u → IsNewIn self.new u }
         ensures rest { self.new ≡ record self.old { messages = self.new.messages } }
     {
         match &mut self.messages {
@@ -99,6 +100,7 @@ impl Store {
             → StandForEither reading (D.view disks.new) (found_of c v) (found_of (with_boot c) v) }
 
         ensures stay { rows_of_store self.new ≡ rows_of_store self.old }
+        ensures messages { messages_of self.new ≡ messages_of self.old }
         ensures others { KeepsOthers (coordinator_device self.old) (D.view disks.old) (D.view disks.new) (result_err result) }
         ensures cause { HasCause (D.view disks.old) (D.view disks.new) (result_err result) }
         ensures full { FullExactly (coordinator_device self.old) ((D.view disks.old).limit (coordinator_device self.old)) (coordinator_gate self.old + 10 + length (spell_entry (Boots (last_boot self.old + 1)))) (result_err result) }
@@ -129,6 +131,7 @@ impl Store {
             → StandForEither reading (D.view disks.new) (found_of c v) (found_of (with_definition c (next_text c text.now) def) v) }
 
         ensures stay { rows_of_store self.new ≡ rows_of_store self.old }
+        ensures messages { messages_of self.new ≡ messages_of self.old }
         ensures others { KeepsOthers (coordinator_device self.old) (D.view disks.old) (D.view disks.new) (result_err result) }
         ensures cause { HasCause (D.view disks.old) (D.view disks.new) (result_err result) }
         ensures full { FullExactly (coordinator_device self.old) ((D.view disks.old).limit (coordinator_device self.old)) (coordinator_gate self.old + 10 + length (spell_entry (Defines (next_definition self.old.decisions text.now)))) (result_err result) }

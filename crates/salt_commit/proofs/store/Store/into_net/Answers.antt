@@ -1,5 +1,5 @@
 use Rattle.salt_commit.proofs.store.Store.into_net.Goals as goal
-use Rattle.salt_commit.specs.Messages.{Rests}
+use Rattle.salt_turns.specs.Amid.{Rests}
 use Rattle.salt_net.specs.Paces.{Pace, turning_of}
 use Rattle.salt_net.specs.Turns.{Turning}
 use Rattle.std.proofs.Common.{Option, Some, ap, subst, sym, ◌++◌, ◌∙◌}
