@@ -7,6 +7,7 @@ mod Limited
 mod Started
 mod Remembered
 mod Loading
+mod Netted
 mod Standing
 mod Renaming
 mod Renamed

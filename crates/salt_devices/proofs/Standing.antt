@@ -1,14 +1,16 @@
 -- A database behind a call on its devices.
 use Rattle.salt_bytes.specs.Generations.{WhichLog}
 use Rattle.salt_commit.proofs.Standing.{partitions_kept}
+use Rattle.salt_commit.specs.Messages.{messages_of}
 use Rattle.salt_commit.specs.Stores.{IsStore, decided_by, reading, rows_of_store}
 use Rattle.salt_commit.specs.declared.store.Store.{Store}
 use Rattle.salt_decisions.specs.Decisions.{IsDecisions}
 use Rattle.salt_decisions.specs.declared.decisions.Decisions.{Decisions}
+use Rattle.salt_devices.proofs.Netted.{no_net}
 use Rattle.salt_devices.proofs.Remembered.{held_in, recalls}
 use Rattle.salt_devices.proofs.Started.{able_on, called, comes_again, leaves_again, opened, opens_again, settled_again, upon_again}
 use Rattle.salt_devices.proofs.Stores.{held_again, held_leaves}
-use Rattle.salt_devices.specs.Holding.{CanStart, HoldsIn, IsAble, IsHeld, IsNewTo}
+use Rattle.salt_devices.specs.Holding.{CanStart, FitsNet, HoldsIn, IsAble, IsHeld, IsNewTo, NetFits}
 use Rattle.salt_devices.specs.Leaving.{LeavesEither, LeavesAs, StandsFor}
 use Rattle.salt_devices.specs.Opened.{IsHeldAgain}
 use Rattle.salt_devices.specs.Refusing.{Finds, RefusedAs, Refuses}
@@ -107,9 +109,12 @@ module _ (shape : Shape) (started : Bool) (o : Option Store) (n : Numbers) (p : 
     pub the_store : IsHeld d shape x k
     the_store = held_in d shape o x k is h.held
 
+    pub the_net : NetFits x k.boot
+    the_net = subst (λ z. FitsNet z k.boot) is h.net
+
     -- behind a call that went well
-    pub goes_on : (e : View) (y : Store) (m : Numbers) (k' : Kept) → SameShape d e → IsHeld e shape y k' → AreNumbersOf m k' → StandsHeld shape started (Some y) m p e k'
-    goes_on e y m k' same held numbers = record { able = able_on shape d e same h.able; called = h.called; nothing = h.nothing; numbers = numbers; held = held }
+    pub goes_on : (e : View) (y : Store) (m : Numbers) (k' : Kept) → SameShape d e → IsHeld e shape y k' → AreNumbersOf m k' → NetFits y k'.boot → StandsHeld shape started (Some y) m p e k'
+    goes_on e y m k' same held numbers net = record { able = able_on shape d e same h.able; called = h.called; nothing = h.nothing; numbers = numbers; held = held; net = net }
 
     -- behind one that did not, with what was being written
     pub breaks_off : (e : View) (y : Store) (q : Pending) (k' : Kept) → SameShape d e → LeavesEither e shape k k' → rows_of_store y ≡ rows_of_store x → MayFollow q k k' → IsSoundKept k'
@@ -138,7 +143,7 @@ module _ (shape : Shape) (started : Bool) (o : Option Store) (n : Numbers) (p : 
 
   -- where nothing was done on the devices
   pub armed : (e : View) → AreUnchanged d e → (k : Kept) → StandsHeld shape started o n p d k → StandsHeld shape started o n p e k
-  armed e same k h = record { able = able_on shape d e same.shape h.able; called = h.called; nothing = h.nothing; numbers = h.numbers; held = by o h.held }
+  armed e same k h = record { able = able_on shape d e same.shape h.able; called = h.called; nothing = h.nothing; numbers = h.numbers; held = by o h.held; net = h.net }
     where
       by : (o' : Option Store) → HoldsIn d shape o' k → HoldsIn e shape o' k
       by None none = none
@@ -191,14 +196,14 @@ module _ (shape : Shape) (started : Bool) (o : Option Store) (n : Numbers) (p : 
     }
 
   -- what is held again
-  pub refound : (e : View) (y : Store) (m : Numbers) (k : Kept) → SameShape d e → IsAble shape d → IsHeldAgain e shape y m k → Reopens (StandsHeld shape false (Some y) m Nothing e) m k
-  refound e y m k same able h = record {
-    holding = record { able = able_on shape d e same able; called = refl; nothing = refl; numbers = h.numbers; held = h.held };
+  pub refound : (e : View) (y : Store) (m : Numbers) (k : Kept) → SameShape d e → IsAble shape d → messages_of y ≡ None → IsHeldAgain e shape y m k → Reopens (StandsHeld shape false (Some y) m Nothing e) m k
+  refound e y m k same able plain h = record {
+    holding = record { able = able_on shape d e same able; called = refl; nothing = refl; numbers = h.numbers; held = h.held; net = no_net y k.boot plain };
     boot = h.numbers.boot;
     decisions = h.numbers.decisions;
   }
 
-  pub refound_either : (e : View) (y : Store) (m : Numbers) (a b : Kept) → SameShape d e → IsAble shape d → IsHeldAgain e shape y m a ⊎ IsHeldAgain e shape y m b
+  pub refound_either : (e : View) (y : Store) (m : Numbers) (a b : Kept) → SameShape d e → IsAble shape d → messages_of y ≡ None → IsHeldAgain e shape y m a ⊎ IsHeldAgain e shape y m b
       → Reopens (StandsHeld shape false (Some y) m Nothing e) m a ⊎ Reopens (StandsHeld shape false (Some y) m Nothing e) m b
-  refound_either e y m a b same able (inl h) = inl (refound e y m a same able h)
-  refound_either e y m a b same able (inr h) = inr (refound e y m b same able h)
+  refound_either e y m a b same able plain (inl h) = inl (refound e y m a same able plain h)
+  refound_either e y m a b same able plain (inr h) = inr (refound e y m b same able plain h)

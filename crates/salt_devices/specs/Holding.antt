@@ -1,6 +1,7 @@
 -- What a store on its devices holds of a database.
 use Rattle.salt_bytes.specs.Formats.{has_nulls}
 use Rattle.salt_bytes.specs.Generations.{Counts, WhichLog}
+use Rattle.salt_commit.specs.Messages.{IsAtRest, IsNewIn}
 use Rattle.salt_commit.specs.Stores.{IsStore, decided_by, reading}
 use Rattle.salt_commit.specs.declared.store.Store.{Store}
 use Rattle.salt_devices.specs.Leaving.{CanOpen}
@@ -19,7 +20,7 @@ use Rattle.salt_storage.specs.Storing.{IsSoundKept}
 use Rattle.salt_place.specs.Placement.{IsParts}
 use Rattle.salt_values.specs.declared.id.Id.{Id}
 use Rattle.salt_place.specs.declared.placement.Shape.{Shape}
-use Rattle.std.specs.Prelude.{Bool, IsTrue, None, Option, Some, false, true, ℕ, ◌<◌, ◌≡◌}
+use Rattle.std.specs.Prelude.{Bool, IfSome, IsTrue, None, Option, Some, false, true, ℕ, ◌<◌, ◌≡◌}
 
 -- there are devices for each part
 pub record IsAble (shape : Shape) (d : View) : Type 0 where
@@ -53,6 +54,14 @@ pub record IsHeld (d : View) (shape : Shape) (x : Store) (k : Kept) : Type 0 whe
   pub keeps : Keeps shape c v k
   pub kept : IsSoundKept k
 
+-- the net that commits go over, where they do, rests, and knows no unit of a later boot
+pub record NetFits (x : Store) (boot : ℕ) : Type 0 where
+  pub rests : IsAtRest x
+  pub later : (u : Id) → boot < u.boot → IsNewIn x u
+
+abbrev pub FitsNet : Option Store → ℕ → Type 0
+FitsNet o boot = IfSome o (λ x. NetFits x boot)
+
 abbrev pub HoldsIn : View → Shape → Option Store → Kept → Type 0
 HoldsIn d shape None k = ⊥
 HoldsIn d shape (Some x) k = IsHeld d shape x k
@@ -71,3 +80,7 @@ pub record AreLogsOf (d : View) (c : Coordinator Definition) (v : ℕ → PartVi
 -- where the disks tell; where not, the units' names are not known
 abbrev pub IsNewTo : View → Id → Type 0
 IsNewTo d u = IsTrue d.told → (c : Coordinator Definition) (v : ℕ → PartView) → AreLogsOf d c v → IsFresh c v u
+
+-- nor was it started in the net
+abbrev pub IsNewWith : View → Option Store → Id → Type 0
+IsNewWith d o u = IsNewTo d u × IfSome o (λ x. IsNewIn x u)

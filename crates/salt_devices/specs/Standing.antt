@@ -1,6 +1,6 @@
 -- How a database stands on its devices: held, left by a call that was broken off, or started.
 use Rattle.salt_commit.specs.declared.store.Store.{Store}
-use Rattle.salt_devices.specs.Holding.{CanStart, HoldsIn, IsAble}
+use Rattle.salt_devices.specs.Holding.{CanStart, FitsNet, HoldsIn, IsAble}
 use Rattle.salt_devices.specs.Leaving.{CanOpen, LeavesAs, MayCome, StandsFor}
 use Rattle.salt_devices.specs.Remembering.{AreNumbersOf, Remembers}
 use Rattle.salt_disk.specs.Settling.{AreSettled}
@@ -20,6 +20,7 @@ module _ (shape : Shape) (started : Bool) where
     pub nothing : p ≡ Nothing
     pub numbers : AreNumbersOf n k
     pub held : HoldsIn d shape o k
+    pub net : FitsNet o k.boot
 
   -- the next opening comes upon the one or the other, and both are remembered
   pub record StandsLeft (o : Option Store) (n : Numbers) (p : Pending) (d : View) (a b : Kept) : Type 0 where

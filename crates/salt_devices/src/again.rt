@@ -1,5 +1,6 @@
 //! Devices are opened anew, behind a fall.
 
+ghost use Rattle.salt_commit.specs.Messages.{messages_of};
 ghost use Rattle.salt_commit.specs.Openings.{HasRoom};
 ghost use Rattle.salt_commit.specs.Stores.{shape_of_store};
 ghost use Rattle.salt_devices.specs.Leaving.{LeavesEither, LeavesAs};
@@ -15,7 +16,7 @@ ghost use Rattle.salt_storage.specs.declared.halt.Halt.TheVariants.{DeviceFull};
 ghost use Rattle.salt_storage.specs.declared.open.OpenErr.TheVariants.{Halted};
 ghost use Rattle.salt_place.specs.Placement.{GivesPlaceOf, IsParts, TakesEachKey};
 ghost use Rattle.salt_place.specs.declared.placement.Shape.{Shape};
-ghost use Rattle.std.specs.Prelude.{Err, IfErr, IfOk, IsTrue, OnErr, Some, false, true, ℕ, ◌+◌, ◌↔◌, ◌≡◌, ◌⊎◌};
+ghost use Rattle.std.specs.Prelude.{Err, IfErr, IfOk, IsTrue, None, OnErr, Some, false, true, ℕ, ◌+◌, ◌↔◌, ◌≡◌, ◌⊎◌};
 
 use crate::open::{fault, open_devices};
 use crate::pending::Pending;
@@ -119,6 +120,7 @@ pub fn open_again<D: Disks, F: Fn(PlaceKind, &Key, u32) -> u32>(
 
     ensures ok { IfOk result (λ made. (a b : Kept) → LeavesAs true (D.view disks.old) shape a b → Remembers shape (Some before.now) numbers pending.now a b
         → IsHeldAgain (D.view disks.new) shape made.0 made.1 a ⊎ IsHeldAgain (D.view disks.new) shape made.0 made.1 b) }
+    ensures plain { IfOk result (λ made. messages_of made.0 ≡ None) }
     ensures numbers { IfOk result (λ made. are_spent made.1.boot made.1.decisions ≡ false) }
     ensures leaves { OnErr result ((a b : Kept) → LeavesAs true (D.view disks.old) shape a b → LeavesEither (D.view disks.new) shape a b) }
     ensures known { IfErr result (λ e. (a b : Kept) → LeavesAs true (D.view disks.old) shape a b → Remembers shape (Some before.now) numbers pending.now a b → MayFail (RestsAs shape false (D.view disks.new)) a b e) }

@@ -56,7 +56,7 @@ impl Devices {
 
 impl Storage for Devices {
     ghost use Rattle.salt_devices.specs.Filling.{FillsIn};
-    ghost use Rattle.salt_devices.specs.Holding.{CanStart, IsNewTo};
+    ghost use Rattle.salt_devices.specs.Holding.{CanStart, IsNewWith};
     ghost use Rattle.salt_devices.specs.Refusing.{Finds, Refuses};
     ghost use Rattle.salt_devices.specs.Standing.{RestsAs, StandsHeld, StandsLeft, StandsStarted};
     ghost use Rattle.salt_devices.specs.declared.pending.Pending.TheVariants.{Opening};
@@ -75,7 +75,7 @@ impl Storage for Devices {
 
     ghost able = { λ d x. CanStart x.shape x.started x.pending d };
 
-    ghost is_new = { λ d x u. IsNewTo d u };
+    ghost is_new = { λ d x u. IsNewWith d x.store u };
 
     ghost refuses = { λ d x e. Refuses d x.started x.shape e };
 

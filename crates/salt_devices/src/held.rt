@@ -3,6 +3,7 @@
 ghost use Rattle.salt_bytes.specs.declared.moves.Move.{Move};
 ghost use Rattle.law_definitions.specs.Texts.{definition_in};
 ghost use Rattle.salt_devices.specs.Filling.{FillsIn};
+ghost use Rattle.salt_commit.specs.Messages.{IsAtRest, IsNewIn, messages_of};
 ghost use Rattle.salt_commit.specs.Stores.{rows_of_store};
 ghost use Rattle.salt_devices.specs.Holding.{IsHeld, IsNewTo};
 ghost use Rattle.salt_devices.specs.Leaving.{LeavesEither};
@@ -54,6 +55,7 @@ pub fn load_rows<D: Disks, F: Fn(PlaceKind, &Key, u32) -> u32>(
     ensures is_new { OnOk result ((u : Id) → IsNewTo (D.view disks.old) u → IsNewTo (D.view disks.new) u) }
     ensures leaves { OnErr result ((shape : Shape) (k : Kept) → IsHeld (D.view disks.old) shape store.old k → LeavesEither (D.view disks.new) shape k k) }
     ensures stay { rows_of_store store.new ≡ rows_of_store store.old }
+    ensures messages { messages_of store.new ≡ messages_of store.old }
     ensures full { (dev : ℕ) → result ≡ Err (DeviceFull dev) → ⊥ }
     ensures kept { KeepsAll (D.view disks.old) (D.view disks.new) (disk_err result) }
     ensures cause { HasCause (D.view disks.old) (D.view disks.new) (disk_err result) }
@@ -70,6 +72,7 @@ pub fn begin_boot<D: Disks>(store: &mut Store, disks: &mut D) -> Result<u64, Hal
     ensures is_new { IfOk result (λ boot. (u : Id) → u.boot ≡ boot → IsNewTo (D.view disks.new) u) }
     ensures leaves { (shape : Shape) (k : Kept) → IsHeld (D.view disks.old) shape store.old k → LeavesEither (D.view disks.new) shape k (booted k) }
     ensures stay { rows_of_store store.new ≡ rows_of_store store.old }
+    ensures messages { messages_of store.new ≡ messages_of store.old }
     ensures full { (dev : ℕ) → result ≡ Err (DeviceFull dev) → (shape : Shape) (k : Kept) → IsHeld (D.view disks.old) shape store.old k → FillsIn (D.view disks.new) shape OfBoot dev }
     ensures within { (shape : Shape) (k : Kept) → IsHeld (D.view disks.old) shape store.old k → StaysWithin shape shape (D.view disks.old) (D.view disks.new) }
     ensures cause { HasCause (D.view disks.old) (D.view disks.new) (disk_err result) }
@@ -95,6 +98,7 @@ pub fn decide_definition<D: Disks, F: Fn(PlaceKind, &Key, u32) -> u32>(
     ensures leaves { (shape : Shape) (k : Kept) (d : Definition) → IsHeld (D.view disks.old) shape store.old k → definition_in text.now ≡ Some d → MayDefine k d
         → LeavesEither (D.view disks.new) shape k (defined k d) }
     ensures stay { rows_of_store store.new ≡ rows_of_store store.old }
+    ensures messages { messages_of store.new ≡ messages_of store.old }
     ensures full { (dev : ℕ) → result ≡ Err (DeviceFull dev) → (shape : Shape) (k : Kept) → IsHeld (D.view disks.old) shape store.old k → FillsIn (D.view disks.new) shape (OfDefinition text.now) dev }
     ensures within { (shape : Shape) (k : Kept) → IsHeld (D.view disks.old) shape store.old k → StaysWithin shape shape (D.view disks.old) (D.view disks.new) }
     ensures cause { HasCause (D.view disks.old) (D.view disks.new) (disk_err result) }
@@ -121,12 +125,16 @@ pub fn decide_unit<D: Disks, F: Fn(PlaceKind, &Key, u32) -> u32>(
     requires answers { GivesPlaceOf (F.post place.now.place) }
     requires held { (shape : Shape) × (k : Kept) × IsHeld (D.view disks.old) shape store.old k × ((conts : List Cont) × MayDecide k unit changes.now made.now conts) }
     requires new { IsNewTo (D.view disks.old) unit }
+    requires rests { IsAtRest store.old }
+    requires new_in { IsNewIn store.old unit }
     ensures number { IfOk result (λ number. (shape : Shape) (k : Kept) → IsHeld (D.view disks.old) shape store.old k → number ≡ k.decisions + 1) }
     ensures holds { OnOk result ((shape : Shape) (k : Kept) (conts : List Cont) → IsHeld (D.view disks.old) shape store.old k → MayDecide k unit changes.now made.now conts
         → IsHeld (D.view disks.new) shape store.new (decided k changes.now conts)) }
     ensures is_new { OnOk result ((u : Id) → is_same_id u unit ≡ false → IsNewTo (D.view disks.old) u → IsNewTo (D.view disks.new) u) }
     ensures leaves { (shape : Shape) (k : Kept) (conts : List Cont) → IsHeld (D.view disks.old) shape store.old k → MayDecide k unit changes.now made.now conts
         → LeavesEither (D.view disks.new) shape k (decided k changes.now conts) }
+    ensures rests { OnOk result (IsAtRest store.new) }
+    ensures others_new { OnOk result ((u : Id) → is_same_id u unit ≡ false → IsNewIn store.old u → IsNewIn store.new u) }
     ensures stay { (e : Halt) → result ≡ Err e → e ≢ Memory → rows_of_store store.new ≡ rows_of_store store.old }
     ensures full { (dev : ℕ) → result ≡ Err (DeviceFull dev) → (shape : Shape) (k : Kept) → IsHeld (D.view disks.old) shape store.old k → FillsIn (D.view disks.new) shape (OfUnit unit changes.now made.now) dev }
     ensures within { (shape : Shape) (k : Kept) → IsHeld (D.view disks.old) shape store.old k → StaysWithin shape shape (D.view disks.old) (D.view disks.new) }

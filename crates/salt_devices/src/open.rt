@@ -1,6 +1,7 @@
 //! Devices are opened.
 
 ghost use Rattle.salt_bytes.specs.Generations.{BothBlank};
+ghost use Rattle.salt_commit.specs.Messages.{messages_of};
 ghost use Rattle.salt_commit.specs.Openings.{HasRoom, StorePassesLimit};
 ghost use Rattle.salt_commit.specs.Stores.{shape_of_store};
 ghost use Rattle.salt_stands.specs.LogDevices.{IsStoreLog};
@@ -167,6 +168,7 @@ pub fn open_devices<D: Disks, F: Fn(PlaceKind, &Key, u32) -> u32>(
     requires room { HasRoom (D.view disks.old) shape.parts }
 
     ensures ok { IfOk result (λ made. OpensAs (D.view disks.old) (D.view disks.new) shape made.0 made.1) }
+    ensures plain { IfOk result (λ made. messages_of made.0 ≡ None) }
     ensures numbers { IfOk result (λ made. are_spent made.1.boot made.1.decisions ≡ false) }
     ensures err { IsTrue (D.view disks.old).told → IfErr result (RefusedAs shape (D.view disks.old).bytes) }
 
@@ -224,6 +226,7 @@ pub fn open_first<D: Disks, F: Fn(PlaceKind, &Key, u32) -> u32>(
     requires opens { CanOpen pending.now true (D.view disks.old) shape }
 
     ensures ok { IfOk result (λ made. OpensAs (D.view disks.old) (D.view disks.new) shape made.0 made.1) }
+    ensures plain { IfOk result (λ made. messages_of made.0 ≡ None) }
     ensures numbers { IfOk result (λ made. are_spent made.1.boot made.1.decisions ≡ false) }
     ensures err { IsTrue (D.view disks.old).told → IfErr result (RefusedAs shape (D.view disks.old).bytes) }
     ensures still { OnErr result (IsTrue (D.view disks.old).told → (image : ℕ → List ℕ) → IsImage (D.view disks.new) image

@@ -6,7 +6,7 @@ pub returns-clause-holds : goal.returns-clause-holds
 returns-clause-holds g c k h = armed _ _ _ _ _ (g.D.Disks.view c.args.disks.now) (g.D.Disks.view c.arm.new.self) c.arm.ensures.kept k h
 
 pub returns-clause-is_new : goal.returns-clause-is_new
-returns-clause-is_new g c u new = stays_new (g.D.Disks.view c.args.disks.now) (g.D.Disks.view c.arm.new.self) c.arm.ensures.kept u new
+returns-clause-is_new g c u new = (stays_new (g.D.Disks.view c.args.disks.now) (g.D.Disks.view c.arm.new.self) c.arm.ensures.kept u new.0, new.1)
 
 pub returns-clause-within : goal.returns-clause-within
 returns-clause-within g c = unchanged_within (g.D.Disks.view c.args.disks.now) (g.D.Disks.view c.arm.new.self) c.args.self.now.shape c.arm.ensures.kept

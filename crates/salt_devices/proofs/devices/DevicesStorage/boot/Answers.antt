@@ -1,9 +1,10 @@
 use Rattle.salt_devices.proofs.Kept.{booted_sound}
-use Rattle.salt_devices.proofs.Standing.{breaks_off, goes_on, the_store}
+use Rattle.salt_devices.proofs.Netted.{net_same, new_same}
+use Rattle.salt_devices.proofs.Standing.{breaks_off, goes_on, the_net, the_store}
 use Rattle.salt_devices.proofs.devices.DevicesStorage.boot.Goals as goal
 use Rattle.salt_devices.specs.declared.pending.Pending.TheVariants.{Boot}
 use Rattle.salt_storage.specs.Storing.{booted}
-use Rattle.std.proofs.Common.{refl}
+use Rattle.std.proofs.Common.{arith, refl, ◌+◌}
 
 pub begin_boot-requires : goal.begin_boot-requires
 begin_boot-requires g c =
@@ -15,6 +16,14 @@ returns-in-Ok-clause-holds g c k h =
     let held = the_store _ _ _ _ _ _ c.in-Some.store c.in-Some.is k h in
     goes_on _ _ _ _ _ _ c.in-Some.store c.in-Some.is k h (g.D.Disks.view c.begin_boot.new.disks) c.begin_boot.new.store _ (booted k) (c.in-Ok.ensures.within c.args.self.now.shape k held).shape
     (c.in-Ok.ensures.holds c.args.self.now.shape k held) (record { boot = c.in-Ok.ensures.number c.args.self.now.shape k held; decisions = h.numbers.decisions })
+    (net_same c.in-Some.store c.begin_boot.new.store k.boot (k.boot + 1) c.in-Ok.ensures.messages (omega arith) (the_net _ _ _ _ _ _ c.in-Some.store c.in-Some.is k h))
+
+pub returns-in-Ok-clause-is_new : goal.returns-in-Ok-clause-is_new
+returns-in-Ok-clause-is_new g c u at =
+    let r = c.requires in
+    let held = the_store _ _ _ _ _ _ c.in-Some.store c.in-Some.is r.0 r.1 in
+    let net = the_net _ _ _ _ _ _ c.in-Some.store c.in-Some.is r.0 r.1 in
+    (c.in-Ok.ensures.is_new u at, new_same c.in-Some.store c.begin_boot.new.store u c.in-Ok.ensures.messages (net.later u (omega (arith, at, c.in-Ok.ensures.number c.args.self.now.shape r.0 held))))
 
 pub returns-in-Err-clause-leaves : goal.returns-in-Err-clause-leaves
 returns-in-Err-clause-leaves g c k h =

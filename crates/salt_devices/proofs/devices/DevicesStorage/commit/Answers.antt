@@ -1,4 +1,5 @@
-use Rattle.salt_devices.proofs.Standing.{goes_on, the_store, unit_breaks_off}
+use Rattle.salt_devices.proofs.Netted.{net_decided, new_there}
+use Rattle.salt_devices.proofs.Standing.{goes_on, the_net, the_store, unit_breaks_off}
 use Rattle.salt_devices.proofs.devices.DevicesStorage.commit.Goals as goal
 use Rattle.salt_storage.specs.Storing.{decided}
 use Rattle.std.proofs.Common.{refl}
@@ -31,3 +32,17 @@ returns-in-Ok-clause-holds g c k conts h may =
     let held = the_store _ _ _ _ _ _ c.in-Some.store c.in-Some.is k h in
     goes_on _ _ _ _ _ _ c.in-Some.store c.in-Some.is k h (g.D.Disks.view c.decide_unit.new.disks) c.decide_unit.new.store _ (decided k c.args.changes.now conts) (c.in-Ok.ensures.within x.shape k held).shape
     (c.in-Ok.ensures.holds x.shape k conts held may) (record { boot = h.numbers.boot; decisions = c.in-Ok.ensures.number x.shape k held })
+    (net_decided c.in-Some.store c.decide_unit.new.store k.boot c.args.unit may.boot (the_net _ _ _ _ _ _ c.in-Some.store c.in-Some.is k h) c.in-Ok.ensures.rests c.in-Ok.ensures.others_new)
+
+pub decide_unit-requires-clause-rests : goal.decide_unit-requires-clause-rests
+decide_unit-requires-clause-rests g c = let r = c.requires.may in (the_net _ _ _ _ _ _ c.in-Some.store c.in-Some.is r.0 r.1).rests
+
+pub decide_unit-requires-clause-new : goal.decide_unit-requires-clause-new
+decide_unit-requires-clause-new g c = c.requires.new.0
+
+pub decide_unit-requires-clause-new_in : goal.decide_unit-requires-clause-new_in
+decide_unit-requires-clause-new_in g c = new_there c.args.self.now.store c.in-Some.store c.args.unit c.in-Some.is c.requires.new.1
+
+pub returns-in-Ok-clause-is_new : goal.returns-in-Ok-clause-is_new
+returns-in-Ok-clause-is_new g c u other new =
+    (c.in-Ok.ensures.is_new u other new.0, c.in-Ok.ensures.others_new u other (new_there c.args.self.now.store c.in-Some.store u c.in-Some.is new.1))

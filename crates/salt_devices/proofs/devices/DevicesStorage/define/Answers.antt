@@ -1,13 +1,25 @@
-use Rattle.salt_devices.proofs.Standing.{breaks_off, the_store}
+use Rattle.salt_devices.proofs.Netted.{net_same, new_same, new_there}
+use Rattle.salt_devices.proofs.Standing.{breaks_off, goes_on, the_net, the_store}
 use Rattle.salt_devices.proofs.devices.DevicesStorage.define.Goals as goal
 use Rattle.salt_devices.specs.declared.pending.Pending.TheVariants.{Definition}
 use Rattle.salt_storage.specs.Storing.{defined}
-use Rattle.std.proofs.Common.{refl}
+use Rattle.std.proofs.Common.{arith, refl}
 
 pub decide_definition-requires-clause-held : goal.decide_definition-requires-clause-held
 decide_definition-requires-clause-held g c =
     let r = c.requires.may in
     (c.args.self.now.shape, r.0, the_store _ _ _ _ _ _ c.in-Some.store c.in-Some.is r.0 r.1, r.2)
+
+pub returns-in-Ok-clause-holds : goal.returns-in-Ok-clause-holds
+returns-in-Ok-clause-holds g c k def h reads may =
+    let held = the_store _ _ _ _ _ _ c.in-Some.store c.in-Some.is k h in
+    goes_on _ _ _ _ _ _ c.in-Some.store c.in-Some.is k h (g.D.Disks.view c.decide_definition.new.disks) c.decide_definition.new.store _ (defined k def) (c.in-Ok.ensures.within c.args.self.now.shape k held).shape
+    (c.in-Ok.ensures.holds c.args.self.now.shape k def held reads may) (record { boot = h.numbers.boot; decisions = c.in-Ok.ensures.number c.args.self.now.shape k held })
+    (net_same c.in-Some.store c.decide_definition.new.store k.boot k.boot c.in-Ok.ensures.messages (omega arith) (the_net _ _ _ _ _ _ c.in-Some.store c.in-Some.is k h))
+
+pub returns-in-Ok-clause-is_new : goal.returns-in-Ok-clause-is_new
+returns-in-Ok-clause-is_new g c u new =
+    (c.in-Ok.ensures.is_new u new.0, new_same c.in-Some.store c.decide_definition.new.store u c.in-Ok.ensures.messages (new_there c.args.self.now.store c.in-Some.store u c.in-Some.is new.1))
 
 pub returns-in-Err-clause-leaves : goal.returns-in-Err-clause-leaves
 returns-in-Err-clause-leaves g c k def h reads may =

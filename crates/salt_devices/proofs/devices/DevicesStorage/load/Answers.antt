@@ -1,8 +1,9 @@
-use Rattle.salt_devices.proofs.Standing.{breaks_off, goes_on, the_store}
+use Rattle.salt_devices.proofs.Netted.{net_same, new_same, new_there}
+use Rattle.salt_devices.proofs.Standing.{breaks_off, goes_on, the_net, the_store}
 use Rattle.salt_devices.proofs.Within.{kept_within}
 use Rattle.salt_devices.proofs.devices.DevicesStorage.load.Goals as goal
 use Rattle.salt_devices.specs.Remembering.{MayFollow}
-use Rattle.std.proofs.Common.{None, refl, subst, sym}
+use Rattle.std.proofs.Common.{None, arith, refl, subst, sym}
 
 pub load_rows-requires-clause-held : goal.load_rows-requires-clause-held
 load_rows-requires-clause-held g c =
@@ -14,6 +15,11 @@ returns-in-Ok-clause-holds g c k h =
     let held = the_store _ _ _ _ _ _ c.in-Some.store c.in-Some.is k h in
     goes_on _ _ _ _ _ _ c.in-Some.store c.in-Some.is k h (g.D.Disks.view c.load_rows.new.disks) c.load_rows.new.store _ k c.in-Ok.ensures.kept.shape
     (c.in-Ok.ensures.holds c.args.self.now.shape k held) h.numbers
+    (net_same c.in-Some.store c.load_rows.new.store k.boot k.boot c.in-Ok.ensures.messages (omega arith) (the_net _ _ _ _ _ _ c.in-Some.store c.in-Some.is k h))
+
+pub returns-in-Ok-clause-is_new : goal.returns-in-Ok-clause-is_new
+returns-in-Ok-clause-is_new g c u new =
+    (c.in-Ok.ensures.is_new u new.0, new_same c.in-Some.store c.load_rows.new.store u c.in-Ok.ensures.messages (new_there c.args.self.now.store c.in-Some.store u c.in-Some.is new.1))
 
 pub returns-in-Err-clause-leaves : goal.returns-in-Err-clause-leaves
 returns-in-Err-clause-leaves g c k h =

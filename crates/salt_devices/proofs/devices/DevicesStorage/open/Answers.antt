@@ -20,7 +20,7 @@ returns-in-Ok-clause-holds g c =
     let o = c.in-Ok.ensures.ok in
     let x = c.args.self.now in (
       o.kept,
-      opened_held d e x.shape c.in-Ok.store c.in-Ok.found o c.requires.settled.able c.in-Ok.ensures.within.shape,
+      opened_held d e x.shape c.in-Ok.store c.in-Ok.found o c.requires.settled.able c.in-Ok.ensures.within.shape c.in-Ok.ensures.plain,
       o.is_found,
       opened_finds d e x.shape c.in-Ok.store c.in-Ok.found o x.started c.requires.settled.started_now,
     )

@@ -17,7 +17,7 @@ pub returns-in-Ok-clause-holds : goal.returns-in-Ok-clause-holds
 returns-in-Ok-clause-holds g c a b h =
     let x = c.in-Some.before in
     let is = c.requires.settled.started_now in
-    refound_either _ _ _ c.args.self.now.numbers c.args.self.now.pending _ is x c.in-Some.is (g.D.Disks.view c.open_again.new.disks) c.in-Ok.store c.in-Ok.found a b c.in-Ok.ensures.within.shape c.requires.settled.able
+    refound_either _ _ _ c.args.self.now.numbers c.args.self.now.pending _ is x c.in-Some.is (g.D.Disks.view c.open_again.new.disks) c.in-Ok.store c.in-Ok.found a b c.in-Ok.ensures.within.shape c.requires.settled.able c.in-Ok.ensures.plain
     (c.in-Ok.ensures.ok a b (the_left _ _ _ _ _ _ is x c.in-Some.is a b h) (the_memory _ _ _ _ _ _ is x c.in-Some.is a b h))
 
 pub returns-in-Err-clause-leaves : goal.returns-in-Err-clause-leaves
