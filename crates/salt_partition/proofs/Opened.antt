@@ -1,17 +1,20 @@
 -- What an opening finds.
-use Rattle.salt_bytes.specs.Generations.{Counts, content_of, pair_of}
+use Rattle.salt_bytes.specs.Generations.{BothBlank, Counts, Faulty, Pair, content_of, pair_of}
 use Rattle.salt_bytes.specs.Log.{entries_in}
 use Rattle.salt_disk.specs.Disks.{IsSettled, IsUnchanged, KeepsAll, SameShape, View}
 use Rattle.salt_disk.specs.declared.disks.DiskErr.{DiskErr}
 use Rattle.salt_gatelog.proofs.Frame.{log_kept}
 use Rattle.salt_gatelog.specs.Log.{IsLog}
 use Rattle.salt_gatelog.specs.declared.log.GateLog.{GateLog}
+use Rattle.salt_gatelog.specs.declared.pair.PairErr.TheVariants.{Disk, NotSalt}
+use Rattle.salt_gatelog.specs.declared.pair.PairErr.{PairErr}
+use Rattle.salt_partition.proofs.Keyed.{units_keyed}
 use Rattle.salt_partition.proofs.Seen.{was_read}
 use Rattle.salt_partition.specs.Choices.{pair_seen, side_of, which_of}
 use Rattle.salt_partition.specs.Contents.{HasContent, IsContent, IsKept, IsKeptIn, KeepsEntries, content_seen, log_of, units_of}
 use Rattle.salt_partition.proofs.Standing.{settled_kept}
 use Rattle.salt_partition.proofs.Steps.{unchanged}
-use Rattle.salt_partition.specs.Openings.{HasChosen, OpensAs, are_some, fault_of, has_pages}
+use Rattle.salt_partition.specs.Openings.{HasChosen, IsPairWhy, IsWhy, OpensAs, are_some, fault_of, has_pages, pair_fault}
 use Rattle.salt_partition.specs.Partitions.{IsLastKept}
 use Rattle.salt_partition.specs.declared.contents.LogContent.TheVariants as found
 use Rattle.salt_partition.specs.declared.contents.LogContent.{LogContent}
@@ -27,14 +30,14 @@ use Rattle.salt_stands.specs.OpenedPart.{is_known_log}
 use Rattle.salt_stands.specs.Partition.{decided_changes, pages_device, part_device, part_pair}
 use Rattle.salt_stands.specs.Pieces.{other_log}
 use Rattle.salt_values.specs.declared.id.Id.{Id}
-use Rattle.salt_stands.specs.PartitionLog.{partition_generation, partition_in}
+use Rattle.salt_stands.specs.PartitionLog.{PartitionLog, partition_generation, partition_in}
 use Rattle.salt_stands.specs.Stands.{logs_of}
 use Rattle.std.proofs.Common.{Err, IsTrue, List, None, Ok, Result, Some, [], ap, arith, false, length, refl, subst, sym, true, ℕ, ◌+◌, ◌<◌, ◌≡◌, ◌∙◌, ◌∷◌}
 use Rattle.std.specs.Prelude.{IfOk}
 
 kept_in : (d : View) (part dev : ℕ) (entries : List (List ℕ)) (c : LogContent) → 0 < length entries → (IsTrue d.told → content_seen c ≡ content_of (partition_in part) (Some entries)) → KeepsEntries d dev entries c → IsKeptIn d part dev c
 kept_in d part dev entries found.Blank some seen log = tt
-kept_in d part dev entries (found.Read r) some seen log = record { entries = entries; is_log = log.0; device = log.1; some = some; keyed = log.2; reads = λ told. was_read part entries (log_of r) some (seen told) }
+kept_in d part dev entries (found.Read r) some seen log = record { entries = entries; is_log = log.0; device = log.1; some = some; put = log.2; sides = log.3; reads = λ told. was_read part entries (log_of r) some (seen told) }
 kept_in d part dev entries found.Outside some seen log = tt
 
 pub content_found : (d0 d1 d : View) (part dev : ℕ) (log : GateLog) (entries : List (List ℕ)) (r : Result LogContent DiskErr) → SameShape d0 d → IsLog d1 log entries → 0 < length entries → log.dev ≡ dev
@@ -55,7 +58,8 @@ still_kept d e part dev r shape same is = record {
   is_log = log_kept d e r.log is.entries shape (same r.log.dev) is.is_log;
   device = is.device;
   some = is.some;
-  keyed = is.keyed;
+  put = is.put;
+  sides = is.sides;
   reads = λ told. is.reads (sym shape.told ∙ told);
 }
 
@@ -79,6 +83,16 @@ has_chosen d0 d1 d2 part a b side r shape same shape' same' ca cb pair is = reco
   counts = λ told. pair_is d0 d1 d2 part a b shape same ca cb told ∙ pair;
   kept = chosen_kept d1 d2 part (part_device part) side a b r shape' same' is ca.log cb.log;
 }
+
+-- a pair's fault is the partition's
+pair_then_part : (boot : ℕ) (decided : List Id) (p : ℕ) (pair : Pair PartitionLog) (dev : ℕ) → pair_fault p pair ≡ Some dev → fault_of boot decided p pair ≡ Some dev
+pair_then_part boot decided p BothBlank dev is = is
+pair_then_part boot decided p (Faulty which) dev is = is
+pair_then_part boot decided p (Counts which log) dev is = cc
+
+pub why_of : (bytes : ℕ → List ℕ) (boot : ℕ) (decided : List Id) (p : ℕ) (e : PairErr) → IsPairWhy bytes p e → IsWhy bytes boot decided p e
+why_of bytes boot decided p (NotSalt dev) is = pair_then_part boot decided p (part_pair p (logs_of bytes)) dev is
+why_of bytes boot decided p (Disk e) is = is
 
 -- A PARTITION OPENS
 
@@ -112,7 +126,7 @@ opens_as d0 d1 x boot decided part side r keeps known first second h is_known pa
         nulls = nulls;
         pages = none_some r.header.sides pages;
         none = refl;
-        keyed = h.kept.keyed;
+        keyed = units_keyed (units_of r.units.items) h.kept.put;
         last = last;
         rows = rows;
         told = λ now. record {

@@ -8,7 +8,7 @@ use Rattle.salt_gatelog.specs.Entry.{HasMoved}
 use Rattle.salt_gatelog.specs.Log.{IsLog}
 use Rattle.salt_gatelog.specs.declared.log.GateLog.{GateLog}
 use Rattle.salt_bytes.specs.Spellable.{Every}
-use Rattle.salt_partition.specs.Contents.{AreKeyed}
+use Rattle.salt_partition.specs.Contents.{ArePut}
 use Rattle.salt_stands.specs.PartitionLog.{gathered}
 use Rattle.std.proofs.Common.{Bool, IsTrue, List, [], drop, Err, None, Ok, Option, Result, Some, ℕ, ◌≡◌}
 use Rattle.std.specs.Prelude.{OnOk}
@@ -35,5 +35,5 @@ pub record ReadSoFar (d0 d : View) (log now : GateLog) (nulls : Bool) (units : L
   pub same : HasMoved log now
   pub keeps : KeepsAll d0 d None
   pub cause : HasCause d0 d None
-  pub keyed : Every AreKeyed units
+  pub put : Every ArePut units
   pub so_far : (entries : List (List ℕ)) → IsLog d0 log entries → IsTrue d0.told → gathered nulls (Some units) (drop i entries) ≡ gathered nulls (Some []) (drop 1 entries)

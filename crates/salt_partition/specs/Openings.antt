@@ -29,6 +29,12 @@ are_some (side ∷ sides) = true
 abbrev pub has_pages : PartitionLog → Bool
 has_pages log = are_some log.header.sides
 
+-- the device that a fault of a pair counts against, if it has one
+abbrev pub pair_fault : (p : ℕ) → Pair PartitionLog → Option ℕ
+pair_fault p BothBlank = Some (device_of (part_device p) LogB)
+pair_fault p (Faulty which) = Some (device_of (part_device p) which)
+pair_fault p (Counts which log) = None
+
 -- the device that a partition's fault counts against, if it has one: of its pair, of a log that the coordinator's boot and
 -- decisions can't have, or of pages, which are not read yet
 abbrev pub fault_of : (boot : ℕ) → List Id → (p : ℕ) → Pair PartitionLog → Option ℕ
@@ -40,6 +46,11 @@ fault_of boot decided p (Counts which log) =
 -- by the bytes of its devices
 abbrev pub part_fault : (boot : ℕ) → List Id → (p : ℕ) → (ℕ → List ℕ) → Option ℕ
 part_fault boot decided p bytes = fault_of boot decided p (part_pair p (logs_of bytes))
+
+-- NotSalt exactly of the device that the pair's fault counts against
+abbrev pub IsPairWhy : (bytes : ℕ → List ℕ) → (p : ℕ) → PairErr → Type 0
+IsPairWhy bytes p (NotSalt dev) = pair_fault p (part_pair p (logs_of bytes)) ≡ Some dev
+IsPairWhy bytes p (Disk e) = OnlyFails (Some e)
 
 -- the log of a partition's pair that counts, as it was read
 pub record HasChosen (old new : View) (p : ℕ) (side : Side) (r : ReadLog) : Type 0 where

@@ -17,6 +17,14 @@ mod rows;
 mod sets;
 mod units;
 
+pub use contents::{LogContent, ReadLog, content_of};
+pub use copies::changes_copied;
 pub use create::create_partition;
-pub use open::open_partition;
+pub use devices::{log_a, log_of, pages_of};
+pub use frame::prepared_frame;
+pub use generations::{Side, counting_log};
+pub use known::is_known_log;
+pub use open::{chosen_log, open_partition};
 pub use partition::Partition;
+pub use sets::{is_in, set_of};
+pub use units::unit_told;

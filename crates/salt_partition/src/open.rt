@@ -2,11 +2,10 @@
 
 ghost use Rattle.salt_disk.specs.Disks.{HasCause, IsSettled, KeepsAll, OnlyFails};
 ghost use Rattle.salt_gatelog.specs.Pair.{pair_err};
-ghost use Rattle.salt_partition.specs.Openings.{HasChosen, IsWhy, OpensAs, has_pages};
+ghost use Rattle.salt_partition.specs.Openings.{HasChosen, IsPairWhy, IsWhy, OpensAs, has_pages};
 ghost use Rattle.salt_partition.specs.Contents.{log_of};
 ghost use Rattle.salt_stands.specs.Partition.{pages_device, part_device};
-ghost use Rattle.salt_values.specs.declared.id.Id.{Id};
-ghost use Rattle.std.specs.Prelude.{IfErr, IfOk, IsTrue, List, ℕ, ◌+◌, ◌<◌, ◌≡◌};
+ghost use Rattle.std.specs.Prelude.{IfErr, IfOk, IsTrue, ◌+◌, ◌<◌, ◌≡◌};
 
 use crate::contents::{ReadLog, content_of};
 use crate::devices::{log_a, log_of, pages_of};
@@ -20,13 +19,17 @@ use salt_gatelog::PairErr;
 use salt_values::{Id, Ids};
 use std::alloc::Global;
 
-/// The log of the partition's pair that counts.
-fn chosen_log<D: Disks>(alloc: Global, disks: &mut D, part: u8) -> Result<(Side, ReadLog), PairErr>
+/// The log of the partition's pair that counts. `NotSalt` exactly of the device that a fault of the pair counts against.
+pub fn chosen_log<D: Disks>(
+    alloc: Global,
+    disks: &mut D,
+    part: u8,
+) -> Result<(Side, ReadLog), PairErr>
     requires known { pages_device part < (D.view disks.old).count }
     requires settled_a { IsSettled (D.view disks.old) (part_device part) }
     requires settled_b { IsSettled (D.view disks.old) (part_device part + 1) }
     ensures chosen { IfOk result (λ chosen. HasChosen (D.view disks.old) (D.view disks.new) part chosen.0 chosen.1) }
-    ensures why { IsTrue (D.view disks.old).told → IfErr result (λ e. (boot : ℕ) (decided : List Id) → IsWhy (D.view disks.old).bytes boot decided part e) }
+    ensures why { IsTrue (D.view disks.old).told → IfErr result (IsPairWhy (D.view disks.old).bytes part) }
     ensures kept { KeepsAll (D.view disks.old) (D.view disks.new) (pair_err result) }
     ensures cause { HasCause (D.view disks.old) (D.view disks.new) (pair_err result) }
     ensures answers { OnlyFails (pair_err result) }

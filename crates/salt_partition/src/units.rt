@@ -6,7 +6,7 @@ ghost use Rattle.salt_disk.specs.Disks.{HasCause, KeepsAll, OnlyFails, UnlessDow
 ghost use Rattle.salt_codec.specs.Entries.{header_of, prepared_of};
 ghost use Rattle.salt_gatelog.specs.Entry.{HasMoved};
 ghost use Rattle.salt_gatelog.specs.Log.{IsLog, count_of};
-ghost use Rattle.salt_partition.specs.Contents.{AreKeyed, SpellsUnit, units_of};
+ghost use Rattle.salt_partition.specs.Contents.{ArePut, NamesSides, SpellsUnit, units_of};
 ghost use Rattle.salt_stands.specs.PartitionLog.{gathered};
 ghost use Rattle.std.specs.Prelude.{IfOk, IfSome, IsTrue, List, Some, [], drop, option_map, slice_get, ℕ, ◌<◌, ◌≡◌, option_and_then};
 ghost use Rattle.std.specs.Result.{result_err};
@@ -26,6 +26,7 @@ pub fn header_at<D: Disks>(
     requires some { 0 < count_of log.old }
     ensures header { IfOk result (λ found. (entries : List (List ℕ)) → IsLog (D.view disks.old) log.old entries → IsTrue (D.view disks.old).told
         → option_map header_of found ≡ option_and_then partition_header_in (slice_get entries 0)) }
+    ensures sides { IfOk result (λ found. IfSome found (λ header. NamesSides (header_of header))) }
     ensures log { (entries : List (List ℕ)) → IsLog (D.view disks.old) log.old entries → UnlessDown (result_err result) (IsLog (D.view disks.new) log.new entries) }
     ensures same { HasMoved log.old log.new }
     ensures kept { KeepsAll (D.view disks.old) (D.view disks.new) (result_err result) }
@@ -49,7 +50,7 @@ pub fn unit_at<D: Disks>(
     requires below { i < count_of log.old }
     ensures unit { IfOk result (λ found. (entries : List (List ℕ)) → IsLog (D.view disks.old) log.old entries → IsTrue (D.view disks.old).told
         → option_map prepared_of found ≡ option_and_then (prepared_in nulls) (slice_get entries i)) }
-    ensures keyed { IfOk result (λ found. IfSome found (λ unit. AreKeyed (prepared_of unit))) }
+    ensures put { IfOk result (λ found. IfSome found (λ unit. ArePut (prepared_of unit))) }
     ensures log { (entries : List (List ℕ)) → IsLog (D.view disks.old) log.old entries → UnlessDown (result_err result) (IsLog (D.view disks.new) log.new entries) }
     ensures same { HasMoved log.old log.new }
     ensures kept { KeepsAll (D.view disks.old) (D.view disks.new) (result_err result) }
@@ -96,7 +97,7 @@ pub fn read_units<D: Disks>(
     requires { (entries : List (List ℕ)) × IsLog (D.view disks.old) log.old entries }
     ensures units { IfOk result (λ found. (entries : List (List ℕ)) → IsLog (D.view disks.old) log.old entries → IsTrue (D.view disks.old).told
         → option_map (λ units. units_of units.items) found ≡ gathered nulls (Some []) (drop 1 entries)) }
-    ensures keyed { IfOk result (λ found. IfSome found (λ units. Every AreKeyed (units_of units.items))) }
+    ensures put { IfOk result (λ found. IfSome found (λ units. Every ArePut (units_of units.items))) }
     ensures log { (entries : List (List ℕ)) → IsLog (D.view disks.old) log.old entries → UnlessDown (result_err result) (IsLog (D.view disks.new) log.new entries) }
     ensures same { HasMoved log.old log.new }
     ensures kept { KeepsAll (D.view disks.old) (D.view disks.new) (result_err result) }

@@ -6,7 +6,7 @@ use Rattle.salt_partition.proofs.contents.read_log.Goals as goal
 use Rattle.salt_bytes.specs.Spellable.{Every}
 use Rattle.salt_partition.proofs.Keyed.{if_some}
 use Rattle.salt_partition.proofs.Seen.{no_units, other_part, whole}
-use Rattle.salt_partition.specs.Contents.{AreKeyed, units_of}
+use Rattle.salt_partition.specs.Contents.{ArePut, NamesSides, units_of}
 use Rattle.salt_stands.specs.PartitionLog.{gathered}
 use Rattle.std.proofs.Common.{None, Some, [], ap, drop, slice_get, sym, true, ◌≡◌, ◌∙◌}
 use Rattle.std.proofs.lemmas.Bool.{eq-eqb, ne_eqb}
@@ -61,5 +61,5 @@ returns-in-Some-2-clause-content g c entries first some = record {
       ap (option_map (λ units. units_of units.items)) (sym c.in-Some-2.is) ∙ c.in_ok-units.ensures.units entries (c.in_ok-header.ensures.log entries first) told1
       ∙ ap (λ nulls. gathered nulls (Some []) (drop 1 entries)) c.has_nulls.ensures in
       whole c.args.part entries h (units_of c.in-Some-2.units.items) some head own all;
-  log = (c.in_ok-units.ensures.log entries (c.in_ok-header.ensures.log entries first), c.in_ok-units.ensures.same.device ∙ c.in_ok-header.ensures.same.device, if_some c.in_ok-units.field-0 c.in-Some-2.units (λ units. Every AreKeyed (units_of units.items)) c.in-Some-2.is c.in_ok-units.ensures.keyed);
+  log = (c.in_ok-units.ensures.log entries (c.in_ok-header.ensures.log entries first), c.in_ok-units.ensures.same.device ∙ c.in_ok-header.ensures.same.device, if_some c.in_ok-units.field-0 c.in-Some-2.units (λ units. Every ArePut (units_of units.items)) c.in-Some-2.is c.in_ok-units.ensures.put, if_some c.in_ok-header.field-0 c.in-Some.header (λ header. NamesSides (header_of header)) c.in-Some.is c.in_ok-header.ensures.sides);
 }

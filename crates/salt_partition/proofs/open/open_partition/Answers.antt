@@ -1,5 +1,5 @@
 use Rattle.salt_model.specs.Tables.{no_rows, with_changes}
-use Rattle.salt_partition.proofs.Opened.{opens_as}
+use Rattle.salt_partition.proofs.Opened.{opens_as, why_of}
 use Rattle.salt_partition.proofs.open.open_partition.Goals as goal
 use Rattle.salt_partition.specs.Contents.{log_of, units_of}
 use Rattle.salt_stands.specs.OpenedPart.{is_known_log}
@@ -12,7 +12,7 @@ use Rattle.std.proofs.lemmas.Result.{err_from_is_err_and}
 pub returns-in_err-side-clause-why : goal.returns-in_err-side-clause-why
 returns-in_err-side-clause-why g c told =
     let p = err_from_is_err_and c.from_residual.result c.from_residual.ensures.1 in
-    rw (p.1, p.2) (c.in_err-side.ensures.why told c.args.boot c.args.decided.now)
+    rw (p.1, p.2) (why_of (g.D.Disks.view c.args.disks.now).bytes c.args.boot c.args.decided.now c.args.part c.in_err-side.field-0.0 (c.in_err-side.ensures.why told))
 
 pub returns-clause-opens : goal.returns-clause-opens
 returns-clause-opens g c =

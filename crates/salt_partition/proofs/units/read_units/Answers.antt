@@ -7,7 +7,7 @@ use Rattle.salt_bytes.specs.Spellable.{Every}
 use Rattle.salt_partition.proofs.Keyed.{every_push, if_some}
 use Rattle.salt_partition.proofs.Seeing.{units_pushed}
 use Rattle.salt_partition.proofs.units.read_units.Goals as goal
-use Rattle.salt_partition.specs.Contents.{AreKeyed, units_of}
+use Rattle.salt_partition.specs.Contents.{ArePut, units_of}
 use Rattle.salt_stands.specs.PartitionLog.{gathered}
 use Rattle.std.proofs.Common.{None, Some, ap, arith, drop, slice_get, subst, sym, ◌+◌, ◌≡◌, ◌∙◌}
 use Rattle.std.proofs.lemmas.Result.{err_from_is_err_and}
@@ -55,8 +55,8 @@ loop-i-preserved g c =
       };
       keeps = keeps_then d0 d e None l.invariant.keeps c.in_ok-unit.ensures.kept;
       cause = cause_on d0 d e None l.invariant.cause c.in_ok-unit.ensures.cause;
-      keyed = subst (Every AreKeyed) (sym (units_pushed l.units.items c.push.new.self.items c.in-Some.unit c.in_ok-push-in-Some.ensures.items))
-          (every_push AreKeyed (units_of l.units.items) (prepared_of c.in-Some.unit) l.invariant.keyed (if_some c.in_ok-unit.field-0 c.in-Some.unit (λ unit. AreKeyed (prepared_of unit)) c.in-Some.is c.in_ok-unit.ensures.keyed));
+      put = subst (Every ArePut) (sym (units_pushed l.units.items c.push.new.self.items c.in-Some.unit c.in_ok-push-in-Some.ensures.items))
+          (every_push ArePut (units_of l.units.items) (prepared_of c.in-Some.unit) l.invariant.put (if_some c.in_ok-unit.field-0 c.in-Some.unit (λ unit. ArePut (prepared_of unit)) c.in-Some.is c.in_ok-unit.ensures.put));
       so_far = λ entries first told.
           let told' = l.invariant.keeps.shape.told ∙ told in
           let nulls = c.args.nulls in
@@ -67,5 +67,5 @@ loop-i-preserved g c =
           ∙ l.invariant.so_far entries first told;
     }
 
-pub returns-clause-keyed : goal.returns-clause-keyed
-returns-clause-keyed g c = c.loop-i.invariant.keyed
+pub returns-clause-put : goal.returns-clause-put
+returns-clause-put g c = c.loop-i.invariant.put
