@@ -46,7 +46,7 @@ module _ {L : Type 0} (generation : L → ℕ) where
       ∙ ap (λ b. chosen false b next log) (ap (λ n. follows (generation log) n) e ∙ next_follows (generation log))
 
   -- the other log holds the next generation's header alone
-  pair_next : (read : List (List ℕ) → Option L) (dev : ℕ) (old new : Logs) (which : WhichLog) (log next : L) (payload : List ℕ)
+  pub pair_next : (read : List (List ℕ) → Option L) (dev : ℕ) (old new : Logs) (which : WhichLog) (log next : L) (payload : List ℕ)
       → pair_of generation (content_of read (old dev)) (content_of read (old (dev + 1))) ≡ Counts which log
       → new (device_of dev (other_log which)) ≡ Some (payload ∷ []) → IsSameAt (device_of dev which) old new
       → read (payload ∷ []) ≡ Some next → generation next ≡ next_generation (generation log)

@@ -46,7 +46,7 @@ module _ {D : Type 0} (r : Reading D) (c : Coordinator D) (p : ℕ) where
           one true f g = ap (λ (x : Place). part_of_key c.log.header.shape x.key) (place_same q (changed_at ch) (equal_is _ f)) ∙ to ch.row here row g
           one false f g = placed q row g
 
-  decided_sound : (us : List Id) (ps : List Prepared) → list_all (is_sound_prepared r c p) ps ≡ true → list_all (is_sound_change r c p) (decided_changes us ps) ≡ true
+  pub decided_sound : (us : List Id) (ps : List Prepared) → list_all (is_sound_prepared r c p) ps ≡ true → list_all (is_sound_change r c p) (decided_changes us ps) ≡ true
   decided_sound us [] e = refl
   decided_sound us (x ∷ ps) e =
       list_all-append (is_sound_change r c p) (changes_if (has_id x.unit us) x.changes) (decided_changes us ps)
@@ -56,7 +56,7 @@ module _ {D : Type 0} (r : Reading D) (c : Coordinator D) (p : ℕ) where
       own true = right (nat_le x.unit.boot c.log.told.boot) (list_all (is_sound_change r c p) x.changes) (left (is_sound_prepared r c p x) (list_all (is_sound_prepared r c p) ps) e)
       own false = refl
 
-  rows_sound : (log : PartitionLog) (bytes : List ℕ) (rows : List Change) → rows_of_pages r c p log bytes ≡ Some rows → list_all (is_sound_change r c p) rows ≡ true
+  pub rows_sound : (log : PartitionLog) (bytes : List ℕ) (rows : List Change) → rows_of_pages r c p log bytes ≡ Some rows → list_all (is_sound_change r c p) rows ≡ true
   rows_sound log bytes rows e = by (rows_from (has_nulls log.header.format) bytes 0 log.header.sides) e
     where
       chosen : (xs : List Change) (b : Bool) → are_sound_rows r c p xs ≡ b → then_some b xs ≡ Some rows → list_all (is_sound_change r c p) rows ≡ true
