@@ -16,3 +16,5 @@ mod Noted
 mod Quiet
 mod Serial
 pub mod Amiss
+pub mod Named
+pub mod Marking

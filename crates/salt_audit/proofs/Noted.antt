@@ -1,28 +1,15 @@
 -- Units by their names: one that is changed, one that is not there, and one more.
 use Rattle.salt_audit.proofs.Amiss.{id_is}
+use Rattle.salt_audit.proofs.Named.{same_at}
 use Rattle.salt_audit.specs.Order.{id_cmp}
 use Rattle.salt_audit.specs.Standing.{begun_in}
 use Rattle.salt_audit.specs.declared.state.Begun.{Begun}
 use Rattle.salt_values.specs.Id.{is_same_id}
 use Rattle.salt_values.specs.declared.id.Id.{Id}
-use Rattle.std.proofs.Common.{ap, arith, sym, ◌∙◌}
-use Rattle.std.proofs.lemmas.Bool.Decides.{nat_tests}
+use Rattle.std.proofs.Common.{ap, sym, ◌∙◌}
 use Rattle.std.specs.BTreeMap.{BTreeMap, get}
-use Rattle.std.specs.Ordering.{is_eq, nat_cmp, ordering_then}
-use Rattle.std.specs.Prelude.{Bool, None, Some, cond, false, if◌then◌else◌, option_map, refl, true, ℕ, ◌&&◌, ◌==◌, ◌≡◌}
-use Rattle.std.specs.declared.cmp.Ordering.TheVariants.{Equal, Greater, Less}
-use Rattle.std.specs.declared.cmp.Ordering.{Ordering}
-
-tied : (m n : ℕ) → is_eq (nat_cmp m n) ≡ (n == m)
-tied m n = grind (arith, nat_tests)
-
-both : (o p : Ordering) → is_eq (ordering_then o p) ≡ (is_eq o && is_eq p)
-both Less p = refl
-both Equal p = refl
-both Greater p = refl
-
-same_at : (a b : Id) → is_eq (id_cmp a b) ≡ is_same_id b a
-same_at a b = both (nat_cmp a.boot b.boot) (nat_cmp a.seq b.seq) ∙ (ap (λ t. t && is_eq (nat_cmp a.seq b.seq)) (tied a.boot b.boot) ∙ ap (λ t. (b.boot == a.boot) && t) (tied a.seq b.seq))
+use Rattle.std.specs.Ordering.{is_eq}
+use Rattle.std.specs.Prelude.{Bool, None, Some, cond, false, if◌then◌else◌, option_map, refl, true, ◌≡◌}
 
 -- this is written at the name
 abbrev pub Writes : BTreeMap Id Begun → BTreeMap Id Begun → Id → Begun → Type 0

@@ -5,6 +5,7 @@ pub mod Verdicts
 pub mod Transcripts
 pub mod Stories
 pub mod Order
+pub mod Marks
 pub mod Standing
 pub mod Knowing
 pub mod Telling

@@ -22,7 +22,7 @@ use salt_program::Catalogue;
 use salt_scheduler::line_refusal;
 use salt_schema::{Schema, SchemaErr};
 use salt_tokens::same_bytes;
-use salt_values::{Cont, Id, Name, Row, has_id, is_same_id};
+use salt_values::{Cont, Id, Name, Row, is_same_id};
 use sqlite_items::Items;
 use std::alloc::{AllocError, Global};
 
@@ -72,7 +72,7 @@ fn is_due(conts: &[Cont], base: Id, part: u32) -> bool
 fn goes_on(state: &State, base: Id) -> bool
     ensures { result ≡ goes_on state.now base }
 {
-    has_id(state.accepted.as_slice(), base) && !has_id(state.finished.as_slice(), base)
+    state.accepted.has(base) && !state.finished.has(base)
 }
 
 fn may_begin(state: &State, kind: &UnitKind) -> bool
@@ -90,10 +90,7 @@ fn may_begin(state: &State, kind: &UnitKind) -> bool
             base,
             program,
             args,
-        } => {
-            !has_id(state.bases.as_slice(), *base)
-                && fits_call(&state.catalogue, true, program, args)
-        }
+        } => { !state.bases.has(*base) && fits_call(&state.catalogue, true, program, args) }
         UnitKind::Later { base, part } => {
             goes_on(state, *base) && is_due(state.conts.as_slice(), *base, *part)
         }
@@ -199,9 +196,7 @@ fn may_define(alloc: Global, state: &State, text: &[u8]) -> Result<bool, AllocEr
 fn are_known(state: &State, bases: &[Id]) -> bool
     ensures { result ≡ list_all (λ b. has_id b state.now.bases) bases.now }
 {
-    bases
-        .iter()
-        .all(|base| has_id(state.bases.as_slice(), *base))
+    bases.iter().all(|base| state.bases.has(*base))
 }
 
 /// Behind the first opening.
@@ -222,8 +217,8 @@ fn may_come(alloc: Global, state: &State, event: &Event) -> Result<bool, AllocEr
             owners: _owners,
         } => Ok(is_open(&state.units, *unit)),
         Event::Ended { unit, end: _end } => Ok(is_open(&state.units, *unit)),
-        Event::Accepted(base) => Ok(has_id(state.bases.as_slice(), *base)),
-        Event::Finished(base) => Ok(has_id(state.bases.as_slice(), *base)),
+        Event::Accepted(base) => Ok(state.bases.has(*base)),
+        Event::Finished(base) => Ok(state.bases.has(*base)),
         Event::Released(bases) => Ok(are_known(state, bases.as_slice())),
         Event::Early(bases) => Ok(are_known(state, bases.as_slice())),
         Event::Defined {

@@ -7,6 +7,8 @@ mod conts;
 mod definitions;
 mod formed;
 mod laws;
+mod marks;
+mod names;
 mod replay;
 mod rows;
 mod start;
@@ -21,6 +23,8 @@ pub use laws::{
     findings_grow, formed_events_name_tables, judging_is_exact, knowledge_goes_on, one_verdict,
     replaying_is_exact, sound_stories_name_tables, stories_agree,
 };
+pub use marks::{Marks, is_marked, mark, mark_all, no_marks};
+pub use names::Names;
 pub use replay::is_replay;
 pub use rows::rows_of_bytes;
 pub use start::nothing_known;

@@ -6,6 +6,7 @@ ghost use Rattle.salt_audit.specs.Retelling.{retold};
 ghost use Rattle.salt_audit.specs.Standing.{begun_in};
 ghost use Rattle.salt_values.specs.declared.id.Id.{Id};
 
+use crate::names::Names;
 use crate::state::{State, Units};
 use salt_program::Catalogue;
 use salt_schema::Schema;
@@ -29,8 +30,8 @@ pub fn nothing_known(alloc: Global) -> State
         catalogue: Catalogue::new(alloc),
         conts: Items::new(alloc),
         units: no_units(alloc),
-        bases: Items::new(alloc),
-        accepted: Items::new(alloc),
-        finished: Items::new(alloc),
+        bases: Names::new(alloc),
+        accepted: Names::new(alloc),
+        finished: Names::new(alloc),
     }
 }

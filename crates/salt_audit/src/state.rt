@@ -1,10 +1,11 @@
 //! What a story so far tells of the events that may come next.
 
+use crate::names::Names;
 use salt_ast::Statements;
 use salt_model::UnitKind;
 use salt_program::Catalogue;
 use salt_schema::Schema;
-use salt_values::{Conts, Id, Ids};
+use salt_values::{Conts, Id};
 use std::collections::BTreeMap;
 
 /// A unit that has begun.
@@ -43,7 +44,7 @@ pub struct State {
     pub conts: Conts,
     pub units: Units,
     /// Programs of which a unit has begun.
-    pub bases: Ids,
-    pub accepted: Ids,
-    pub finished: Ids,
+    pub bases: Names,
+    pub accepted: Names,
+    pub finished: Names,
 }

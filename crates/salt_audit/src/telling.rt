@@ -11,14 +11,15 @@ ghost use Rattle.std.specs.Prelude.{OnOk, true, ℕ, ◌≡◌};
 use crate::conts::end_part;
 use crate::definitions::define;
 use crate::formed::begun;
+use crate::names::Names;
 use crate::state::State;
 use crate::units::{add, close, count, note_of};
 use salt_books::program_of;
 use salt_model::{End, Event, UnitKind};
-use salt_values::{Id, Ids};
+use salt_values::Id;
 use std::alloc::{AllocError, Global};
 
-fn name_base(bases: &mut Ids, base: Option<Id>) -> Result<(), AllocError>
+fn name_base(bases: &mut Names, base: Option<Id>) -> Result<(), AllocError>
     ensures { OnOk result (bases.new ≡ with_base base bases.old) }
 {
     match base {

@@ -12,7 +12,8 @@ use Rattle.salt_model.specs.declared.locks.Reach.{Reach}
 use Rattle.salt_values.specs.Id.{has_id, is_same_id, without}
 use Rattle.salt_values.specs.declared.id.Id.{Id}
 use Rattle.salt_verdict.specs.Ledger.{run_by}
-use Rattle.salt_judge.specs.Reads.{freed_in, is_marked, is_named, sources_in}
+use Rattle.salt_audit.specs.Marks.{is_marked}
+use Rattle.salt_judge.specs.Reads.{freed_in, is_named, sources_in}
 use Rattle.salt_verdict.specs.declared.ledger.Ledger.{Ledger}
 use Rattle.salt_judge.specs.declared.reads.Opening.{Opening}
 use Rattle.salt_judge.specs.declared.reads.Reads.{Reads}

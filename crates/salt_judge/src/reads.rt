@@ -1,5 +1,6 @@
 //! What is known of who read from whom.
 
+use salt_audit::Marks;
 use salt_values::{Id, Ids, Key};
 use sqlite_items::Items;
 use std::collections::BTreeMap;
@@ -24,9 +25,6 @@ pub struct Opening {
     pub named: Ids,
     pub passed: Ids,
 }
-
-/// Names that are marked.
-pub type Marks = BTreeMap<Id, bool>;
 
 /// What is known behind the events so far of who read from whom.
 #[derive(Drop)]

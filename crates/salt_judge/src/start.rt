@@ -6,9 +6,9 @@ ghost use Rattle.salt_judge.specs.Reads.{HoldsReads, sources_in};
 ghost use Rattle.salt_values.specs.declared.id.Id.{Id};
 ghost use Rattle.std.specs.Prelude.{[], false, ◌≡◌};
 
-use crate::marks::no_marks;
 use crate::met::{Ending, Meetings};
 use crate::reads::{Reads, Sources};
+use salt_audit::no_marks;
 use salt_values::Id;
 use sqlite_items::Items;
 use std::alloc::Global;

@@ -1,8 +1,8 @@
 pub mod Active
+mod Changing
 mod Commits
 mod Doing
 mod Faithful
 pub mod Going
 pub mod Listed
-pub mod Named
 mod Putting

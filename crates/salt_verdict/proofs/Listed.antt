@@ -1,4 +1,5 @@
 -- Names in lists of units.
+use Rattle.salt_audit.proofs.Marking.{has_more, or_group}
 use Rattle.salt_model.specs.Trace.{Trace, from, ◌asks◌, ◌says◌, ◌turns◌}
 use Rattle.salt_model.specs.Units.{kind_of, units_begun}
 use Rattle.salt_model.specs.declared.events.Event.TheVariants as event
@@ -9,24 +10,11 @@ use Rattle.std.proofs.Common.{Bool, List, None, Option, Some, [], ap, false, is_
 use Rattle.std.specs.Bool.{then_some}
 use Rattle.std.specs.Option.{option_or}
 
-or_turn : (a b c : Bool) → (a || (b || c)) ≡ (b || (a || c))
-or_turn true true c = refl
-or_turn true false c = refl
-or_turn false b c = refl
-
-pub or_group : (a b c : Bool) → (a || (b || c)) ≡ ((a || b) || c)
-or_group true b c = refl
-or_group false b c = refl
-
 pub or_swap : (a b : Bool) → (a || b) ≡ (b || a)
 or_swap true true = refl
 or_swap true false = refl
 or_swap false true = refl
 or_swap false false = refl
-
-pub has_more : (u v : Id) (us : List Id) → has_id u (us ++ v ∷ []) ≡ (is_same_id u v || has_id u us)
-has_more u v [] = refl
-has_more u v (w ∷ us) = ap (λ (t : Bool). is_same_id u w || t) (has_more u v us) ∙ or_turn (is_same_id u w) (is_same_id u v) (has_id u us)
 
 pub has_app : (u : Id) (us vs : List Id) → has_id u (us ++ vs) ≡ (has_id u us || has_id u vs)
 has_app u [] vs = refl

@@ -1,5 +1,5 @@
 use Rattle.salt_values.specs.Id.{is_same_id}
-use Rattle.salt_verdict.proofs.Named.{one_put}
+use Rattle.salt_audit.proofs.Named.{one_put}
 use Rattle.salt_judge.proofs.Meeting.{ending_put}
 use Rattle.salt_judge.proofs.meetings.put_ending.Goals as goal
 use Rattle.salt_judge.specs.Meetings.{is_ending}

@@ -1,5 +1,5 @@
 use Rattle.salt_values.specs.Id.{is_same_id}
-use Rattle.salt_verdict.proofs.Named.{put_back}
+use Rattle.salt_audit.proofs.Named.{put_back}
 use Rattle.salt_judge.proofs.Reading.{sources_put}
 use Rattle.salt_judge.proofs.readers.put_sources.Goals as goal
 use Rattle.salt_judge.specs.ReadAfter.{sources_as}

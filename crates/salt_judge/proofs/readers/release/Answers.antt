@@ -1,5 +1,5 @@
 use Rattle.salt_judge.proofs.readers.release.Goals as goal
-use Rattle.salt_judge.specs.Reads.{is_marked}
+use Rattle.salt_audit.specs.Marks.{is_marked}
 use Rattle.salt_values.specs.Id.{has_id}
 use Rattle.salt_values.specs.declared.id.Id.{Id}
 use Rattle.std.proofs.Common.{Bool, List, ap, ◌∙◌, ◌||◌}

@@ -1,5 +1,5 @@
 use Rattle.salt_values.specs.Id.{is_same_id}
-use Rattle.salt_verdict.proofs.Named.{one_put}
+use Rattle.salt_audit.proofs.Named.{one_put}
 use Rattle.salt_verdict.proofs.acts.begin.Goals as goal
 use Rattle.salt_verdict.specs.Ledger.{act_in}
 use Rattle.salt_verdict.specs.declared.ledger.Act.{Act}

@@ -1,7 +1,7 @@
 use Rattle.salt_ast.specs.declared.trees.Statement.{Statement}
 use Rattle.salt_model.specs.declared.events.Answer.{Answer}
 use Rattle.salt_values.specs.Id.{is_same_id}
-use Rattle.salt_verdict.proofs.Named.{put_back}
+use Rattle.salt_audit.proofs.Named.{put_back}
 use Rattle.salt_verdict.proofs.acts.note.Goals as goal
 use Rattle.salt_verdict.specs.Ledger.{act_in, answers_in, done_in, vars_in}
 use Rattle.salt_verdict.specs.declared.ledger.Act.{Act}

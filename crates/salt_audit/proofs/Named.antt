@@ -18,7 +18,7 @@ both Less p = refl
 both Equal p = refl
 both Greater p = refl
 
-same_at : (a b : Id) → is_eq (id_cmp a b) ≡ is_same_id b a
+pub same_at : (a b : Id) → is_eq (id_cmp a b) ≡ is_same_id b a
 same_at a b = both (nat_cmp a.boot b.boot) (nat_cmp a.seq b.seq) ∙ (ap (λ t. t && is_eq (nat_cmp a.seq b.seq)) (tied a.boot b.boot) ∙ ap (λ t. (b.boot == a.boot) && t) (tied a.seq b.seq))
 
 -- this is put, or nothing, at the name

@@ -2,13 +2,15 @@
 
 ghost use Rattle.salt_values.specs.Id.{has_id, is_same_id};
 ghost use Rattle.salt_values.specs.declared.id.Id.{Id};
-ghost use Rattle.salt_judge.specs.Reads.{is_marked};
-ghost use Rattle.std.specs.Prelude.{OnOk, false, ◌||◌, ◌≡◌};
+ghost use Rattle.salt_audit.specs.Marks.{is_marked};
+ghost use Rattle.std.specs.Prelude.{OnErr, OnOk, false, ◌||◌, ◌≡◌};
 
-use crate::reads::Marks;
 use salt_values::Id;
 use std::alloc::{AllocError, Global};
 use std::collections::BTreeMap;
+
+/// Names that are marked.
+pub type Marks = BTreeMap<Id, bool>;
 
 /// Nothing is marked.
 pub fn no_marks(alloc: Global) -> Marks
@@ -17,6 +19,7 @@ pub fn no_marks(alloc: Global) -> Marks
     BTreeMap::new(alloc)
 }
 
+/// Whether the name is marked.
 pub fn is_marked(marks: &Marks, id: Id) -> bool
     ensures { result ≡ is_marked id marks.now }
 {
@@ -26,8 +29,10 @@ pub fn is_marked(marks: &Marks, id: Id) -> bool
     }
 }
 
+/// Marks one more. An `AllocError` marks nothing.
 pub fn mark(marks: &mut Marks, id: Id) -> Result<(), AllocError>
-    ensures { OnOk result ((u : Id) → is_marked u marks.new ≡ (is_same_id u id || is_marked u marks.old)) }
+    ensures ok { OnOk result ((u : Id) → is_marked u marks.new ≡ (is_same_id u id || is_marked u marks.old)) }
+    ensures err { OnErr result ((u : Id) → is_marked u marks.new ≡ is_marked u marks.old) }
 {
     marks.insert(id, true)?;
     Ok(())
