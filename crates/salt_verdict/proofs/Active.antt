@@ -3,11 +3,9 @@ use Rattle.law_story.proofs.Ids.{is_same_id-refl, is_same_id-sym}
 use Rattle.salt_audit.proofs.Amiss.{both_true, id_is}
 use Rattle.salt_audit.specs.Formed.{is_formed_by, may_begin, may_come, may_do}
 use Rattle.salt_audit.specs.Retelling.{told}
-use Rattle.salt_ast.specs.declared.trees.Statement.{Statement}
 use Rattle.salt_model.specs.Phases.{has_opened}
 use Rattle.salt_model.specs.Trace.{Trace, ◌says◌}
 use Rattle.salt_model.specs.Units.{Over, Running, Standing, Waiting, is_open, is_open_standing, kind_of, open_units, standing, units_begun}
-use Rattle.salt_model.specs.declared.events.Answer.{Answer}
 use Rattle.salt_model.specs.declared.events.End.{End}
 use Rattle.salt_model.specs.declared.events.Event.TheVariants as event
 use Rattle.salt_model.specs.declared.events.Event.{Event}

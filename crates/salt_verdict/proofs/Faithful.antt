@@ -11,7 +11,7 @@ use Rattle.salt_model.specs.declared.events.Event.{Event}
 use Rattle.salt_values.specs.declared.id.Id.{Id}
 use Rattle.salt_verdict.specs.Ledger.{Holds, amiss_by, dishonest_by, replays_by, unfaithful_in}
 use Rattle.salt_verdict.specs.declared.ledger.Ledger.{Ledger}
-use Rattle.std.proofs.Common.{Bool, List, None, Option, Some, [], ap, cond, false, if◌then◌else◌, not, refl, sym, true, ◌&&◌, ◌++◌, ◌∙◌, ◌∷◌, ◌≡◌}
+use Rattle.std.proofs.Common.{Bool, List, [], ap, false, if◌then◌else◌, not, refl, sym, true, ◌++◌, ◌∙◌, ◌∷◌, ◌≡◌}
 use Rattle.std.specs.List.{filter}
 use Rattle.std.specs.Prelude.{is_some}
 

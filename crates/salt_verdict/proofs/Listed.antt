@@ -3,10 +3,9 @@ use Rattle.salt_audit.proofs.Marking.{has_more, or_group}
 use Rattle.salt_model.specs.Trace.{Trace, from, ◌asks◌, ◌says◌, ◌turns◌}
 use Rattle.salt_model.specs.Units.{kind_of, units_begun}
 use Rattle.salt_model.specs.declared.events.Event.TheVariants as event
-use Rattle.salt_model.specs.declared.events.UnitKind.{UnitKind}
 use Rattle.salt_values.specs.Id.{has_id, is_same_id}
 use Rattle.salt_values.specs.declared.id.Id.{Id}
-use Rattle.std.proofs.Common.{Bool, List, None, Option, Some, [], ap, false, is_some, refl, sym, true, ◌++◌, ◌∙◌, ◌∷◌, ◌≡◌, ◌||◌}
+use Rattle.std.proofs.Common.{Bool, List, [], ap, false, is_some, refl, sym, true, ◌++◌, ◌∙◌, ◌∷◌, ◌≡◌, ◌||◌}
 use Rattle.std.specs.Bool.{then_some}
 use Rattle.std.specs.Option.{option_or}
 

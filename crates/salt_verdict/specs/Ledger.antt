@@ -9,16 +9,18 @@ use Rattle.salt_model.specs.Statements.{Run, serial}
 use Rattle.salt_model.specs.Trace.{Trace}
 use Rattle.salt_model.specs.Units.{answers_of, done_of, open_units, units_begun}
 use Rattle.salt_model.specs.declared.events.Answer.{Answer}
-use Rattle.salt_model.specs.declared.events.Event.TheVariants.{Did, Ended}
+use Rattle.salt_model.specs.declared.events.End.TheVariants.{Committed}
+use Rattle.salt_model.specs.declared.events.Event.TheVariants.{Defined, Did, Ended}
 use Rattle.salt_model.specs.declared.events.Event.{Event}
 use Rattle.salt_model.specs.declared.vars.Binding.{Binding}
+use Rattle.salt_values.specs.Id.{is_same_id}
 use Rattle.salt_values.specs.declared.id.Id.{Id}
 use Rattle.salt_verdict.specs.Made.{tables_made}
 use Rattle.salt_verdict.specs.declared.ledger.Act.{Act}
 use Rattle.salt_verdict.specs.declared.ledger.Ledger.{Ledger}
 use Rattle.std.specs.BTreeMap.{BTreeMap, get}
 use Rattle.std.specs.List.{filter}
-use Rattle.std.specs.Prelude.{Bool, List, None, Option, Some, [], if◌then◌else◌, not, ◌++◌, ◌∷◌, ◌≡◌}
+use Rattle.std.specs.Prelude.{Bool, List, None, Option, Some, [], false, if◌then◌else◌, not, true, ◌&&◌, ◌++◌, ◌∷◌, ◌≡◌}
 
 -- what the unit of this name has done
 abbrev pub act_in : Id → BTreeMap Id Act → Option Act
@@ -51,6 +53,21 @@ is_unfaithful l u = not (replays_by l u)
 -- the open units of which that is so
 abbrev pub unfaithful_in : Ledger → List Id
 unfaithful_in l = filter (is_unfaithful l) l.active.items
+
+-- what a unit's replay gives may change by the event: by its own statement, by a commit, by a definition
+abbrev pub may_change : Event → Id → Bool
+may_change (Did v st a) u = is_same_id u v
+may_change (Ended v (Committed n)) u = true
+may_change (Defined n text) u = true
+may_change e u = false
+
+-- those of the open units that a replay behind the event tells
+abbrev pub unfaithful_by : Event → Ledger → List Id
+unfaithful_by e l = filter (λ u. may_change e u && is_unfaithful l u) l.active.items
+
+-- no open unit is unfaithful
+abbrev pub AreFaithful : Ledger → Type 0
+AreFaithful l = unfaithful_in l ≡ []
 
 abbrev pub amiss_of : Ledger → Id → Event → List Id
 amiss_of l u e = if is_amiss e (answers_in (act_in u l.acts)) then u ∷ [] else []

@@ -1,15 +1,17 @@
 //! Which units are not honest.
 
-ghost use Rattle.salt_verdict.specs.Ledger.{amiss_by, amiss_of, is_unfaithful, replays_by, unfaithful_in};
-ghost use Rattle.std.specs.Prelude.{IfOk, OnOk, [], if◌then◌else◌, ◌++◌, ◌∷◌, ◌≡◌};
+ghost use Rattle.salt_model.specs.declared.events.Event.TheVariants.{Ended};
+ghost use Rattle.salt_values.specs.declared.id.Id.{Id};
+ghost use Rattle.salt_verdict.specs.Ledger.{amiss_by, amiss_of, is_unfaithful, may_change, replays_by, unfaithful_by};
+ghost use Rattle.std.specs.Prelude.{IfOk, OnOk, [], if◌then◌else◌, ◌&&◌, ◌++◌, ◌∷◌, ◌≡◌};
 
 use crate::acts::{act_of, copy_vars};
 use crate::answers::are_same_answers;
 use crate::ledger::Ledger;
 use salt_audit::is_amiss;
 use salt_eval::ViewErr;
-use salt_model::Event;
-use salt_values::{Id, Ids};
+use salt_model::{End, Event};
+use salt_values::{Id, Ids, is_same_id};
 use sqlite_items::Items;
 use std::alloc::{AllocError, Global};
 
@@ -43,13 +45,45 @@ fn add_if(ids: &mut Ids, unit: Id, is: bool) -> Result<(), AllocError>
     Ok(())
 }
 
-/// The open units whose answers a replay does not give.
-pub fn unfaithful(alloc: Global, ledger: &Ledger) -> Result<Ids, ViewErr>
-    ensures { IfOk result (λ ids. ids ≡ unfaithful_in ledger.now) }
+fn is_commit(end: &End) -> bool
+    ensures { (unit of : Id) → result ≡ may_change (Ended of end.now) unit }
+{
+    matches!(end, End::Committed(_))
+}
+
+/// Whether the event may change what a replay of the unit gives.
+fn may_change(event: &Event, unit: Id) -> bool
+    ensures { result ≡ may_change event.now unit }
+{
+    match event {
+        Event::Did { unit: done, .. } => is_same_id(unit, *done),
+        Event::Ended { end, .. } => is_commit(end),
+        Event::Defined { .. } => true,
+        _ => false,
+    }
+}
+
+fn is_unfaithful_by(
+    alloc: Global,
+    ledger: &Ledger,
+    event: &Event,
+    unit: Id,
+) -> Result<bool, ViewErr>
+    ensures { IfOk result (λ is. is ≡ (may_change event.now unit && is_unfaithful ledger.now unit)) }
+{
+    if !may_change(event, unit) {
+        return Ok(false);
+    }
+    is_unfaithful(alloc, ledger, unit)
+}
+
+/// The open units whose answers a replay behind an event does not give, but for those whose replay it may not change.
+pub fn unfaithful(alloc: Global, ledger: &Ledger, event: &Event) -> Result<Ids, ViewErr>
+    ensures { IfOk result (λ ids. ids ≡ unfaithful_by event.now ledger.now) }
 {
     let mut ids = Items::new(alloc);
     for unit in ledger.active.as_slice() {
-        let is = is_unfaithful(alloc, ledger, *unit)?;
+        let is = is_unfaithful_by(alloc, ledger, event, *unit)?;
         add_if(&mut ids, *unit, is)?;
     }
     Ok(ids)

@@ -6,7 +6,7 @@ ghost use Rattle.salt_audit.specs.Retelling.{told};
 ghost use Rattle.salt_model.specs.Trace.{Trace};
 ghost use Rattle.salt_model.specs.declared.events.Event.{Event};
 ghost use Rattle.salt_verdict.specs.After.{IsAfter};
-ghost use Rattle.salt_verdict.specs.Ledger.{Holds, dishonest_by};
+ghost use Rattle.salt_verdict.specs.Ledger.{AreFaithful, Holds, dishonest_by, unfaithful_by, unfaithful_in};
 ghost use Rattle.salt_verdict.specs.declared.ledger.Ledger.{Ledger};
 ghost use Rattle.law_states.specs.Overlays.{with_edits};
 ghost use Rattle.salt_ast.specs.declared.trees.Statement.{Statement};
@@ -22,6 +22,11 @@ use salt_audit::knowledge_goes_on;
 /// The units that break honest by what is known before an event and behind it are those that break it in the trace.
 pub fn honest_is_exact()
     ensures { (before after : Ledger) (trace : Trace) (e : Event) → Holds before trace → Holds after (told trace e) → dishonest_by before after e ≡ dishonest trace e }
+{}
+
+/// Where no open unit was unfaithful before an event, those that are so behind it are among those whose replay it may change.
+pub fn changes_tell_the_unfaithful()
+    ensures { (l m : Ledger) (e : Event) → AreFaithful l → IsAfter l m e → unfaithful_in m ≡ unfaithful_by e m }
 {}
 
 /// What is known behind an event is what the trace with it tells, where what was known before it is what the trace told.

@@ -16,7 +16,9 @@ mod variables;
 
 pub use again::{Again, do_again};
 pub use honest::{amiss, unfaithful};
-pub use laws::{holding_goes_on, honest_is_exact, runs_make_the_tables};
+pub use laws::{
+    changes_tell_the_unfaithful, holding_goes_on, honest_is_exact, runs_make_the_tables,
+};
 pub use ledger::{Act, Acts, Ledger};
 pub use rows::Rows;
 pub use start::nothing_told;
