@@ -2,3 +2,4 @@ mod Judging
 mod Meeting
 mod Reading
 mod Searching
+mod Settling

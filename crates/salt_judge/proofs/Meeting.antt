@@ -30,7 +30,7 @@ use Rattle.salt_verdict.proofs.Active.{may, new_unit}
 use Rattle.salt_verdict.proofs.Going.{run_same}
 use Rattle.salt_judge.proofs.Reading.{program_same}
 use Rattle.salt_verdict.specs.Ledger.{Holds}
-use Rattle.salt_judge.specs.Meetings.{HasBegun, HoldsMeetings, IsMetAfter, committed_by, has_committed, is_commit, is_ending, is_live, live, met_as, met_by, met_if_acid, met_of, met_told, taken_by, touch_told, touches_of, unwhole_by}
+use Rattle.salt_judge.specs.Meetings.{HasBegun, HoldsMeetings, IsMetAfter, committed_by, has_committed, is_commit, is_ending, is_live, live, met_as, met_by, met_of, met_told, taken_by, touch_told, touches_of, unwhole_by}
 use Rattle.salt_judge.specs.ReadAfter.{reach_by}
 use Rattle.salt_judge.specs.Reads.{HoldsReads, is_free, program_in}
 use Rattle.salt_verdict.specs.declared.ledger.Ledger.{Ledger}

@@ -5,7 +5,7 @@ use Rattle.salt_audit.specs.Laws.{changed_in, changers_in, in_chains, is_tied, r
 use Rattle.salt_audit.specs.Retelling.{told}
 use Rattle.salt_audit.specs.Standing.{begun_in}
 use Rattle.salt_audit.specs.declared.state.Begun.{Begun}
-use Rattle.salt_model.specs.After.{reach_now, run_of}
+use Rattle.salt_model.specs.After.{reach_now}
 use Rattle.salt_model.specs.Isolation.{is_program_released}
 use Rattle.salt_model.specs.Programs.{freed_by, programs_in, released_in, shares}
 use Rattle.salt_model.specs.Reaches.{reach}
@@ -13,7 +13,7 @@ use Rattle.salt_model.specs.Reads as model
 use Rattle.salt_model.specs.Reads.{last_of_each, is_written_at, written_at}
 use Rattle.salt_model.specs.Tables.{is_within}
 use Rattle.salt_model.specs.Trace.{Trace, ◌says◌}
-use Rattle.salt_model.specs.Units.{is_of_program, kind_of, program_of, program_of_kind, units_begun}
+use Rattle.salt_model.specs.Units.{is_of_program, kind_of, program_of, program_of_kind}
 use Rattle.salt_model.specs.Words.{widened}
 use Rattle.salt_model.specs.declared.events.End.TheVariants as end
 use Rattle.salt_model.specs.declared.events.End.{End}
@@ -26,10 +26,12 @@ use Rattle.salt_values.specs.declared.change.Change.{Change}
 use Rattle.salt_values.specs.declared.id.Id.{Id}
 use Rattle.salt_verdict.proofs.Active.{new_unit}
 use Rattle.salt_verdict.proofs.Going.{kind_noted, kind_same, run_same}
-use Rattle.salt_verdict.proofs.Listed.{begun_listed, has_app, or_group, or_swap}
+use Rattle.salt_audit.proofs.Marking.{or_group}
+use Rattle.salt_verdict.proofs.Listed.{begun_listed, has_app, or_swap}
 use Rattle.salt_verdict.specs.Ledger.{Holds, run_by}
 use Rattle.salt_judge.specs.ReadAfter.{IsReadAfter, changers, is_written_within, last_by, openings_by, parts_by, put_edits, reach_by, released_by, sources_as, sources_by, writing_of, written_first}
-use Rattle.salt_judge.specs.Reads.{HoldsReads, chained, freed_in, is_free, is_marked, is_named, is_tied_by, program_in, program_noted, shares_program, sources_in, ties_of, unsalted_by, unsalted_of, units_read, writing_told}
+use Rattle.salt_audit.specs.Marks.{is_marked}
+use Rattle.salt_judge.specs.Reads.{HoldsReads, chained, freed_in, is_free, is_named, is_tied_by, program_in, program_noted, shares_program, sources_in, unsalted_by, unsalted_of, units_read, writing_told}
 use Rattle.salt_judge.specs.Searching.{IsLinked}
 use Rattle.salt_verdict.specs.declared.ledger.Ledger.{Ledger}
 use Rattle.salt_judge.specs.declared.reads.Opening.{Opening}

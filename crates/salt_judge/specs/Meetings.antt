@@ -1,5 +1,4 @@
 -- What is known of what statements done reached, who met it, and which units have committed.
-use Rattle.salt_ast.specs.declared.trees.Statement.{Statement}
 use Rattle.salt_audit.specs.Laws as law
 use Rattle.salt_audit.specs.Order.{id_cmp}
 use Rattle.salt_model.specs.Isolation.{is_committed_standing}

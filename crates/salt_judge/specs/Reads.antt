@@ -1,5 +1,6 @@
 -- What is known of who changed a place last, whom units have read from, and which programs are released.
 use Rattle.salt_audit.specs.Laws.{changed_in, read_from}
+use Rattle.salt_audit.specs.Marks.{is_marked}
 use Rattle.salt_audit.specs.Order.{id_cmp}
 use Rattle.salt_audit.specs.Standing.{begun_in}
 use Rattle.salt_audit.specs.declared.state.Begun.{Begun}
@@ -20,8 +21,7 @@ use Rattle.salt_judge.specs.declared.reads.Sources.{Sources}
 use Rattle.salt_judge.specs.declared.reads.Writing.{Writing}
 use Rattle.std.specs.BTreeMap.{BTreeMap, get}
 use Rattle.std.specs.List.{filter, list_all}
-use Rattle.std.specs.Option.{option_map_or}
-use Rattle.std.specs.Prelude.{Bool, List, None, Option, Some, [], false, if◌then◌else◌, is_none, is_some, length, map, not, option_and_then, true, ◌&&◌, ◌++◌, ◌||◌, ◌∷◌, ◌≡◌}
+use Rattle.std.specs.Prelude.{Bool, List, None, Option, Some, [], false, if◌then◌else◌, is_none, length, map, not, option_and_then, true, ◌&&◌, ◌++◌, ◌||◌, ◌∷◌, ◌≡◌}
 
 abbrev pub writing_told : Writing → model.Written
 writing_told w = record { unit = w.unit; table = w.table; key = w.key }
@@ -38,9 +38,6 @@ sources_in u sources = units_read (get id_cmp sources u)
 abbrev pub freed_in : List Id → List Opening → List Id
 freed_in bs [] = []
 freed_in bs (o ∷ os) = if shares o.named bs then o.passed ++ freed_in bs os else freed_in bs os
-
-abbrev pub is_marked : Id → BTreeMap Id Bool → Bool
-is_marked u marks = is_some (get id_cmp marks u)
 
 pub record HoldsReads (r : Reads) (trace : Trace) : Type 0 where
   pub last : last_of_each (changed_in trace) ≡ map writing_told r.last.items

@@ -3,20 +3,22 @@
 
 mod judge;
 mod laws;
-mod marks;
 mod meetings;
 mod met;
 mod readers;
 mod reads;
 mod salted;
 mod search;
+mod settled;
 mod start;
 
 pub use judge::{Judge, judge_event, nothing_judged};
-pub use laws::{meeting_goes_on, reading_goes_on, salted_is_exact, whole_is_exact};
+pub use laws::{
+    meeting_goes_on, reading_goes_on, salted_is_exact, settling_goes_on, whole_is_exact,
+};
 pub use meetings::{take_meetings, unwhole};
 pub use met::{Ending, Meetings, Met, Touch};
 pub use readers::take_reads;
-pub use reads::{Marks, Opening, Reads, Sources, Writing};
+pub use reads::{Opening, Reads, Sources, Writing};
 pub use salted::unsalted;
 pub use start::{no_meetings, no_reads};

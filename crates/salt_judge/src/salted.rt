@@ -1,13 +1,13 @@
 //! Which units break salted.
 
 ghost use Rattle.salt_judge.specs.Reads.{is_free, program_in, unsalted_by, unsalted_of};
-ghost use Rattle.salt_judge.specs.Searching.{IsLinked};
+ghost use Rattle.salt_judge.specs.Searching.{AreSettled, IsLinked};
 ghost use Rattle.std.specs.Prelude.{IfOk, OnOk, [], if◌then◌else◌, ◌++◌, ◌∷◌, ◌≡◌};
 
-use crate::marks::is_marked;
-use crate::reads::{Marks, Reads};
-use crate::search::leads_unfree;
-use salt_audit::begun;
+use crate::reads::Reads;
+use crate::search::unsettled_from;
+use crate::settled::settle;
+use salt_audit::{Marks, begun, is_marked};
 use salt_books::program_of;
 use salt_model::Event;
 use salt_values::{Id, Ids};
@@ -44,29 +44,42 @@ pub fn is_free(released: &Marks, program: Option<Id>) -> bool
     }
 }
 
-fn unsalted_of(alloc: Global, ledger: &Ledger, reads: &Reads, unit: Id) -> Result<Ids, AllocError>
-    ensures { IfOk result (λ ids. IsLinked ledger.now reads.now → ids ≡ unsalted_of ledger.now reads.now unit) }
+fn unsalted_of(
+    alloc: Global,
+    ledger: &Ledger,
+    reads: &Reads,
+    settled: &mut Marks,
+    unit: Id,
+) -> Result<Ids, AllocError>
+    ensures units { IfOk result (λ ids. IsLinked ledger.now reads.now → AreSettled ledger.now reads.now settled.old → ids ≡ unsalted_of ledger.now reads.now unit) }
+    ensures settled { OnOk result (AreSettled ledger.now reads.now settled.old → AreSettled ledger.now reads.now settled.new) }
 {
     let mut ids = Items::new(alloc);
     if program_in(ledger, unit).is_some() {
         return Ok(ids);
     }
-    let leads = leads_unfree(alloc, ledger, reads, unit)?;
-    add_if(&mut ids, unit, leads)?;
+    let Some(found) = unsettled_from(alloc, ledger, reads, settled, unit)? else {
+        ids.push(unit)?;
+        return Ok(ids);
+    };
+    settle(ledger, reads, settled, &found)?;
     Ok(ids)
 }
 
-/// The ACID unit of an event's statement where a chain leads from it to a program that is not released, by what is known behind it.
+/// The ACID unit of an event's statement where a chain leads from it to a program that is not released, by what is known behind it. What its
+/// search finds is settled, if it may be.
 pub fn unsalted(
     alloc: Global,
     ledger: &Ledger,
     reads: &Reads,
+    settled: &mut Marks,
     event: &Event,
 ) -> Result<Ids, AllocError>
-    ensures { IfOk result (λ ids. IsLinked ledger.now reads.now → ids ≡ unsalted_by ledger.now reads.now event.now) }
+    ensures units { IfOk result (λ ids. IsLinked ledger.now reads.now → AreSettled ledger.now reads.now settled.old → ids ≡ unsalted_by ledger.now reads.now event.now) }
+    ensures settled { OnOk result (AreSettled ledger.now reads.now settled.old → AreSettled ledger.now reads.now settled.new) }
 {
     match event {
-        Event::Did { unit, .. } => unsalted_of(alloc, ledger, reads, *unit),
+        Event::Did { unit, .. } => unsalted_of(alloc, ledger, reads, settled, *unit),
         _ => Ok(Items::new(alloc)),
     }
 }

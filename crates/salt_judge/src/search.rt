@@ -1,21 +1,27 @@
-//! The units in all chains from one are searched, each once.
+//! The units in all chains from one are searched, each once, but for those that are settled.
 
 ghost use Rattle.salt_audit.specs.Standing.{begun_in};
 ghost use Rattle.salt_values.specs.declared.id.Id.{Id};
-ghost use Rattle.salt_judge.specs.Reads.{chained, is_free, is_marked, near, parts_near, program_in, sources_in};
-ghost use Rattle.salt_judge.specs.Searching.{AreMarks, IsLinked, visited, visited_all};
-ghost use Rattle.std.specs.List.{list_all};
-ghost use Rattle.std.specs.Prelude.{IfOk, OnOk, [], OnSome, if◌then◌else◌, is_some, length, not, slice_get, ◌&&◌, ◌+◌, ◌++◌, ◌<◌, ◌||◌, ◌∷◌, ◌≡◌};
+ghost use Rattle.salt_judge.specs.Reads.{chained, near, parts_near, program_in, sources_in};
+ghost use Rattle.salt_audit.specs.Marks.{AreMarks};
+ghost use Rattle.salt_judge.specs.Searching.{AreSettled, IsLinked, are_free, is_new, visited, visited_all};
+ghost use Rattle.std.specs.Prelude.{IfOk, None, OnOk, OnSome, if◌then◌else◌, is_some, length, not, slice_get, ◌&&◌, ◌+◌, ◌++◌, ◌<◌, ◌∷◌, ◌≡◌};
 
-use crate::marks::{is_marked, mark, no_marks};
-use crate::reads::{Marks, Reads, Sources};
+use crate::reads::{Reads, Sources};
 use crate::salted::{is_free, program_in};
-use salt_audit::begun;
+use salt_audit::{Marks, begun, is_marked, mark, no_marks};
 use salt_values::{Id, Ids};
 use salt_verdict::Ledger;
 use sqlite_items::Items;
 use std::alloc::{AllocError, Global};
 use std::collections::BTreeMap;
+
+/// Units that are found, and marked.
+#[derive(Drop)]
+pub struct Found {
+    pub ids: Ids,
+    pub marks: Marks,
+}
 
 fn has_begun(ledger: &Ledger, unit: Id) -> bool
     ensures { result ≡ is_some (begun_in unit ledger.now.state.units) }
@@ -26,11 +32,11 @@ fn has_begun(ledger: &Ledger, unit: Id) -> bool
     }
 }
 
-/// Whether a unit has begun that is not marked.
-fn is_new(ledger: &Ledger, marks: &Marks, unit: Id) -> bool
-    ensures { result ≡ (is_some (begun_in unit ledger.now.state.units) && not (is_marked unit marks.now)) }
+/// Whether a unit has begun that is neither settled nor marked.
+fn is_new(ledger: &Ledger, settled: &Marks, marks: &Marks, unit: Id) -> bool
+    ensures { result ≡ (not (is_marked unit settled.now) && (is_some (begun_in unit ledger.now.state.units) && not (is_marked unit marks.now))) }
 {
-    has_begun(ledger, unit) && !is_marked(marks, unit)
+    !is_marked(settled, unit) && (has_begun(ledger, unit) && !is_marked(marks, unit))
 }
 
 fn add(found: &mut Ids, marks: &mut Marks, unit: Id) -> Result<(), AllocError>
@@ -54,13 +60,19 @@ fn add_new(found: &mut Ids, marks: &mut Marks, unit: Id, is: bool) -> Result<(),
     Ok(())
 }
 
-/// Finds a unit that has begun, once.
-fn visit(ledger: &Ledger, found: &mut Ids, marks: &mut Marks, unit: Id) -> Result<(), AllocError>
+/// Finds a unit that has begun and is not settled, once.
+fn visit(
+    ledger: &Ledger,
+    settled: &Marks,
+    found: &mut Ids,
+    marks: &mut Marks,
+    unit: Id,
+) -> Result<(), AllocError>
     requires { AreMarks marks.old found.old }
-    ensures found { OnOk result (found.new ≡ visited ledger.now unit found.old) }
+    ensures found { OnOk result (found.new ≡ visited ledger.now settled.now unit found.old) }
     ensures marks { OnOk result (AreMarks marks.new found.new) }
 {
-    let is = is_new(ledger, marks, unit);
+    let is = is_new(ledger, settled, marks, unit);
     add_new(found, marks, unit, is)?;
     Ok(())
 }
@@ -68,22 +80,23 @@ fn visit(ledger: &Ledger, found: &mut Ids, marks: &mut Marks, unit: Id) -> Resul
 /// Finds units.
 fn visit_all(
     ledger: &Ledger,
+    settled: &Marks,
     found: &mut Ids,
     marks: &mut Marks,
     units: &[Id],
 ) -> Result<(), AllocError>
     requires { AreMarks marks.old found.old }
-    ensures found { OnOk result (found.new ≡ visited_all ledger.now units.now found.old) }
+    ensures found { OnOk result (found.new ≡ visited_all ledger.now settled.now units.now found.old) }
     ensures marks { OnOk result (AreMarks marks.new found.new) }
 {
     for unit in units {
-        visit(ledger, found, marks, *unit)?;
+        visit(ledger, settled, found, marks, *unit)?;
     }
     Ok(())
 }
 
 /// The units that are noted for one.
-fn noted(sources: &BTreeMap<Id, Sources>, unit: Id) -> &[Id]
+pub fn noted(sources: &BTreeMap<Id, Sources>, unit: Id) -> &[Id]
     ensures { result.now ≡ sources_in unit sources.now }
 {
     match sources.get(&unit) {
@@ -95,16 +108,17 @@ fn noted(sources: &BTreeMap<Id, Sources>, unit: Id) -> &[Id]
 fn visit_parts(
     ledger: &Ledger,
     reads: &Reads,
+    settled: &Marks,
     found: &mut Ids,
     marks: &mut Marks,
     program: Option<Id>,
 ) -> Result<(), AllocError>
     requires { AreMarks marks.old found.old }
-    ensures found { OnOk result (found.new ≡ visited_all ledger.now (parts_near reads.now program) found.old) }
+    ensures found { OnOk result (found.new ≡ visited_all ledger.now settled.now (parts_near reads.now program) found.old) }
     ensures marks { OnOk result (AreMarks marks.new found.new) }
 {
     match program {
-        Some(base) => visit_all(ledger, found, marks, noted(&reads.parts, base)),
+        Some(base) => visit_all(ledger, settled, found, marks, noted(&reads.parts, base)),
         None => Ok(()),
     }
 }
@@ -113,16 +127,24 @@ fn visit_parts(
 fn visit_near(
     ledger: &Ledger,
     reads: &Reads,
+    settled: &Marks,
     found: &mut Ids,
     marks: &mut Marks,
     unit: Id,
 ) -> Result<(), AllocError>
     requires { AreMarks marks.old found.old }
-    ensures found { OnOk result (found.new ≡ visited_all ledger.now (near ledger.now reads.now unit) found.old) }
+    ensures found { OnOk result (found.new ≡ visited_all ledger.now settled.now (near ledger.now reads.now unit) found.old) }
     ensures marks { OnOk result (AreMarks marks.new found.new) }
 {
-    visit_all(ledger, found, marks, noted(&reads.sources, unit))?;
-    visit_parts(ledger, reads, found, marks, program_in(ledger, unit))?;
+    visit_all(ledger, settled, found, marks, noted(&reads.sources, unit))?;
+    visit_parts(
+        ledger,
+        reads,
+        settled,
+        found,
+        marks,
+        program_in(ledger, unit),
+    )?;
     Ok(())
 }
 
@@ -142,32 +164,35 @@ fn place_after(at: usize) -> Result<usize, AllocError>
     at.checked_add(1).ok_or(AllocError)
 }
 
-/// Whether a chain leads from a unit to one whose program is not released. `AllocError` too where more units are found than have begun,
-/// which are all there are.
-pub fn leads_unfree(
+/// The units that are not settled to which chains lead from a unit of no program; none where one of them is of a program that is not
+/// released. `AllocError` too where more units are found than have begun, which are all there are.
+pub fn unsettled_from(
     alloc: Global,
     ledger: &Ledger,
     reads: &Reads,
+    settled: &Marks,
     unit: Id,
-) -> Result<bool, AllocError>
-    ensures { IfOk result (λ leads. IsLinked ledger.now reads.now → leads ≡ not (list_all (λ (u : Id). is_free reads.now.released (program_in ledger.now u)) (chained ledger.now reads.now unit))) }
+) -> Result<Option<Found>, AllocError>
+    requires { program_in ledger.now unit ≡ None }
+    ensures free { IfOk result (λ found. IsLinked ledger.now reads.now → AreSettled ledger.now reads.now settled.now → is_some found ≡ are_free ledger.now reads.now (chained ledger.now reads.now unit)) }
+    ensures marks { IfOk result (λ found. OnSome found (λ f. AreMarks f.marks f.ids)) }
 {
-    let mut found = Items::new(alloc);
+    let mut ids = Items::new(alloc);
     let mut marks = no_marks(alloc);
-    add(&mut found, &mut marks, unit)?;
+    visit_near(ledger, reads, settled, &mut ids, &mut marks, unit)?;
     let mut left = ledger.order.len();
     let mut at = 0;
     'search: loop {
-        let Some(next) = item_at(&found, at) else {
-            return Ok(false);
+        let Some(next) = item_at(&ids, at) else {
+            return Ok(Some(Found { ids, marks }));
         };
         if !is_free(&reads.released, program_in(ledger, next)) {
-            return Ok(true);
+            return Ok(None);
         }
         if left == 0 {
             return Err(AllocError);
         }
-        visit_near(ledger, reads, &mut found, &mut marks, next)?;
+        visit_near(ledger, reads, settled, &mut ids, &mut marks, next)?;
         left -= 1;
         at = place_after(at)?;
     }

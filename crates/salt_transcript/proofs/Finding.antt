@@ -3,11 +3,11 @@ use Rattle.salt_audit.proofs.Growing.{found_grows}
 use Rattle.salt_audit.specs.Formed.{is_formed_by}
 use Rattle.salt_audit.specs.Retelling.{retold}
 use Rattle.salt_audit.specs.Stories.{then_on}
-use Rattle.salt_audit.specs.Verdicts.{Break, Finding, broken, broken_by, found_by, found_in, found_on, sound, unformed}
+use Rattle.salt_audit.specs.Verdicts.{Finding, broken, broken_by, found_by, found_in, found_on, sound, unformed}
 use Rattle.salt_audit.specs.declared.verdict.Law.{Law}
 use Rattle.salt_model.specs.declared.events.Event.{Event}
 use Rattle.salt_values.specs.declared.id.Id.{Id}
-use Rattle.std.proofs.Common.{Bool, List, None, Option, Some, [], ap, arith, false, length, suc, true, ℕ, ◌+◌, ◌++◌, ◌∙◌, ◌∷◌, ◌≡◌}
+use Rattle.std.proofs.Common.{Bool, List, None, Some, [], ap, arith, false, length, suc, true, ℕ, ◌+◌, ◌++◌, ◌∙◌, ◌∷◌, ◌≡◌}
 
 module _ (story : List Event) (e : Event) (before : found_in story ≡ sound) where
   found_next : found_in (story ++ e ∷ []) ≡ found_by (suc (length story)) (is_formed_by (retold story) e) (broken_by (retold story) e) sound

@@ -20,8 +20,8 @@ use Rattle.salt_model.specs.declared.events.Event.TheVariants as event
 use Rattle.salt_model.specs.declared.events.Event.{Event}
 use Rattle.salt_model.specs.declared.shown.Item.TheVariants as item
 use Rattle.salt_model.specs.declared.shown.Item.{Item}
-use Rattle.salt_transcript.specs.Fronts.{GoesOnNowhere, IsInFront}
-use Rattle.std.proofs.Common.{Bool, List, None, Option, Some, [], ap, append-nil, append_assoc, arith, codes, false, flat_map, inl, inr, length, map, refl, subst, suc, sym, true, true≢false, ℕ, ◌+◌, ◌++◌, ◌<◌, ◌==◌, ◌^◌, ◌∙◌, ◌∷◌, ◌≡◌, ◌≤◌, ◌⊎◌}
+use Rattle.salt_transcript.specs.Fronts.{GoesOnNowhere}
+use Rattle.std.proofs.Common.{Bool, List, None, Some, [], ap, append-nil, append_assoc, arith, codes, false, flat_map, inl, inr, length, map, refl, subst, sym, true, true≢false, ℕ, ◌+◌, ◌++◌, ◌<◌, ◌==◌, ◌^◌, ◌∙◌, ◌∷◌, ◌≡◌, ◌≤◌, ◌⊎◌}
 use Rattle.std.proofs.lemmas.Bool.Decides.{nat_tests}
 use Rattle.std.proofs.lemmas.List.{append_cancel_left, length-append}
 use Rattle.std.specs.Fmt.{decimal}

@@ -1,6 +1,5 @@
-use Rattle.law_states.specs.Overlays.{edit_of}
 use Rattle.salt_judge.proofs.readers.put_change.Goals as goal
-use Rattle.salt_judge.specs.ReadAfter.{is_elsewhere, writing_of, written_first}
+use Rattle.salt_judge.specs.ReadAfter.{is_elsewhere, written_first}
 use Rattle.salt_judge.specs.declared.reads.Writing.{Writing}
 use Rattle.salt_values.specs.declared.value.Value.{Value}
 use Rattle.std.proofs.Common.{List, ap, rules, ◌∙◌, ◌∷◌, ◌≡◌}

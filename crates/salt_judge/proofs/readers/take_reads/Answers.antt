@@ -1,4 +1,3 @@
-use Rattle.salt_model.specs.declared.events.Event.{Event}
 use Rattle.salt_judge.proofs.readers.take_reads.Goals as goal
 use Rattle.salt_judge.specs.ReadAfter.{released_by, sources_by}
 use Rattle.salt_judge.specs.declared.reads.Opening.{Opening}

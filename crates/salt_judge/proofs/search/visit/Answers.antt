@@ -6,4 +6,4 @@ pub returns-clause-found : goal.returns-clause-found
 returns-clause-found c =
     let found = c.args.found.now in
     c.in_ok-add_new.ensures.found
-    ∙ ap (λ (t : Bool). if t then found ++ c.args.unit ∷ [] else found) (c.is_new-is.ensures ∙ visit_marked c.args.ledger.now c.args.marks.now found c.args.unit c.requires)
+    ∙ ap (λ (t : Bool). if t then found ++ c.args.unit ∷ [] else found) (c.is_new-is.ensures ∙ visit_marked c.args.ledger.now c.args.settled.now c.args.marks.now found c.args.unit c.requires)

@@ -9,8 +9,9 @@ loop-unit-preserved c =
     let none : Id = record { boot = 0; seq = 0 } in
     let i = c.loop-unit.unit-index in
     let l = c.args.ledger.now in
+    let settled = c.args.settled.now in
     record {
       marks = c.in_ok-visit.ensures.marks;
-      found = c.in_ok-visit.ensures.found ∙ ap (visited l (get_or c.args.units.now i none)) c.loop-unit.invariant.found
-          ∙ visited_more l c.args.units.now c.args.found.now i none (omega arith);
+      found = c.in_ok-visit.ensures.found ∙ ap (visited l settled (get_or c.args.units.now i none)) c.loop-unit.invariant.found
+          ∙ visited_more l settled c.args.units.now c.args.found.now i none (omega arith);
     }

@@ -10,7 +10,8 @@ returns-clause-found c =
     let l = c.args.ledger.now in
     let r = c.args.reads.now in
     let u = c.args.unit in
+    let settled = c.args.settled.now in
     c.in_ok-visit_parts.ensures.found
-    ∙ ap (λ (o : Option Id). visited_all l (parts_near r o) c.visit_all.new.found) c.program_in.ensures
-    ∙ ap (visited_all l (parts_near r (program_in l u))) (c.in_ok-visit_all.ensures.found ∙ ap (λ (us : List Id). visited_all l us c.args.found.now) c.noted.ensures)
-    ∙ visited_app l (sources_in u r.sources) (parts_near r (program_in l u)) c.args.found.now
+    ∙ ap (λ (o : Option Id). visited_all l settled (parts_near r o) c.visit_all.new.found) c.program_in.ensures
+    ∙ ap (visited_all l settled (parts_near r (program_in l u))) (c.in_ok-visit_all.ensures.found ∙ ap (λ (us : List Id). visited_all l settled us c.args.found.now) c.noted.ensures)
+    ∙ visited_app l settled (sources_in u r.sources) (parts_near r (program_in l u)) c.args.found.now

@@ -5,7 +5,7 @@ use Rattle.salt_audit.specs.Verdicts.{broken_by}
 use Rattle.salt_transcript.proofs.Finding.{found_broken, found_sound, found_unformed}
 use Rattle.salt_transcript.proofs.reader.Reader.take_event.Goals as goal
 use Rattle.salt_judge.specs.Judging.{HoldsAll}
-use Rattle.std.proofs.Common.{None, Some, [], false, refl, subst, sym, true, ◌++◌, ◌∙◌, ◌∷◌, ◌≡◌}
+use Rattle.std.proofs.Common.{None, Ok, Some, [], ap, false, refl, subst, sym, true, ◌++◌, ◌∙◌, ◌∷◌, ◌≡◌}
 
 pub returns-then-not-fits-clause-unformed : goal.returns-then-not-fits-clause-unformed
 returns-then-not-fits-clause-unformed c = λ is. record {
@@ -39,7 +39,7 @@ returns-in-None-clause-goes_on c = λ is. record {
       let broken : broken_by (retold story) e ≡ None = sym (c.in_ok-law.ensures.broken (retold story) h.holds) ∙ c.in-None.is in
       let found = found_sound story e h.found fits broken in
       record {
-        holds = subst (HoldsAll c.judge_event.new.judge) (sym (told_more (retold []) story e)) (c.in_ok-law.ensures.holds (retold story) h.holds);
+        holds = subst (HoldsAll c.judge_event.new.judge) (sym (told_more (retold []) story e)) (c.in_ok-law.ensures.holds (ap Ok c.in-None.is) (retold story) h.holds);
         found = found;
         naming = c.sound_stories_name_tables.ensures (story ++ e ∷ []) found;
       };
