@@ -1,6 +1,7 @@
 -- Bytes that are read piece by piece.
 use Rattle.salt_io.specs.Streams.{IsAtEnd, bytes_before}
-use Rattle.std.proofs.Common.{List, None, Option, Some, [], ap, append-nil, append_assoc, refl, subst, sym, take, ℕ, ◌++◌, ◌∙◌, ◌≡◌}
+use Rattle.std.proofs.Common.{List, None, Option, Some, [], ap, append-nil, append_assoc, arith, length, refl, subst, sym, take, ℕ, ◌+◌, ◌++◌, ◌-◌, ◌<◌, ◌∙◌, ◌≡◌, ◌≤◌}
+use Rattle.std.proofs.lemmas.List.{length-append, length-take-le}
 use Rattle.std.specs.Prelude.{IfSome}
 
 -- nothing is read of all
@@ -37,3 +38,19 @@ end_read first before after read buf count e f none h =
 pub of_all : (P : List ℕ → Type 0) (all : Option (List ℕ)) (read : List ℕ) → IfSome all (λ (bytes : List ℕ). read ≡ bytes) → P read → IfSome all P
 of_all P None read h p = tt
 of_all P (Some bytes) read h p = subst P h p
+
+-- more is read than there may be
+long_read : (first left : Option (List ℕ)) (read : List ℕ) (most : ℕ) → first ≡ bytes_before read left → most < length read → IfSome first (λ (all : List ℕ). most < length all)
+long_read None left read most e h = tt
+long_read (Some all) None read most e h = absurd cc
+long_read (Some all) (Some rest) read most e h =
+    let is : all ≡ read ++ rest = cc in
+    let parts : length all ≡ length read + length rest = ap length is ∙ length-append read rest in
+    omega (arith, h, parts)
+
+pub too_long : (first before after : Option (List ℕ)) (read buf : List ℕ) (count len most : ℕ) → first ≡ bytes_before read before → before ≡ bytes_before (take count buf) after →
+    len ≡ length read → count ≤ length buf → most - len < count → IfSome first (λ (all : List ℕ). most < length all)
+too_long first before after read buf count len most e f sized within over =
+    let parts : length (read ++ take count buf) ≡ length read + length (take count buf) = length-append read (take count buf) in
+    let some : length (take count buf) ≡ count = length-take-le count buf within in
+    long_read first after (read ++ take count buf) most (more_read first before after read (take count buf) e f) (omega (arith, sized, over, parts, some))

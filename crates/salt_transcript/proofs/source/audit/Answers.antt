@@ -2,7 +2,7 @@ use Rattle.salt_audit.specs.Transcripts.{IsVerdict}
 use Rattle.salt_audit.specs.declared.verdict.Verdict.{Verdict}
 use Rattle.salt_transcript.proofs.Pieces.{of_all}
 use Rattle.salt_transcript.proofs.source.audit.Goals as goal
-use Rattle.salt_transcript.specs.declared.source.AuditErr.TheVariants.{ReadFault}
+use Rattle.salt_transcript.specs.declared.source.AuditErr.TheVariants.{ReadFault, TooLong}
 use Rattle.std.proofs.Common.{Err, List, ap, subst, sym, ℕ, ◌≡◌}
 
 pub returns-clause-verdict : goal.returns-clause-verdict
@@ -22,3 +22,9 @@ returns-in_err-bytes-clause-fault g c = λ is.
     let same = rw is at c.from_residual.ensures.1 in
     let fault : c.in_err-bytes.field-0.0 ≡ ReadFault = sym same in
     c.in_err-bytes.ensures.fault (ap Err fault)
+
+pub returns-in_err-bytes-clause-long : goal.returns-in_err-bytes-clause-long
+returns-in_err-bytes-clause-long g c = λ is.
+    let same = rw is at c.from_residual.ensures.1 in
+    let long : c.in_err-bytes.field-0.0 ≡ TooLong = sym same in
+    c.in_err-bytes.ensures.long (ap Err long)

@@ -1,7 +1,8 @@
 use Rattle.salt_io.specs.Streams.{Rose, bytes_before}
-use Rattle.salt_transcript.proofs.Pieces.{end_read, more_read, none_read}
+use Rattle.salt_transcript.proofs.Pieces.{end_read, more_read, none_read, too_long}
 use Rattle.salt_transcript.proofs.source.read_all.Goals as goal
-use Rattle.std.proofs.Common.{List, arith, refl, rules, subst, sym, take, ℕ, ◌∙◌, ◌≡◌}
+use Rattle.salt_transcript.specs.declared.source.TheConstants.{TRANSCRIPT_MOST}
+use Rattle.std.proofs.Common.{List, arith, refl, rules, subst, sym, take, vec_len, ℕ, ◌-◌, ◌<◌, ◌∙◌, ◌≡◌}
 use Rattle.std.proofs.lemmas.List.{length-take-le}
 
 pub reads-init : goal.reads-init
@@ -42,3 +43,10 @@ returns-then-count-eq0-clause-all g c =
 pub returns-in_err-count-clause-fault : goal.returns-in_err-count-clause-fault
 returns-in_err-count-clause-fault g c = λ is.
     subst (λ (first : ℕ). Rose first (g.S.Source.faults c.read.new.self)) c.reads.invariant.faults c.in_err-count.ensures.failed
+
+pub returns-then-len-count-clause-long : goal.returns-then-len-count-clause-long
+returns-then-len-count-clause-long g c = λ is.
+    let left = g.S.Source.left in
+    let over : TRANSCRIPT_MOST - vec_len c.reads.bytes < c.in_ok-count.count = omega (arith, c.if-len-count.true, c.len.ensures) in
+    too_long (left c.args.source.now) (left c.reads.source) (left c.read.new.self) c.reads.bytes.items c.read.new.buf c.in_ok-count.count (vec_len c.reads.bytes) TRANSCRIPT_MOST
+    c.reads.invariant.read c.in_ok-count.ensures.taken c.reads.bytes.ok.0 c.in_ok-count.ensures.within over
