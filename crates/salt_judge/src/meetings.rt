@@ -13,12 +13,12 @@ ghost use Rattle.std.specs.Prelude.{IfOk, OnOk, [], if◌then◌else◌, ◌++�
 use crate::met::{Ending, Meetings, Met, Touch};
 use crate::readers::reach_of;
 use crate::reads::Reads;
-use crate::salted::{add_if, is_free, program_in};
+use crate::salted::{is_free, program_in};
 use salt_ast::Statement;
 use salt_eval::ViewErr;
 use salt_model::{End, Event, Mode, Reach};
 use salt_values::{Id, Ids};
-use salt_verdict::Ledger;
+use salt_verdict::{Ledger, add_if};
 use sqlite_items::Items;
 use std::alloc::{AllocError, Global};
 use std::collections::BTreeMap;

@@ -14,14 +14,13 @@ ghost use Rattle.std.specs.Option.{option_copied};
 ghost use Rattle.std.specs.Prelude.{IfOk, OnOk, [], if◌then◌else◌, ◌++◌, ◌||◌, ◌∷◌, ◌≡◌};
 
 use crate::reads::{Opening, Reads, Sources, Writing};
-use crate::salted::add_if;
 use salt_ast::Statement;
 use salt_audit::{Marks, mark_all};
 use salt_books::program_of;
 use salt_eval::ViewErr;
 use salt_model::{End, Event, Reach};
 use salt_values::{Change, Id, Ids, TryCopy, drop_ids, has_id};
-use salt_verdict::{Again, Ledger, run_again};
+use salt_verdict::{Again, Ledger, add_if, run_again};
 use sqlite_items::Items;
 use std::alloc::{AllocError, Global};
 use std::cmp::Ordering;

@@ -2,7 +2,7 @@
 
 ghost use Rattle.salt_judge.specs.Reads.{is_free, program_in, unsalted_by, unsalted_of};
 ghost use Rattle.salt_judge.specs.Searching.{AreSettled, IsLinked};
-ghost use Rattle.std.specs.Prelude.{IfOk, OnOk, [], if◌then◌else◌, ◌++◌, ◌∷◌, ◌≡◌};
+ghost use Rattle.std.specs.Prelude.{IfOk, OnOk, ◌≡◌};
 
 use crate::reads::Reads;
 use crate::search::unsettled_from;
@@ -23,15 +23,6 @@ pub fn program_in(ledger: &Ledger, unit: Id) -> Option<Id>
         Some(note) => program_of(&note.kind),
         None => None,
     }
-}
-
-pub fn add_if(ids: &mut Ids, unit: Id, is: bool) -> Result<(), AllocError>
-    ensures { OnOk result (ids.new ≡ ids.old ++ (if is then unit ∷ [] else [])) }
-{
-    if is {
-        ids.push(unit)?;
-    }
-    Ok(())
 }
 
 /// Whether a program is released; a unit of none is free.

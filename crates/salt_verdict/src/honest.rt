@@ -36,7 +36,8 @@ fn is_unfaithful(alloc: Global, ledger: &Ledger, unit: Id) -> Result<bool, ViewE
     Ok(!replays(alloc, ledger, unit)?)
 }
 
-fn add_if(ids: &mut Ids, unit: Id, is: bool) -> Result<(), AllocError>
+/// Puts a name behind these, if it is to be there.
+pub fn add_if(ids: &mut Ids, unit: Id, is: bool) -> Result<(), AllocError>
     ensures { OnOk result (ids.new ≡ ids.old ++ (if is then unit ∷ [] else [])) }
 {
     if is {

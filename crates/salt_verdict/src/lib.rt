@@ -15,7 +15,7 @@ mod steps;
 mod variables;
 
 pub use again::{Again, do_again};
-pub use honest::{amiss, unfaithful};
+pub use honest::{add_if, amiss, unfaithful};
 pub use laws::{
     changes_tell_the_unfaithful, holding_goes_on, honest_is_exact, runs_make_the_tables,
 };
