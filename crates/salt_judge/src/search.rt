@@ -5,7 +5,7 @@ ghost use Rattle.salt_values.specs.declared.id.Id.{Id};
 ghost use Rattle.salt_judge.specs.Reads.{chained, near, parts_near, program_in, sources_in};
 ghost use Rattle.salt_audit.specs.Marks.{AreMarks};
 ghost use Rattle.salt_judge.specs.Searching.{AreSettled, IsLinked, are_free, is_new, visited, visited_all};
-ghost use Rattle.std.specs.Prelude.{IfOk, None, OnOk, OnSome, if◌then◌else◌, is_some, length, not, slice_get, ◌&&◌, ◌+◌, ◌++◌, ◌<◌, ◌∷◌, ◌≡◌};
+ghost use Rattle.std.specs.Prelude.{[], IfOk, None, OnOk, OnSome, if◌then◌else◌, is_some, not, slice_get, ◌&&◌, ◌+◌, ◌++◌, ◌<◌, ◌^◌, ◌∷◌, ◌≡◌};
 
 use crate::reads::{Reads, Sources};
 use crate::salted::{is_free, program_in};
@@ -148,24 +148,16 @@ fn visit_near(
     Ok(())
 }
 
-fn item_at(ids: &Ids, at: usize) -> Option<Id>
+/// The name at a place, behind which there is a next place.
+fn item_at(ids: &[Id], at: usize) -> Option<Id>
     ensures value { result ≡ slice_get ids.now at }
-    ensures within { OnSome result (at < length ids.now) }
+    ensures next { OnSome result (at + 1 < 2 ^ 64) }
 {
-    match ids.get(at) {
-        Some(id) => Some(*id),
-        None => None,
-    }
-}
-
-fn place_after(at: usize) -> Result<usize, AllocError>
-    ensures { IfOk result (λ next. next ≡ at + 1) }
-{
-    at.checked_add(1).ok_or(AllocError)
+    if at < ids.len() { Some(ids[at]) } else { None }
 }
 
 /// The units that are not settled to which chains lead from a unit of no program; none where one of them is of a program that is not
-/// released. `AllocError` too where more units are found than have begun, which are all there are.
+/// released.
 pub fn unsettled_from(
     alloc: Global,
     ledger: &Ledger,
@@ -180,20 +172,15 @@ pub fn unsettled_from(
     let mut ids = Items::new(alloc);
     let mut marks = no_marks(alloc);
     visit_near(ledger, reads, settled, &mut ids, &mut marks, unit)?;
-    let mut left = ledger.order.len();
-    let mut at = 0;
+    let mut at: usize = 0;
     'search: loop {
-        let Some(next) = item_at(&ids, at) else {
+        let Some(next) = item_at(ids.as_slice(), at) else {
             return Ok(Some(Found { ids, marks }));
         };
         if !is_free(&reads.released, program_in(ledger, next)) {
             return Ok(None);
         }
-        if left == 0 {
-            return Err(AllocError);
-        }
         visit_near(ledger, reads, settled, &mut ids, &mut marks, next)?;
-        left -= 1;
-        at = place_after(at)?;
+        at += 1;
     }
 }

@@ -1,6 +1,7 @@
 use Rattle.salt_judge.proofs.search.unsettled_from.Given as goal
 use Rattle.salt_audit.specs.Marks.{AreMarks}
 use Rattle.salt_judge.specs.Searching.{IsLinked, Searched}
+use Rattle.std.proofs.Common.{◌-◌, ◌^◌}
 
 abbrev pub invariant-search : goal.invariant-search
 invariant-search l = record {
@@ -9,4 +10,4 @@ invariant-search l = record {
 }
 
 abbrev pub decreases-search : goal.decreases-search
-decreases-search l = l.left
+decreases-search l = 2 ^ 64 - l.at
