@@ -74,7 +74,7 @@ record IsSame (a b : Trace) (u : Id) : Type 0 where
 carried : (a b : Trace) (u : Id) (o : Option Begun) → IsSame a b u → TellsUnit a u o → TellsUnit b u o
 carried a b u None same t = record { there = same.kind ∙ t.there; standing = same.standing ∙ t.standing }
 carried a b u (Some n) same t =
-    record { kind = same.kind ∙ t.kind; standing = same.standing ∙ t.standing; block = same.block ∙ t.block; done = same.done ∙ t.done }
+    record { kind = same.kind ∙ t.kind; standing = same.standing ∙ t.standing; block = λ runs. same.block ∙ t.block (sym same.standing ∙ runs); done = same.done ∙ t.done }
 
 module _ (s : State) (trace : Trace) (k : Knows s trace) where
   unit : (u : Id) → TellsUnit trace u (begun_in u s.units)
@@ -93,7 +93,7 @@ module _ (s : State) (trace : Trace) (k : Knows s trace) where
 
   begins : (u v : Id) (kind : UnitKind) (t : Bool) → is_same_id u v ≡ t →
       TellsUnit (trace says event.Began v kind) u (if t then Some (begins_as s v kind) else begun_in u s.units)
-  begins u v kind true same = record { kind = rw same refl; standing = rw same refl; block = rw same (blocks kind); done = rw same refl }
+  begins u v kind true same = record { kind = rw same refl; standing = rw same refl; block = λ runs. rw same (blocks kind); done = rw same refl }
   begins u v kind false other =
       carried trace (trace says event.Began v kind) u (begun_in u s.units)
       (record { kind = rw other refl; standing = rw other refl; block = rw other refl; done = rw other refl }) (unit u)
@@ -107,7 +107,7 @@ module _ (s : State) (trace : Trace) (k : Knows s trace) where
       record {
         kind = t.kind;
         standing = rw same (sym runs ∙ t.standing);
-        block = t.block;
+        block = λ still. t.block runs;
         done = rw same (length-append (done_of u trace) (st ∷ []) ∙ ap (λ m. m + 1) t.done);
       }
 
@@ -133,7 +133,9 @@ module _ (s : State) (trace : Trace) (k : Knows s trace) where
 
   ends_one : (u v : Id) (e : End) (o : Option Begun) → is_same_id u v ≡ true → TellsUnit trace u o → TellsUnit (trace says event.Ended v e) u (option_map over o)
   ends_one u v e None same t = record { there = t.there; standing = rw same refl }
-  ends_one u v e (Some n) same t = record { kind = t.kind; standing = rw same refl; block = t.block; done = t.done }
+  ends_one u v e (Some n) same t =
+      let closed : is_open (trace says event.Ended v e) u ≡ false = rw same refl in
+      record { kind = t.kind; standing = closed; block = λ runs. absurd (true≢false (sym runs ∙ closed)); done = t.done }
 
   ends : (u v : Id) (e : End) (t : Bool) → is_same_id u v ≡ t →
       TellsUnit (trace says event.Ended v e) u (if t then option_map over (begun_in u s.units) else begun_in u s.units)

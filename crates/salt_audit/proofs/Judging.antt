@@ -20,7 +20,7 @@ use Rattle.salt_model.specs.declared.events.UnitKind.TheVariants.{Acid, Call, Fi
 use Rattle.salt_model.specs.declared.events.UnitKind.{UnitKind}
 use Rattle.salt_values.specs.Id.{has_id}
 use Rattle.salt_values.specs.declared.id.Id.{Id}
-use Rattle.std.proofs.Common.{None, Option, Some, ap, if◌then◌else◌, is_none, option_map, refl, sym, ◌&&◌, ◌∙◌, ◌≡◌}
+use Rattle.std.proofs.Common.{Bool, None, Option, Some, ap, false, if◌then◌else◌, is_none, option_map, refl, sym, true, ◌&&◌, ◌∙◌, ◌≡◌}
 use Rattle.std.specs.List.{list_all}
 
 module _ (s : State) (trace : Trace) (k : Knows s trace) where
@@ -42,18 +42,24 @@ module _ (s : State) (trace : Trace) (k : Knows s trace) where
   opens u None t = sym t.standing
   opens u (Some n) t = sym t.standing
 
-  by_kind : (u : Id) (st : Statement) (n : Begun) → TellsUnit trace u (Some n) → (kind : UnitKind) → fits_kind s st (next_of n) kind ≡ may_do trace u st (Some kind)
-  by_kind u st n t (Acid m) = rw k.schema refl
-  by_kind u st n t (Call m name args) = rw t.block (rw t.done refl)
-  by_kind u st n t (First m b name args) = rw t.block (rw t.done refl)
-  by_kind u st n t (Later b part) = rw t.block (rw t.done refl)
+  by_kind : (u : Id) (st : Statement) (n : Begun) → TellsUnit trace u (Some n) → is_open trace u ≡ true → (kind : UnitKind) →
+      fits_kind s st (next_of n) kind ≡ may_do trace u st (Some kind)
+  by_kind u st n t runs (Acid m) = rw k.schema refl
+  by_kind u st n t runs (Call m name args) = rw (t.block runs) (rw t.done refl)
+  by_kind u st n t runs (First m b name args) = rw (t.block runs) (rw t.done refl)
+  by_kind u st n t runs (Later b part) = rw (t.block runs) (rw t.done refl)
 
-  fits : (u : Id) (st : Statement) (n : Begun) → TellsUnit trace u (Some n) → fits_unit s st n ≡ may_do trace u st (kind_of u trace)
-  fits u st n t = by_kind u st n t n.kind ∙ sym (ap (may_do trace u st) t.kind)
+  fits : (u : Id) (st : Statement) (n : Begun) → TellsUnit trace u (Some n) → is_open trace u ≡ true → fits_unit s st n ≡ may_do trace u st (kind_of u trace)
+  fits u st n t runs = by_kind u st n t runs n.kind ∙ sym (ap (may_do trace u st) t.kind)
+
+  open_fits : (u : Id) (st : Statement) (n : Begun) → TellsUnit trace u (Some n) → (runs : Bool) → is_open trace u ≡ runs →
+      (runs && fits_unit s st n) ≡ (runs && may_do trace u st (kind_of u trace))
+  open_fits u st n t true is = fits u st n t is
+  open_fits u st n t false over = refl
 
   does : (u : Id) (st : Statement) (o : Option Begun) → TellsUnit trace u o → may_do_by s st o ≡ (is_open trace u && may_do trace u st (kind_of u trace))
   does u st None t = rw t.standing refl
-  does u st (Some n) t = rw t.standing (ap (λ f. n.is_open && f) (fits u st n t))
+  does u st (Some n) t = rw t.standing (open_fits u st n t n.is_open t.standing)
 
   defines : (o : Option Definition) → may_define_by s (option_map of.line_defining o) ≡ may_define trace o
   unfolding line_fault

@@ -11,12 +11,12 @@ use Rattle.salt_model.specs.Trace.{Trace}
 use Rattle.salt_model.specs.Units.{done_of, is_open, kind_of}
 use Rattle.salt_values.specs.declared.cont.Cont.{Cont}
 use Rattle.salt_values.specs.declared.id.Id.{Id}
-use Rattle.std.specs.Prelude.{List, None, Option, Some, false, length, map, ℕ, ◌≡◌}
+use Rattle.std.specs.Prelude.{List, None, Option, Some, false, length, map, true, ℕ, ◌≡◌}
 
 pub record IsUnit (trace : Trace) (u : Id) (n : Begun) : Type 0 where
   pub kind : kind_of u trace ≡ Some n.kind
   pub standing : is_open trace u ≡ n.is_open
-  pub block : block_of u trace ≡ n.block
+  pub block : is_open trace u ≡ true → block_of u trace ≡ n.block
   pub done : length (done_of u trace) ≡ n.done
 
 -- a unit that has not begun is not open

@@ -82,8 +82,9 @@ begins_as s u kind = record { name = u; kind = kind; is_open = true; block = blo
 abbrev pub one_more : Begun → Begun
 one_more n = record n { done = n.done + 1 }
 
+-- a unit that is over does no statement more
 abbrev pub over : Begun → Begun
-over n = record n { is_open = false }
+over n = record n { is_open = false; block = None }
 
 abbrev pub unit_by : Event → State → Id → Option Begun
 unit_by (Began v kind) s u = if is_same_id u v then Some (begins_as s v kind) else begun_in u s.units

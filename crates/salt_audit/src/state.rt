@@ -13,7 +13,7 @@ pub struct Begun {
     pub name: Id,
     pub kind: UnitKind,
     pub is_open: bool,
-    /// The statements that it has to do, as its program was when it began; a session's own has none.
+    /// The statements that it has to do, as its program was when it began, while it is open; a session's own has none.
     pub block: Option<Statements>,
     /// How many it has done.
     pub done: u64,

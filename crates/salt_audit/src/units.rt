@@ -49,7 +49,7 @@ pub fn count(units: &mut Units, unit: Id) -> Result<(), AllocError>
     Ok(())
 }
 
-/// A unit is over.
+/// A unit is over, and its block is let go.
 pub fn close(units: &mut Units, unit: Id)
     ensures { (u : Id) → begun_in u units.new
         ≡ (if is_same_id u unit then option_map over (begun_in u units.old) else begun_in u units.old) }
@@ -58,4 +58,5 @@ pub fn close(units: &mut Units, unit: Id)
         return;
     };
     note.is_open = false;
+    note.block = None;
 }
