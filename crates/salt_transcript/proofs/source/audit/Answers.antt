@@ -3,7 +3,8 @@ use Rattle.salt_audit.specs.declared.verdict.Verdict.{Verdict}
 use Rattle.salt_transcript.proofs.Pieces.{of_all}
 use Rattle.salt_transcript.proofs.source.audit.Goals as goal
 use Rattle.salt_transcript.specs.declared.source.AuditErr.TheVariants.{ReadFault, TooLong}
-use Rattle.std.proofs.Common.{Err, List, ap, subst, sym, ℕ, ◌≡◌}
+use Rattle.salt_transcript.specs.declared.source.TheConstants.{TRANSCRIPT_MOST}
+use Rattle.std.proofs.Common.{Err, List, ap, arith, length, subst, sym, ℕ, ◌≡◌, ◌≤◌}
 
 pub returns-clause-verdict : goal.returns-clause-verdict
 returns-clause-verdict g c =
@@ -28,3 +29,8 @@ returns-in_err-bytes-clause-long g c = λ is.
     let same = rw is at c.from_residual.ensures.1 in
     let long : c.in_err-bytes.field-0.0 ≡ TooLong = sym same in
     c.in_err-bytes.ensures.long (ap Err long)
+
+pub returns-clause-within : goal.returns-clause-within
+returns-clause-within g c =
+    of_all (λ (bytes : List ℕ). length bytes ≤ TRANSCRIPT_MOST) (g.S.Source.left c.args.source.now) c.in_ok-bytes.bytes.items c.in_ok-bytes.ensures.all
+    (omega (arith, c.in_ok-bytes.ensures.within, c.in_ok-bytes.bytes.ok.0))

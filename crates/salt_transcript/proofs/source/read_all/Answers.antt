@@ -50,3 +50,18 @@ returns-then-len-count-clause-long g c = λ is.
     let over : TRANSCRIPT_MOST - vec_len c.reads.bytes < c.in_ok-count.count = omega (arith, c.if-len-count.true, c.len.ensures) in
     too_long (left c.args.source.now) (left c.reads.source) (left c.read.new.self) c.reads.bytes.items c.read.new.buf c.in_ok-count.count (vec_len c.reads.bytes) TRANSCRIPT_MOST
     c.reads.invariant.read c.in_ok-count.ensures.taken c.reads.bytes.ok.0 c.in_ok-count.ensures.within over
+
+pub returns-then-count-eq0-clause-no_fault : goal.returns-then-count-eq0-clause-no_fault
+returns-then-count-eq0-clause-no_fault g c = λ other. c.in_ok-count.ensures.same ∙ c.reads.invariant.faults
+
+pub returns-then-count-eq0-clause-later : goal.returns-then-count-eq0-clause-later
+returns-then-count-eq0-clause-later g c = omega (arith, c.in_ok-count.ensures.same, c.reads.invariant.faults)
+
+pub returns-then-len-count-clause-no_fault : goal.returns-then-len-count-clause-no_fault
+returns-then-len-count-clause-no_fault g c = λ other. c.in_ok-count.ensures.same ∙ c.reads.invariant.faults
+
+pub returns-then-len-count-clause-later : goal.returns-then-len-count-clause-later
+returns-then-len-count-clause-later g c = omega (arith, c.in_ok-count.ensures.same, c.reads.invariant.faults)
+
+pub returns-in_err-count-clause-later : goal.returns-in_err-count-clause-later
+returns-in_err-count-clause-later g c = omega (arith, c.in_err-count.ensures.later, c.reads.invariant.faults)
