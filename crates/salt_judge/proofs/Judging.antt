@@ -29,7 +29,7 @@ pub record Known (old new : Judge) (e : Event) : Type 0 where
   pub settled : AreSettled old.ledger old.reads old.settled → AreSettled new.ledger new.reads old.settled
   pub searched : AreSettled new.ledger new.reads old.settled → AreSettled new.ledger new.reads new.settled
   pub changes : AreFaithful old.ledger → unfaithful_in new.ledger ≡ unfaithful_by e new.ledger
-  pub honest : (trace : Trace) → Holds old.ledger trace → Holds new.ledger (told trace e) → dishonest_by old.ledger new.ledger e ≡ dishonest trace e
+  pub honest : (trace : Trace) → Holds old.ledger trace → is_formed_by trace e ≡ true → Holds new.ledger (told trace e) → dishonest_by old.ledger new.ledger e ≡ dishonest trace e
 
 -- what is known of a trace behind an event, whatever it breaks
 pub record Told (new : Judge) (trace : Trace) : Type 0 where
@@ -49,7 +49,7 @@ module _ (old new : Judge) (e : Event) (k : Known old new e) (trace : Trace) (h 
       broken_in new (amiss_by old.ledger e) salted e ≡ broken_by trace e
   judged_then salted same whole =
       let honest : unfaithful_by e new.ledger ++ amiss_by old.ledger e ≡ dishonest trace e =
-      ap (λ (us : List Id). us ++ amiss_by old.ledger e) (sym (k.changes h.faithful)) ∙ k.honest trace h.ledger told_then.ledger in
+      ap (λ (us : List Id). us ++ amiss_by old.ledger e) (sym (k.changes h.faithful)) ∙ k.honest trace h.ledger (k.formed trace h.ledger) told_then.ledger in
       λ i. option_or (breaking Honest (honest i)) (option_or (breaking Salted (same i)) (breaking Whole (whole i)))
 
   no_first : (o p : Option Break) → option_or o p ≡ None → o ≡ None
@@ -79,6 +79,6 @@ module _ (old new : Judge) (e : Event) (k : Known old new e) (trace : Trace) (h 
     meetings = told_then.meetings;
     faithful =
         none_before (unfaithful_in new.ledger) (amiss_by old.ledger e)
-        (k.honest trace h.ledger told_then.ledger ∙ none_breaks (dishonest trace e) (no_first (breaking Honest (dishonest trace e)) _ sound));
+        (k.honest trace h.ledger (k.formed trace h.ledger) told_then.ledger ∙ none_breaks (dishonest trace e) (no_first (breaking Honest (dishonest trace e)) _ sound));
     settled = k.searched (k.settled h.settled);
   }

@@ -26,7 +26,7 @@ use Rattle.salt_model.specs.declared.events.UnitKind.{UnitKind}
 use Rattle.salt_model.specs.declared.locks.Reach.{Reach}
 use Rattle.salt_values.specs.Id.{is_same_id}
 use Rattle.salt_values.specs.declared.id.Id.{Id}
-use Rattle.salt_verdict.proofs.Active.{may, new_unit}
+use Rattle.salt_verdict.proofs.Active.{does_open, may, new_unit}
 use Rattle.salt_verdict.proofs.Going.{run_same}
 use Rattle.salt_judge.proofs.Reading.{program_same}
 use Rattle.salt_verdict.specs.Ledger.{Holds}
@@ -154,15 +154,15 @@ module _ (l : Ledger) (s : Reads) (m : Meetings) (trace : Trace) (h : Holds l tr
   live_same : (t : Trace) → HoldsReads s t → (u : Id) → not (is_program_released t (program_of u trace)) ≡ not (is_free s.released (program_in l u))
   live_same t k u = ap not (ap (is_program_released t) (program_same l trace h u) ∙ free_behind t k (program_in l u))
 
-  reach_same : (u : Id) (st : Statement) → reach_now u trace st ≡ reach_by l u st
-  reach_same u st = λ i. reach (h.knows.schema i) (run_same l trace h u i).vars st
+  reach_same : (u : Id) (st : Statement) → is_open trace u ≡ true → reach_now u trace st ≡ reach_by l u st
+  reach_same u st runs = λ i. reach (h.knows.schema i) (run_same l trace h u runs i).vars st
 
-  live_did : (a : Id) (st : Statement) (x : Answer) → HoldsReads s (told trace (event.Did a st x)) →
+  live_did : (a : Id) (st : Statement) (x : Answer) → is_open trace a ≡ true → HoldsReads s (told trace (event.Did a st x)) →
       live (told trace (event.Did a st x)) ≡ map touch_told (m.taken.items ++ (if is_free s.released (program_in l a) then [] else touches_of a (reach_by l a st)))
-  live_did a st x k =
+  live_did a st x runs k =
       let free = is_free s.released (program_in l a) in
       filter-append unreleased (taken_in trace) (locks.taken_by a (reach_now a trace st))
-      ∙ (λ i. w.taken i ++ filter unreleased (locks.taken_by a (reach_same a st i)))
+      ∙ (λ i. w.taken i ++ filter unreleased (locks.taken_by a (reach_same a st runs i)))
       ∙ ap (λ (ts : List locks.Taken). map touch_told m.taken.items ++ ts)
       (one_filtered unreleased a (reach_by l a st) free (λ r. live_same (trace says event.Did a st x) k a))
       ∙ map_app m.taken.items (if free then [] else touches_of a (reach_by l a st))
@@ -231,10 +231,10 @@ module _ (l : Ledger) (s : Reads) (m : Meetings) (trace : Trace) (h : Holds l tr
 
   goes : (e : Event) → HoldsReads s (told trace e) → is_formed_by trace e ≡ true → Goes e
   goes (event.Did a st x) k f = record {
-    taken = live_did a st x k;
+    taken = live_did a st x (does_open trace a st x f) k;
     begun = every_app (HasBegun trace) (taken_in trace) (locks.taken_by a (reach_now a trace st)) w.begun
         (one_begun trace a (reach_now a trace st) (did_begun trace a st (kind_of a trace) (may_do_of trace a st x f)));
-    met = (λ i. if is_none (program_of a trace) then law.met_by trace a (reach_same a st i) ++ law.meetings trace else law.meetings trace)
+    met = (λ i. if is_none (program_of a trace) then law.met_by trace a (reach_same a st (does_open trace a st x f) i) ++ law.meetings trace else law.meetings trace)
         ∙ met_more a (reach_by l a st) (is_none (program_of a trace))
         ∙ (λ i. map met_told ((if is_none (program_same l trace h a i) then met_of a (reach_by l a st) m.taken.items else []) ++ m.met));
     committed = λ u. still (is_same_id u a) u (w.committed u) Running refl;

@@ -13,7 +13,7 @@ use Rattle.salt_model.specs.Reads as model
 use Rattle.salt_model.specs.Reads.{last_of_each, is_written_at, written_at}
 use Rattle.salt_model.specs.Tables.{is_within}
 use Rattle.salt_model.specs.Trace.{Trace, ◌says◌}
-use Rattle.salt_model.specs.Units.{is_of_program, kind_of, program_of, program_of_kind}
+use Rattle.salt_model.specs.Units.{is_of_program, is_open, kind_of, program_of, program_of_kind}
 use Rattle.salt_model.specs.Words.{widened}
 use Rattle.salt_model.specs.declared.events.End.TheVariants as end
 use Rattle.salt_model.specs.declared.events.End.{End}
@@ -24,7 +24,7 @@ use Rattle.salt_model.specs.declared.locks.Reach.{Reach}
 use Rattle.salt_values.specs.Id.{has_id, is_same_id, without}
 use Rattle.salt_values.specs.declared.change.Change.{Change}
 use Rattle.salt_values.specs.declared.id.Id.{Id}
-use Rattle.salt_verdict.proofs.Active.{new_unit}
+use Rattle.salt_verdict.proofs.Active.{does_open, ends_open, new_unit}
 use Rattle.salt_verdict.proofs.Going.{kind_noted, kind_same, run_same}
 use Rattle.salt_audit.proofs.Marking.{or_group}
 use Rattle.salt_verdict.proofs.Listed.{begun_listed, has_app, or_swap}
@@ -140,15 +140,15 @@ module _ (l : Ledger) (r : Reads) (trace : Trace) (h : Holds l trace) (k : Holds
       ∙ ap (map (λ (w : model.Written). w.unit)) (told_filtered (λ w. is_within c (written_at w)) r.last.items)
       ∙ units_told (filter (is_written_within c) r.last.items)
 
-  last_end : (u : Id) (e : End) → last_of_each (changed_in (told trace (event.Ended u e))) ≡ map writing_told (last_by (event.Ended u e) l r.last.items)
-  last_end u (end.Committed n) =
-      ap (λ (ds : List Edit). last_of_each (written_from u ds ++ changed_in trace)) (λ i. (run_same l trace h u i).changes.list)
+  last_end : (u : Id) (e : End) → is_open trace u ≡ true → last_of_each (changed_in (told trace (event.Ended u e))) ≡ map writing_told (last_by (event.Ended u e) l r.last.items)
+  last_end u (end.Committed n) runs =
+      ap (λ (ds : List Edit). last_of_each (written_from u ds ++ changed_in trace)) (λ i. (run_same l trace h u runs i).changes.list)
       ∙ last_put u (run_by l u).changes.list (changed_in trace) r.last.items k.last
-  last_end u (end.Failed c) = k.last
-  last_end u (end.Branched n c) = k.last
-  last_end u end.Cut = k.last
-  last_end u end.RolledBack = k.last
-  last_end u end.Victim = k.last
+  last_end u (end.Failed c) runs = k.last
+  last_end u (end.Branched n c) runs = k.last
+  last_end u end.Cut runs = k.last
+  last_end u end.RolledBack runs = k.last
+  last_end u end.Victim runs = k.last
 
   -- the subtransactions of a program, with a unit that begins
   began_parts : (v : Id) (kind : UnitKind) → kind_of v trace ≡ None → (b w : Id) → is_of_program b (told trace (event.Began v kind)) w ≡ has_id w (parts_by (event.Began v kind) r.parts b)
@@ -192,13 +192,13 @@ module _ (l : Ledger) (r : Reads) (trace : Trace) (h : Holds l trace) (k : Holds
     last = k.last;
     sources = λ u.
         let at : changers_in trace (reach_now v trace st) ≡ changers r.last.items (reach_by l v st) =
-        ap (changers_in trace) (λ i. reach (h.knows.schema i) (run_same l trace h v i).vars st) ∙ changers_same (reach_by l v st) in
+        ap (changers_in trace) (λ i. reach (h.knows.schema i) (run_same l trace h v (does_open trace v st x f) i).vars st) ∙ changers_same (reach_by l v st) in
         (λ i. if is_same_id u v then at i ++ k.sources u i else k.sources u i);
     released = k.released;
     freed = k.freed;
     parts = k.parts;
   }
-  goes (event.Ended u e) f = record { last = last_end u e; sources = k.sources; released = k.released; freed = k.freed; parts = k.parts }
+  goes (event.Ended u e) f = record { last = last_end u e (ends_open trace u e f); sources = k.sources; released = k.released; freed = k.freed; parts = k.parts }
   goes (event.Released bs) f = record { last = k.last; sources = k.sources; released = released_more bs; freed = k.freed; parts = k.parts }
   goes (event.Early names) f = record {
     last = k.last;

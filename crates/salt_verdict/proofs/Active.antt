@@ -1,11 +1,13 @@
 -- The open units behind an event that is formed.
 use Rattle.law_story.proofs.Ids.{is_same_id-refl, is_same_id-sym}
+use Rattle.salt_ast.specs.declared.trees.Statement.{Statement}
 use Rattle.salt_audit.proofs.Amiss.{both_true, id_is}
 use Rattle.salt_audit.specs.Formed.{is_formed_by, may_begin, may_come, may_do}
 use Rattle.salt_audit.specs.Retelling.{told}
 use Rattle.salt_model.specs.Phases.{has_opened}
 use Rattle.salt_model.specs.Trace.{Trace, ◌says◌}
 use Rattle.salt_model.specs.Units.{Over, Running, Standing, Waiting, is_open, is_open_standing, kind_of, open_units, standing, units_begun}
+use Rattle.salt_model.specs.declared.events.Answer.{Answer}
 use Rattle.salt_model.specs.declared.events.End.{End}
 use Rattle.salt_model.specs.declared.events.Event.TheVariants as event
 use Rattle.salt_model.specs.declared.events.Event.{Event}
@@ -32,6 +34,13 @@ pub new_unit : (trace : Trace) (v : Id) (kind : UnitKind) → is_formed_by trace
 new_unit trace v kind f =
     none_there (kind_of v trace)
     (both_true (is_none (kind_of v trace)) (may_begin trace kind) (may (has_opened trace) (may_come trace (event.Began v kind)) f)).0
+
+-- a unit that does a statement, and one that ends, is open before it
+pub does_open : (trace : Trace) (v : Id) (st : Statement) (a : Answer) → is_formed_by trace (event.Did v st a) ≡ true → is_open trace v ≡ true
+does_open trace v st a f = (both_true (is_open trace v) (may_do trace v st (kind_of v trace)) (may (has_opened trace) (may_come trace (event.Did v st a)) f)).0
+
+pub ends_open : (trace : Trace) (v : Id) (end : End) → is_formed_by trace (event.Ended v end) ≡ true → is_open trace v ≡ true
+ends_open trace v end f = may (has_opened trace) (is_open trace v) f
 
 -- BEGAN
 
@@ -99,8 +108,7 @@ stays trace u to still is =
 pub open_units_on : (trace : Trace) (e : Event) → is_formed_by trace e ≡ true → open_units (told trace e) ≡ active_by e (open_units trace)
 open_units_on trace (event.Began u kind) f = began trace u kind (new_unit trace u kind f)
 open_units_on trace (event.Ended u end) f = ended trace u end
-open_units_on trace (event.Did u st a) f =
-    stays trace u Running refl (both_true (is_open trace u) (may_do trace u st (kind_of u trace)) (may (has_opened trace) (may_come trace (event.Did u st a)) f)).0
+open_units_on trace (event.Did u st a) f = stays trace u Running refl (does_open trace u st a f)
 open_units_on trace (event.Waits u os) f = stays trace u Waiting refl (may (has_opened trace) (is_open trace u) f)
 open_units_on trace (event.Accepted b) f = refl
 open_units_on trace (event.Finished b) f = refl

@@ -12,19 +12,15 @@ use Rattle.salt_model.specs.declared.events.Event.TheVariants as event
 use Rattle.salt_model.specs.declared.events.Event.{Event}
 use Rattle.salt_values.specs.Id.{has_id, is_same_id}
 use Rattle.salt_values.specs.declared.id.Id.{Id}
+use Rattle.salt_verdict.proofs.Listed.{agreeing}
 use Rattle.salt_verdict.specs.After.{IsAfter, fresh, one_more}
 use Rattle.salt_verdict.specs.Ledger.{AreFaithful, act_in, answers_in, done_in, is_unfaithful, may_change, unfaithful_by, unfaithful_in, vars_in}
 use Rattle.salt_verdict.specs.Made.{tables_made}
 use Rattle.salt_verdict.specs.Variables.{vars_begun}
 use Rattle.salt_verdict.specs.declared.ledger.Act.{Act}
 use Rattle.salt_verdict.specs.declared.ledger.Ledger.{Ledger}
-use Rattle.std.proofs.Common.{Bool, List, Option, Some, [], ap, cond, false, if◌then◌else◌, inl, inr, not, refl, subst, sym, true, true≢false, ◌&&◌, ◌∙◌, ◌∷◌, ◌≡◌}
+use Rattle.std.proofs.Common.{Bool, List, None, Option, Some, [], ap, false, if◌then◌else◌, not, refl, subst, sym, true, true≢false, ◌&&◌, ◌||◌, ◌∙◌, ◌∷◌, ◌≡◌}
 use Rattle.std.specs.List.{filter}
-
--- a list filtered by tests that agree on its members
-agreeing : {A : Type 0} (p q : A → Bool) (xs : List A) → ((x : A) → In x xs → p x ≡ q x) → filter p xs ≡ filter q xs
-agreeing p q [] h = refl
-agreeing p q (x ∷ xs) h = λ i. cond (h x (inl refl) i) (x ∷ agreeing p q xs (λ y k. h y (inr k)) i) (agreeing p q xs (λ y k. h y (inr k)) i)
 
 -- by the tables, the schema and what the unit has done
 abbrev unfaithful_on : List TableDef → Tables → Option Act → Bool
@@ -69,13 +65,23 @@ module _ (l m : Ledger) (faithful : AreFaithful l) where
       left : (d : End) → IsAfter l m (event.Ended v d) → In u l.active.items
       left d w = (in-filter (λ (x : Id). not (has_id x (v ∷ []))) u l.active.items (subst (In u) w.active i)).0
 
+      not_one : (b : Bool) → not (b || false) ≡ true → b ≡ false
+      not_one true none = absurd cc
+      not_one false none = refl
+
+      other : (d : End) → IsAfter l m (event.Ended v d) → is_same_id u v ≡ false
+      other d w = not_one (is_same_id u v) (in-filter (λ (x : Id). not (has_id x (v ∷ []))) u l.active.items (subst (In u) w.active i)).1
+
+      act : (d : End) → IsAfter l m (event.Ended v d) → act_in u m.acts ≡ act_in u l.acts
+      act d w = w.acts u ∙ ap (λ (t : Bool). if t then None else act_in u l.acts) (other d w)
+
       by : (d : End) → IsAfter l m (event.Ended v d) → may_change (event.Ended v d) u ≡ false → is_unfaithful m u ≡ false
       by (end.Committed n) w none = absurd (true≢false none)
-      by (end.Failed c) w none = stays u (left (end.Failed c) w) w.state.schema w.rows (w.acts u)
-      by (end.Branched n c) w none = stays u (left (end.Branched n c) w) w.state.schema w.rows (w.acts u)
-      by end.Cut w none = stays u (left end.Cut w) w.state.schema w.rows (w.acts u)
-      by end.RolledBack w none = stays u (left end.RolledBack w) w.state.schema w.rows (w.acts u)
-      by end.Victim w none = stays u (left end.Victim w) w.state.schema w.rows (w.acts u)
+      by (end.Failed c) w none = stays u (left (end.Failed c) w) w.state.schema w.rows (act (end.Failed c) w)
+      by (end.Branched n c) w none = stays u (left (end.Branched n c) w) w.state.schema w.rows (act (end.Branched n c) w)
+      by end.Cut w none = stays u (left end.Cut w) w.state.schema w.rows (act end.Cut w)
+      by end.RolledBack w none = stays u (left end.RolledBack w) w.state.schema w.rows (act end.RolledBack w)
+      by end.Victim w none = stays u (left end.Victim w) w.state.schema w.rows (act end.Victim w)
   others_faithful (event.Defined n text) after u i none = absurd (true≢false none)
   others_faithful (event.Waits v os) after u i none = stays u (subst (In u) after.active i) after.state.schema after.rows (after.acts u)
   others_faithful (event.Accepted b) after u i none = stays u (subst (In u) after.active i) after.state.schema after.rows (after.acts u)

@@ -11,15 +11,17 @@ use Rattle.salt_ast.specs.Paths.{next_on_commit, next_on_failure}
 use Rattle.salt_ast.specs.declared.trees.Statement.{Statement}
 use Rattle.salt_books.proofs.Found.{cont_in-find}
 use Rattle.salt_model.specs.After.{conts_at, branched, kept, run_of, tables_after, vars_of}
+use Rattle.salt_model.specs.Phases.{has_opened}
 use Rattle.salt_model.specs.Statements.{Run, serial}
 use Rattle.salt_model.specs.Trace.{Trace}
-use Rattle.salt_model.specs.Units.{answers_of, done_of, kind_of, open_units, units_begun}
+use Rattle.salt_model.specs.Units.{answers_of, done_of, is_open, kind_of, open_units, units_begun}
 use Rattle.salt_model.specs.declared.events.Answer.{Answer}
 use Rattle.salt_model.specs.declared.events.Cause.{Cause}
 use Rattle.salt_model.specs.declared.events.End.TheVariants as end
 use Rattle.salt_model.specs.declared.events.End.{End}
 use Rattle.salt_model.specs.declared.events.Event.TheVariants as event
 use Rattle.salt_model.specs.declared.events.Event.{Event}
+use Rattle.salt_model.specs.declared.events.Owner.{Owner}
 use Rattle.salt_model.specs.declared.events.UnitKind.{UnitKind}
 use Rattle.salt_values.specs.Id.{is_same_id}
 use Rattle.salt_values.specs.declared.id.Id.{Id}
@@ -30,7 +32,7 @@ use Rattle.salt_model.specs.declared.events.UnitKind.TheVariants.{Acid, Call, Fi
 use Rattle.salt_model.specs.declared.vars.Binding.{Binding}
 use Rattle.salt_values.specs.declared.cont.Cont.{Cont}
 use Rattle.salt_values.specs.declared.value.Value.{Value}
-use Rattle.salt_verdict.proofs.Active.{open_units_on}
+use Rattle.salt_verdict.proofs.Active.{does_open, ends_open, may, open_units_on}
 use Rattle.salt_verdict.specs.After.{IsAfter, act_by, active_by, conts_after, fresh, one_more, order_by, rows_by}
 use Rattle.salt_verdict.specs.Goings.{begun_with, conts_kept, conts_noted, moved_with}
 use Rattle.salt_verdict.specs.Variables.{vars_begun, vars_called, vars_going, vars_placed}
@@ -38,7 +40,7 @@ use Rattle.salt_verdict.specs.declared.ledger.Act.{Act}
 use Rattle.salt_verdict.specs.Ledger.{Holds, act_in, answers_in, done_in, run_by, vars_in}
 use Rattle.salt_verdict.specs.Made.{tables_made}
 use Rattle.salt_verdict.specs.declared.ledger.Ledger.{Ledger}
-use Rattle.std.proofs.Common.{Bool, List, None, Option, Some, [], ap, false, if◌then◌else◌, map, option_and_then, option_map, refl, sym, true, ℕ, ◌++◌, ◌∙◌, ◌∷◌, ◌≡◌}
+use Rattle.std.proofs.Common.{Bool, List, None, Option, Some, [], ap, false, if◌then◌else◌, map, option_and_then, option_map, refl, sym, true, true≢false, ℕ, ◌++◌, ◌∙◌, ◌∷◌, ◌≡◌}
 
 abbrev pub kind_noted : Option Begun → Option UnitKind
 kind_noted o = option_map (λ (n : Begun). n.kind) o
@@ -88,29 +90,29 @@ failed_same b part (Some p) tries cs = refl
 -- WHAT A UNIT HAS DONE
 
 record Tells (u : Id) (t : Trace) (o : Option Act) : Type 0 where
-  vars : vars_of u t ≡ vars_in o
-  done : done_of u t ≡ done_in o
-  answers : answers_of u t ≡ answers_in o
+  vars : is_open t u ≡ true → vars_of u t ≡ vars_in o
+  done : is_open t u ≡ true → done_of u t ≡ done_in o
+  answers : is_open t u ≡ true → answers_of u t ≡ answers_in o
 
 module _ (l : Ledger) (trace : Trace) (h : Holds l trace) where
-  pub run_same : (u : Id) → run_of u trace ≡ run_by l u
-  run_same u = λ i. serial (h.knows.schema i) (h.tables i) (h.vars u i) (h.done u i)
+  pub run_same : (u : Id) → is_open trace u ≡ true → run_of u trace ≡ run_by l u
+  run_same u runs = λ i. serial (h.knows.schema i) (h.tables i) (h.vars u runs i) (h.done u runs i)
 
   kind_is : (u : Id) → kind_of u trace ≡ kind_noted (begun_in u l.state.units)
   kind_is u = kind_same trace u (begun_in u l.state.units) (h.knows.units u)
 
   -- an end
-  rows_end : (u : Id) (e : End) → tables_after (told trace (event.Ended u e)) ≡ rows_by (event.Ended u e) l
-  rows_end u (end.Committed n) = ap (λ (r : Run). r.tables) (run_same u)
-  rows_end u (end.Failed c) = h.tables
-  rows_end u (end.Branched n c) = branch (kind_of u trace)
+  rows_end : (u : Id) (e : End) → is_open trace u ≡ true → tables_after (told trace (event.Ended u e)) ≡ rows_by (event.Ended u e) l
+  rows_end u (end.Committed n) runs = ap (λ (r : Run). r.tables) (run_same u runs)
+  rows_end u (end.Failed c) runs = h.tables
+  rows_end u (end.Branched n c) runs = branch (kind_of u trace)
     where
       branch : (o : Option UnitKind) → (branched (kept trace) n o).tables ≡ tables_made l.rows
       branch None = h.tables
       branch (Some kind) = h.tables
-  rows_end u end.Cut = h.tables
-  rows_end u end.RolledBack = h.tables
-  rows_end u end.Victim = h.tables
+  rows_end u end.Cut runs = h.tables
+  rows_end u end.RolledBack runs = h.tables
+  rows_end u end.Victim runs = h.tables
 
   abbrev defined_in : List ProgramDef → Option Cont → Option ProgramDef
   defined_in catalogue o = option_and_then (λ (c : Cont). program_named catalogue c.program) o
@@ -160,49 +162,49 @@ module _ (l : Ledger) (trace : Trace) (h : Holds l trace) where
   failed_noted n c None = h.conts
   failed_noted n c (Some unit) = branched_same unit.kind
 
-  conts_end : (u : Id) (e : End) → (kept (told trace (event.Ended u e))).conts ≡ conts_after (event.Ended u e) l
-  conts_end u (end.Committed n) =
-      (λ i. conts_at (kept trace) n (kind_is u i) (run_same u i).vars) ∙ noted_same n (run_by l u).vars (begun_in u l.state.units)
-  conts_end u (end.Failed c) = h.conts
-  conts_end u (end.Branched n c) =
+  conts_end : (u : Id) (e : End) → is_open trace u ≡ true → (kept (told trace (event.Ended u e))).conts ≡ conts_after (event.Ended u e) l
+  conts_end u (end.Committed n) runs =
+      (λ i. conts_at (kept trace) n (kind_is u i) (run_same u runs i).vars) ∙ noted_same n (run_by l u).vars (begun_in u l.state.units)
+  conts_end u (end.Failed c) runs = h.conts
+  conts_end u (end.Branched n c) runs =
       ap (λ (o : Option UnitKind). (branched (kept trace) n o).conts) (kind_is u) ∙ failed_noted n c (begun_in u l.state.units)
-  conts_end u end.Cut = h.conts
-  conts_end u end.RolledBack = h.conts
-  conts_end u end.Victim = h.conts
+  conts_end u end.Cut runs = h.conts
+  conts_end u end.RolledBack runs = h.conts
+  conts_end u end.Victim runs = h.conts
 
-  rows_on : (e : Event) → tables_after (told trace e) ≡ rows_by e l
-  rows_on (event.Ended u e) = rows_end u e
-  rows_on (event.Began u k) = h.tables
-  rows_on (event.Did u st a) = h.tables
-  rows_on (event.Waits u os) = h.tables
-  rows_on (event.Accepted b) = h.tables
-  rows_on (event.Finished b) = h.tables
-  rows_on (event.Released bs) = h.tables
-  rows_on (event.Early bs) = h.tables
-  rows_on (event.Down w) = h.tables
-  rows_on (event.Opened boot n) = h.tables
-  rows_on event.Ready = h.tables
-  rows_on (event.Defined n text) = h.tables
-  rows_on (event.Refused r) = h.tables
-  rows_on (event.Armed pairs) = h.tables
-  rows_on (event.Shown items) = h.tables
+  rows_on : (e : Event) → is_formed_by trace e ≡ true → tables_after (told trace e) ≡ rows_by e l
+  rows_on (event.Ended u e) f = rows_end u e (ends_open trace u e f)
+  rows_on (event.Began u k) f = h.tables
+  rows_on (event.Did u st a) f = h.tables
+  rows_on (event.Waits u os) f = h.tables
+  rows_on (event.Accepted b) f = h.tables
+  rows_on (event.Finished b) f = h.tables
+  rows_on (event.Released bs) f = h.tables
+  rows_on (event.Early bs) f = h.tables
+  rows_on (event.Down w) f = h.tables
+  rows_on (event.Opened boot n) f = h.tables
+  rows_on event.Ready f = h.tables
+  rows_on (event.Defined n text) f = h.tables
+  rows_on (event.Refused r) f = h.tables
+  rows_on (event.Armed pairs) f = h.tables
+  rows_on (event.Shown items) f = h.tables
 
-  conts_on : (e : Event) → (kept (told trace e)).conts ≡ conts_after e l
-  conts_on (event.Ended u e) = conts_end u e
-  conts_on (event.Began u k) = h.conts
-  conts_on (event.Did u st a) = h.conts
-  conts_on (event.Waits u os) = h.conts
-  conts_on (event.Accepted b) = h.conts
-  conts_on (event.Finished b) = h.conts
-  conts_on (event.Released bs) = h.conts
-  conts_on (event.Early bs) = h.conts
-  conts_on (event.Down w) = h.conts
-  conts_on (event.Opened boot n) = h.conts
-  conts_on event.Ready = h.conts
-  conts_on (event.Defined n text) = h.conts
-  conts_on (event.Refused r) = h.conts
-  conts_on (event.Armed pairs) = h.conts
-  conts_on (event.Shown items) = h.conts
+  conts_on : (e : Event) → is_formed_by trace e ≡ true → (kept (told trace e)).conts ≡ conts_after e l
+  conts_on (event.Ended u e) f = conts_end u e (ends_open trace u e f)
+  conts_on (event.Began u k) f = h.conts
+  conts_on (event.Did u st a) f = h.conts
+  conts_on (event.Waits u os) f = h.conts
+  conts_on (event.Accepted b) f = h.conts
+  conts_on (event.Finished b) f = h.conts
+  conts_on (event.Released bs) f = h.conts
+  conts_on (event.Early bs) f = h.conts
+  conts_on (event.Down w) f = h.conts
+  conts_on (event.Opened boot n) f = h.conts
+  conts_on event.Ready f = h.conts
+  conts_on (event.Defined n text) f = h.conts
+  conts_on (event.Refused r) f = h.conts
+  conts_on (event.Armed pairs) f = h.conts
+  conts_on (event.Shown items) f = h.conts
 
   order_on : (e : Event) → units_begun (told trace e) ≡ order_by e l.order
   order_on (event.Began u k) = ap (λ (us : List Id). us ++ u ∷ []) h.order
@@ -222,41 +224,63 @@ module _ (l : Ledger) (trace : Trace) (h : Holds l trace) where
   order_on (event.Shown items) = h.order
 
   -- what a unit has done
-  still : (u : Id) (t : Trace) → vars_of u t ≡ vars_of u trace → done_of u t ≡ done_of u trace → answers_of u t ≡ answers_of u trace → Tells u t (act_in u l.acts)
-  still u t vars done answers = record { vars = vars ∙ h.vars u; done = done ∙ h.done u; answers = answers ∙ h.answers u }
+  still : (u : Id) (t : Trace) → is_open t u ≡ is_open trace u → vars_of u t ≡ vars_of u trace → done_of u t ≡ done_of u trace → answers_of u t ≡ answers_of u trace →
+      Tells u t (act_in u l.acts)
+  still u t stands vars done answers = record {
+    vars = λ runs. vars ∙ h.vars u (sym stands ∙ runs);
+    done = λ runs. done ∙ h.done u (sym stands ∙ runs);
+    answers = λ runs. answers ∙ h.answers u (sym stands ∙ runs);
+  }
 
   begins : (u v : Id) (kind : UnitKind) (t : Bool) → is_same_id u v ≡ t →
       Tells u (told trace (event.Began v kind)) (if t then Some (fresh (vars_begun l.state.catalogue l.state.conts kind)) else act_in u l.acts)
-  begins u v kind true same = record { vars = rw same (vars_same kind); done = rw same refl; answers = rw same refl }
-  begins u v kind false other = record { vars = rw other (h.vars u); done = rw other (h.done u); answers = rw other (h.answers u) }
+  begins u v kind true same = record { vars = λ runs. rw same (vars_same kind); done = λ runs. rw same refl; answers = λ runs. rw same refl }
+  begins u v kind false other =
+      still u (told trace (event.Began v kind)) (rw other refl) (rw other refl) (rw other refl) (rw other refl)
 
-  does : (u v : Id) (st : Statement) (a : Answer) (t : Bool) → is_same_id u v ≡ t →
+  does : (u v : Id) (st : Statement) (a : Answer) → is_open trace v ≡ true → (t : Bool) → is_same_id u v ≡ t →
       Tells u (told trace (event.Did v st a)) (if t then Some (one_more st a (act_in v l.acts)) else act_in u l.acts)
-  does u v st a true same =
+  does u v st a runs true same =
       let is : u ≡ v = id_is u v same in
+      let here : is_open trace u ≡ true = ap (is_open trace) is ∙ runs in
       record {
-        vars = h.vars u ∙ ap (λ (w : Id). vars_in (act_in w l.acts)) is;
-        done = rw same (ap (λ (sts : List Statement). sts ++ st ∷ []) (h.done u ∙ ap (λ (w : Id). done_in (act_in w l.acts)) is));
-        answers = rw same (ap (λ (as_ : List Answer). as_ ++ a ∷ []) (h.answers u ∙ ap (λ (w : Id). answers_in (act_in w l.acts)) is));
+        vars = λ now. h.vars u here ∙ ap (λ (w : Id). vars_in (act_in w l.acts)) is;
+        done = λ now. rw same (ap (λ (sts : List Statement). sts ++ st ∷ []) (h.done u here ∙ ap (λ (w : Id). done_in (act_in w l.acts)) is));
+        answers = λ now. rw same (ap (λ (as_ : List Answer). as_ ++ a ∷ []) (h.answers u here ∙ ap (λ (w : Id). answers_in (act_in w l.acts)) is));
       }
-  does u v st a false other = record { vars = h.vars u; done = rw other (h.done u); answers = rw other (h.answers u) }
+  does u v st a runs false other = still u (told trace (event.Did v st a)) (rw other refl) refl (rw other refl) (rw other refl)
 
-  acts_on : (e : Event) (u : Id) → Tells u (told trace e) (act_by e l.state l.acts u)
-  acts_on (event.Began v kind) u = begins u v kind (is_same_id u v) refl
-  acts_on (event.Did v st a) u = does u v st a (is_same_id u v) refl
-  acts_on (event.Ended v e) u = still u (told trace (event.Ended v e)) refl refl refl
-  acts_on (event.Waits v os) u = still u (told trace (event.Waits v os)) refl refl refl
-  acts_on (event.Accepted b) u = still u (told trace (event.Accepted b)) refl refl refl
-  acts_on (event.Finished b) u = still u (told trace (event.Finished b)) refl refl refl
-  acts_on (event.Released bs) u = still u (told trace (event.Released bs)) refl refl refl
-  acts_on (event.Early bs) u = still u (told trace (event.Early bs)) refl refl refl
-  acts_on (event.Down w) u = still u (told trace (event.Down w)) refl refl refl
-  acts_on (event.Opened boot n) u = still u (told trace (event.Opened boot n)) refl refl refl
-  acts_on event.Ready u = still u (told trace event.Ready) refl refl refl
-  acts_on (event.Defined n text) u = still u (told trace (event.Defined n text)) refl refl refl
-  acts_on (event.Refused r) u = still u (told trace (event.Refused r)) refl refl refl
-  acts_on (event.Armed pairs) u = still u (told trace (event.Armed pairs)) refl refl refl
-  acts_on (event.Shown items) u = still u (told trace (event.Shown items)) refl refl refl
+  ends : (u v : Id) (e : End) (t : Bool) → is_same_id u v ≡ t → Tells u (told trace (event.Ended v e)) (if t then None else act_in u l.acts)
+  ends u v e true same =
+      let closed : is_open (told trace (event.Ended v e)) u ≡ false = rw same refl in
+      record {
+        vars = λ runs. absurd (true≢false (sym runs ∙ closed));
+        done = λ runs. absurd (true≢false (sym runs ∙ closed));
+        answers = λ runs. absurd (true≢false (sym runs ∙ closed));
+      }
+  ends u v e false other = still u (told trace (event.Ended v e)) (rw other refl) refl refl refl
+
+  waits : (u v : Id) (os : List Owner) → is_open trace v ≡ true → (t : Bool) → is_same_id u v ≡ t → is_open (told trace (event.Waits v os)) u ≡ is_open trace u
+  waits u v os runs true same = rw same (sym (ap (is_open trace) (id_is u v same) ∙ runs))
+  waits u v os runs false other = rw other refl
+
+  acts_on : (e : Event) → is_formed_by trace e ≡ true → (u : Id) → Tells u (told trace e) (act_by e l.state l.acts u)
+  acts_on (event.Began v kind) f u = begins u v kind (is_same_id u v) refl
+  acts_on (event.Did v st a) f u = does u v st a (does_open trace v st a f) (is_same_id u v) refl
+  acts_on (event.Ended v e) f u = ends u v e (is_same_id u v) refl
+  acts_on (event.Waits v os) f u =
+      still u (told trace (event.Waits v os)) (waits u v os (may (has_opened trace) (is_open trace v) f) (is_same_id u v) refl) refl refl refl
+  acts_on (event.Accepted b) f u = still u (told trace (event.Accepted b)) refl refl refl refl
+  acts_on (event.Finished b) f u = still u (told trace (event.Finished b)) refl refl refl refl
+  acts_on (event.Released bs) f u = still u (told trace (event.Released bs)) refl refl refl refl
+  acts_on (event.Early bs) f u = still u (told trace (event.Early bs)) refl refl refl refl
+  acts_on (event.Down w) f u = still u (told trace (event.Down w)) refl refl refl refl
+  acts_on (event.Opened boot n) f u = still u (told trace (event.Opened boot n)) refl refl refl refl
+  acts_on event.Ready f u = still u (told trace event.Ready) refl refl refl refl
+  acts_on (event.Defined n text) f u = still u (told trace (event.Defined n text)) refl refl refl refl
+  acts_on (event.Refused r) f u = still u (told trace (event.Refused r)) refl refl refl refl
+  acts_on (event.Armed pairs) f u = still u (told trace (event.Armed pairs)) refl refl refl refl
+  acts_on (event.Shown items) f u = still u (told trace (event.Shown items)) refl refl refl refl
 
   -- the state knows where programs go on exactly
   knows_on : (t : State) (e : Event) (cs : List Cont) → Knows (record t { conts = cs }) (told trace e) → (kept (told trace e)).conts ≡ t.conts → Knows t (told trace e)
@@ -276,14 +300,14 @@ module _ (l : Ledger) (trace : Trace) (h : Holds l trace) where
 
   pub holds_on : (m : Ledger) (e : Event) → is_formed_by trace e ≡ true → Knows (record m.state { conts = conts_by e l.state }) (told trace e) → IsAfter l m e → Holds m (told trace e)
   holds_on m e f knows after =
-      let conts : (kept (told trace e)).conts ≡ m.state.conts = conts_on e ∙ sym after.conts in
+      let conts : (kept (told trace e)).conts ≡ m.state.conts = conts_on e f ∙ sym after.conts in
       record {
         knows = knows_on m.state e (conts_by e l.state) knows conts;
-        tables = rows_on e ∙ sym after.rows;
+        tables = rows_on e f ∙ sym after.rows;
         conts = conts;
-        vars = λ u. (acts_on e u).vars ∙ ap vars_in (sym (after.acts u));
-        done = λ u. (acts_on e u).done ∙ ap done_in (sym (after.acts u));
-        answers = λ u. (acts_on e u).answers ∙ ap answers_in (sym (after.acts u));
+        vars = λ u runs. (acts_on e f u).vars runs ∙ ap vars_in (sym (after.acts u));
+        done = λ u runs. (acts_on e f u).done runs ∙ ap done_in (sym (after.acts u));
+        answers = λ u runs. (acts_on e f u).answers runs ∙ ap answers_in (sym (after.acts u));
         order = order_on e ∙ sym after.order;
         active = active_on e f ∙ sym after.active;
       }

@@ -1,12 +1,14 @@
 -- Names in lists of units.
+use Rattle.law_states.specs.Members.{In}
 use Rattle.salt_audit.proofs.Marking.{has_more, or_group}
 use Rattle.salt_model.specs.Trace.{Trace, from, ◌asks◌, ◌says◌, ◌turns◌}
 use Rattle.salt_model.specs.Units.{kind_of, units_begun}
 use Rattle.salt_model.specs.declared.events.Event.TheVariants as event
 use Rattle.salt_values.specs.Id.{has_id, is_same_id}
 use Rattle.salt_values.specs.declared.id.Id.{Id}
-use Rattle.std.proofs.Common.{Bool, List, [], ap, false, is_some, refl, sym, true, ◌++◌, ◌∙◌, ◌∷◌, ◌≡◌, ◌||◌}
+use Rattle.std.proofs.Common.{Bool, List, [], ap, cond, false, inl, inr, is_some, refl, sym, true, ◌++◌, ◌∙◌, ◌∷◌, ◌≡◌, ◌||◌}
 use Rattle.std.specs.Bool.{then_some}
+use Rattle.std.specs.List.{filter}
 use Rattle.std.specs.Option.{option_or}
 
 pub or_swap : (a b : Bool) → (a || b) ≡ (b || a)
@@ -18,6 +20,11 @@ or_swap false false = refl
 pub has_app : (u : Id) (us vs : List Id) → has_id u (us ++ vs) ≡ (has_id u us || has_id u vs)
 has_app u [] vs = refl
 has_app u (w ∷ us) vs = ap (λ (t : Bool). is_same_id u w || t) (has_app u us vs) ∙ or_group (is_same_id u w) (has_id u us) (has_id u vs)
+
+-- a list filtered by tests that agree on its members
+pub agreeing : {A : Type 0} (p q : A → Bool) (xs : List A) → ((x : A) → In x xs → p x ≡ q x) → filter p xs ≡ filter q xs
+agreeing p q [] h = refl
+agreeing p q (x ∷ xs) h = λ i. cond (h x (inl refl) i) (x ∷ agreeing p q xs (λ y k. h y (inr k)) i) (agreeing p q xs (λ y k. h y (inr k)) i)
 
 -- the units that have begun are listed
 pub begun_listed : (trace : Trace) (v : Id) → is_some (kind_of v trace) ≡ has_id v (units_begun trace)

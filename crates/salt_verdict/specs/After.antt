@@ -46,9 +46,11 @@ fresh vars = record { vars = vars; done = []; answers = [] }
 abbrev pub one_more : Statement → Answer → Option Act → Act
 one_more st a act = record { vars = vars_in act; done = done_in act ++ st ∷ []; answers = answers_in act ++ a ∷ [] }
 
+-- what a unit has done is forgotten as it ends
 abbrev pub act_by : Event → State → BTreeMap Id Act → Id → Option Act
 act_by (Began v kind) s acts u = if is_same_id u v then Some (fresh (vars_begun s.catalogue s.conts kind)) else act_in u acts
 act_by (Did v st a) s acts u = if is_same_id u v then Some (one_more st a (act_in v acts)) else act_in u acts
+act_by (Ended v end) s acts u = if is_same_id u v then None else act_in u acts
 act_by e s acts u = act_in u acts
 
 abbrev pub order_by : Event → List Id → List Id

@@ -7,7 +7,7 @@ use Rattle.salt_audit.specs.Replaying.{is_amiss}
 use Rattle.salt_model.specs.After.{kept, tables_after, vars_of}
 use Rattle.salt_model.specs.Statements.{Run, serial}
 use Rattle.salt_model.specs.Trace.{Trace}
-use Rattle.salt_model.specs.Units.{answers_of, done_of, open_units, units_begun}
+use Rattle.salt_model.specs.Units.{answers_of, done_of, is_open, open_units, units_begun}
 use Rattle.salt_model.specs.declared.events.Answer.{Answer}
 use Rattle.salt_model.specs.declared.events.End.TheVariants.{Committed}
 use Rattle.salt_model.specs.declared.events.Event.TheVariants.{Defined, Did, Ended}
@@ -82,13 +82,13 @@ amiss_by l e = []
 abbrev pub dishonest_by : (before after : Ledger) → Event → List Id
 dishonest_by before after e = unfaithful_in after ++ amiss_by before e
 
--- what is known is what the trace tells
+-- what is known is what the trace tells; of what units have done, that of the open ones
 pub record Holds (l : Ledger) (trace : Trace) : Type 0 where
   pub knows : Knows l.state trace
   pub tables : tables_after trace ≡ tables_made l.rows
   pub conts : (kept trace).conts ≡ l.state.conts
-  pub vars : (u : Id) → vars_of u trace ≡ vars_in (act_in u l.acts)
-  pub done : (u : Id) → done_of u trace ≡ done_in (act_in u l.acts)
-  pub answers : (u : Id) → answers_of u trace ≡ answers_in (act_in u l.acts)
+  pub vars : (u : Id) → is_open trace u ≡ true → vars_of u trace ≡ vars_in (act_in u l.acts)
+  pub done : (u : Id) → is_open trace u ≡ true → done_of u trace ≡ done_in (act_in u l.acts)
+  pub answers : (u : Id) → is_open trace u ≡ true → answers_of u trace ≡ answers_in (act_in u l.acts)
   pub order : units_begun trace ≡ l.order
   pub active : open_units trace ≡ l.active.items

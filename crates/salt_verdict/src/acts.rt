@@ -5,7 +5,7 @@ ghost use Rattle.std.specs.Option.{option_copied};
 ghost use Rattle.salt_verdict.specs.After.{fresh, one_more};
 ghost use Rattle.salt_values.specs.Id.{is_same_id};
 ghost use Rattle.salt_values.specs.declared.id.Id.{Id};
-ghost use Rattle.std.specs.Prelude.{IfOk, OnOk, Some, [], if◌then◌else◌, ◌≡◌};
+ghost use Rattle.std.specs.Prelude.{IfOk, None, OnOk, Some, [], if◌then◌else◌, ◌≡◌};
 
 use crate::ledger::{Act, Acts};
 use salt_ast::Statement;
@@ -71,6 +71,13 @@ pub fn note(
     act.answers.push(answer)?;
     acts.insert(unit, act)?;
     Ok(())
+}
+
+/// What a unit has done is forgotten.
+pub fn forget(acts: &mut Acts, unit: Id)
+    ensures { (u : Id) → act_in u acts.new ≡ (if is_same_id u unit then None else act_in u acts.old) }
+{
+    acts.remove(&unit);
 }
 
 /// Variables, copied.

@@ -19,9 +19,9 @@ ghost use Rattle.std.specs.Prelude.{List, true, ◌≡◌};
 use law_states::edits_make_the_tables;
 use salt_audit::knowledge_goes_on;
 
-/// The units that break honest by what is known before an event and behind it are those that break it in the trace.
+/// The units that break honest by what is known before an event that is formed and behind it are those that break it in the trace.
 pub fn honest_is_exact()
-    ensures { (before after : Ledger) (trace : Trace) (e : Event) → Holds before trace → Holds after (told trace e) → dishonest_by before after e ≡ dishonest trace e }
+    ensures { (before after : Ledger) (trace : Trace) (e : Event) → Holds before trace → is_formed_by trace e ≡ true → Holds after (told trace e) → dishonest_by before after e ≡ dishonest trace e }
 {}
 
 /// Where no open unit was unfaithful before an event, those that are so behind it are among those whose replay it may change.

@@ -18,7 +18,7 @@ pub struct Act {
     pub answers: Items<Answer>,
 }
 
-/// What units have done, by their names.
+/// What open units have done, by their names.
 pub type Acts = BTreeMap<Id, Act>;
 
 /// What is known behind the events so far.

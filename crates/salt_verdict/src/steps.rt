@@ -10,7 +10,7 @@ ghost use Rattle.salt_verdict.specs.Again.{Gives};
 ghost use Rattle.salt_verdict.specs.Ledger.{act_in, run_by};
 ghost use Rattle.std.specs.Prelude.{IfOk, None, OnOk, [], true, ◌++◌, ◌∷◌, ◌≡◌};
 
-use crate::acts::{act_of, begin, copy_answer, copy_vars, note};
+use crate::acts::{act_of, begin, copy_answer, copy_vars, forget, note};
 use crate::again::Again;
 use crate::goings::tell_commit;
 use crate::laws::runs_make_the_tables;
@@ -120,6 +120,10 @@ fn note_event(
             statement,
             answer,
         } => note_did(alloc, state, acts, *unit, statement, answer),
+        Event::Ended { unit, .. } => {
+            forget(acts, *unit);
+            Ok(())
+        }
         _ => Ok(()),
     }
 }
@@ -156,6 +160,7 @@ fn take_commit(alloc: Global, ledger: &mut Ledger, unit: Id, number: u64) -> Res
     } = again;
     tell_commit(alloc, &mut ledger.state, unit, number, done.vars.as_slice())?;
     ledger.rows.commit(alloc, done.into_changes())?;
+    forget(&mut ledger.acts, unit);
     drop_ids(&mut ledger.active, &[unit]);
     Ok(())
 }

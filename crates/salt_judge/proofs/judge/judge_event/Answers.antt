@@ -21,7 +21,7 @@ returns c =
       settled = λ h. c.settling_goes_on.ensures old.ledger new.ledger old.reads new.reads e c.requires.formed c.in_ok-take_event.ensures.after c.in_ok-take_reads.ensures old.settled h;
       searched = λ h. c.in_ok-salted.ensures.settled h;
       changes = λ h. c.changes_tell_the_unfaithful.ensures old.ledger new.ledger e h c.in_ok-take_event.ensures.after;
-      honest = λ trace h k. c.honest_is_exact.ensures old.ledger new.ledger trace e h k;
+      honest = λ trace h f k. c.honest_is_exact.ensures old.ledger new.ledger trace e h f k;
     } in
     let broken : (trace : Trace) → HoldsAll old trace → c.in_ok-found.found ≡ broken_by trace e = λ trace h.
     let all = told_then old new e known trace h in

@@ -14,9 +14,9 @@ returns-clause-holds c = record {
   knows = c.nothing_known.ensures;
   tables = sym c.none.ensures;
   conts = no_conts c.nothing_known.result.conts c.nothing_known.ensures.conts;
-  vars = λ u. sym (ap vars_in (c.no_acts.ensures u));
-  done = λ u. sym (ap done_in (c.no_acts.ensures u));
-  answers = λ u. sym (ap answers_in (c.no_acts.ensures u));
+  vars = λ u runs. sym (ap vars_in (c.no_acts.ensures u));
+  done = λ u runs. sym (ap done_in (c.no_acts.ensures u));
+  answers = λ u runs. sym (ap answers_in (c.no_acts.ensures u));
   order = sym c.new.ensures;
   active = sym c.new-2.ensures.items;
 }

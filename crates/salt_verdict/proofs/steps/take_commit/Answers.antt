@@ -23,7 +23,7 @@ returns-clause-after c =
           ∙ sym (c.runs_make_the_tables.ensures l.state.schema es (vars_in (act_in u l.acts)) (done_in (act_in u l.acts)));
       conts = c.in_ok-tell_commit.ensures.conts
           ∙ ap (λ (vars : List Binding). conts_noted l.state.catalogue c.args.number vars (begun_in u l.state.units) l.state.conts) (c.as_slice.ensures ∙ ap (λ (o : Outcome). o.vars) same);
-      acts = λ v. refl;
+      acts = λ v. c.forget.ensures v;
       order = refl;
       active = c.drop_ids.ensures;
     }
