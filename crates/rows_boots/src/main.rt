@@ -31,7 +31,7 @@ fn boots_behind(alloc: Global, calls: u64, pick: u8) -> Result<u64, OpenErr>
         { place_of(kind, key, parts) },
     );
     let mut disks = MemDisks::new(alloc, 8, 1000)?;
-    let mut devices = Devices::new(alloc, SHAPE);
+    let mut devices = Devices::new(alloc, SHAPE, false);
     boots_kept(&mut devices, &mut disks, &place, calls, pick)
 }
 

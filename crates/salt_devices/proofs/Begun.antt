@@ -1,9 +1,8 @@
 -- A first opening, by what it may come upon.
-use Rattle.salt_commit.specs.Messages.{messages_of}
 use Rattle.salt_commit.specs.Openings.{StorePassesLimit}
 use Rattle.salt_commit.specs.declared.store.Store.{Store}
 use Rattle.salt_devices.proofs.Answered.{same_finds}
-use Rattle.salt_devices.proofs.Netted.{no_net}
+use Rattle.salt_devices.proofs.Netted.{IsWithNet, held_with, net_with}
 use Rattle.salt_devices.proofs.Known.{stands_fails}
 use Rattle.salt_devices.proofs.Opening.{alike_below}
 use Rattle.salt_devices.proofs.Started.{able_on}
@@ -75,15 +74,14 @@ rests_found d shape started is k h told =
 
 -- WHAT IS OPENED is held, and was found there
 module _ (d e : View) (shape : Shape) (x : Store) (found : Found) (o : OpensAs d e shape x found) where
-  pub opened_held : IsAble shape d → SameShape d e → messages_of x ≡ None
-      → StandsHeld shape false (Some x) (record { boot = found.boot; decisions = found.decisions }) Nothing e o.kept
-  opened_held able same plain = record {
+  pub opened_held : (y : Store) → IsAble shape d → SameShape d e → IsWithNet x y → StandsHeld shape false (Some y) (record { boot = found.boot; decisions = found.decisions }) Nothing e o.kept
+  opened_held y able same put = record {
     able = able_on shape d e same able;
     called = refl;
     nothing = refl;
     numbers = record { boot = o.is_found.boot; decisions = o.is_found.decisions };
-    held = o.held;
-    net = no_net x o.kept.boot plain;
+    held = held_with e shape x y o.kept put o.held;
+    net = net_with x y o.kept.boot put;
   }
 
   pub opened_finds : (started : Bool) → started ≡ true → Finds d started shape o.kept

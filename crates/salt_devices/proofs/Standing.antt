@@ -1,12 +1,12 @@
 -- A database behind a call on its devices.
 use Rattle.salt_bytes.specs.Generations.{WhichLog}
 use Rattle.salt_commit.proofs.Standing.{partitions_kept}
-use Rattle.salt_commit.specs.Messages.{messages_of}
 use Rattle.salt_commit.specs.Stores.{IsStore, decided_by, reading, rows_of_store}
 use Rattle.salt_commit.specs.declared.store.Store.{Store}
 use Rattle.salt_decisions.specs.Decisions.{IsDecisions}
 use Rattle.salt_decisions.specs.declared.decisions.Decisions.{Decisions}
-use Rattle.salt_devices.proofs.Netted.{no_net}
+use Rattle.salt_commit.specs.Messages.{IsAtRest, IsNewIn, messages_of}
+use Rattle.salt_devices.proofs.Netted.{IsWithNet, held_as, held_with, net_with}
 use Rattle.salt_devices.proofs.Remembered.{held_in, recalls}
 use Rattle.salt_devices.proofs.Started.{able_on, called, comes_again, leaves_again, opened, opens_again, settled_again, upon_again}
 use Rattle.salt_devices.proofs.Stores.{held_again, held_leaves}
@@ -20,6 +20,7 @@ use Rattle.salt_devices.specs.declared.pending.Pending.TheVariants.{Boot, Decisi
 use Rattle.salt_devices.specs.declared.pending.Pending.TheVariants as pending
 use Rattle.salt_devices.specs.declared.pending.Pending.{Pending}
 use Rattle.salt_disk.specs.Disks.{AreUnchanged, IsRestarted, IsSettled, SameShape, View}
+use Rattle.salt_disk.proofs.CallAfterCall.{same_shape}
 use Rattle.salt_gatelog.proofs.Frame.{log_kept}
 use Rattle.salt_model.specs.Kept.{Definition, Kept}
 use Rattle.salt_stands.specs.Coordinator.{Coordinator, coordinator_pair, device_of}
@@ -116,6 +117,10 @@ module _ (shape : Shape) (started : Bool) (o : Option Store) (n : Numbers) (p : 
     pub goes_on : (e : View) (y : Store) (m : Numbers) (k' : Kept) → SameShape d e → IsHeld e shape y k' → AreNumbersOf m k' → NetFits y k'.boot → StandsHeld shape started (Some y) m p e k'
     goes_on e y m k' same held numbers net = record { able = able_on shape d e same h.able; called = h.called; nothing = h.nothing; numbers = numbers; held = held; net = net }
 
+    -- where pairs were armed
+    pub pairs_armed : (y : Store) → (IsAtRest x → IsAtRest y) → ((u : Id) → IsNewIn x u → IsNewIn y u) → y ≡ record x { messages = messages_of y } → StandsHeld shape started (Some y) n p d k
+    pairs_armed y rests new rest = goes_on d y n k (same_shape d) (held_as d shape x y k rest the_store) h.numbers (record { rests = rests the_net.rests; later = λ u low. new u (the_net.later u low) })
+
     -- behind one that did not, with what was being written
     pub breaks_off : (e : View) (y : Store) (q : Pending) (k' : Kept) → SameShape d e → LeavesEither e shape k k' → rows_of_store y ≡ rows_of_store x → MayFollow q k k' → IsSoundKept k'
         → StandsLeft shape started (Some y) n q e k k'
@@ -196,14 +201,14 @@ module _ (shape : Shape) (started : Bool) (o : Option Store) (n : Numbers) (p : 
     }
 
   -- what is held again
-  pub refound : (e : View) (y : Store) (m : Numbers) (k : Kept) → SameShape d e → IsAble shape d → messages_of y ≡ None → IsHeldAgain e shape y m k → Reopens (StandsHeld shape false (Some y) m Nothing e) m k
-  refound e y m k same able plain h = record {
-    holding = record { able = able_on shape d e same able; called = refl; nothing = refl; numbers = h.numbers; held = h.held; net = no_net y k.boot plain };
+  pub refound : (e : View) (z y : Store) (m : Numbers) (k : Kept) → SameShape d e → IsAble shape d → IsWithNet z y → IsHeldAgain e shape z m k → Reopens (StandsHeld shape false (Some y) m Nothing e) m k
+  refound e z y m k same able put h = record {
+    holding = record { able = able_on shape d e same able; called = refl; nothing = refl; numbers = h.numbers; held = held_with e shape z y k put h.held; net = net_with z y k.boot put };
     boot = h.numbers.boot;
     decisions = h.numbers.decisions;
   }
 
-  pub refound_either : (e : View) (y : Store) (m : Numbers) (a b : Kept) → SameShape d e → IsAble shape d → messages_of y ≡ None → IsHeldAgain e shape y m a ⊎ IsHeldAgain e shape y m b
+  pub refound_either : (e : View) (z y : Store) (m : Numbers) (a b : Kept) → SameShape d e → IsAble shape d → IsWithNet z y → IsHeldAgain e shape z m a ⊎ IsHeldAgain e shape z m b
       → Reopens (StandsHeld shape false (Some y) m Nothing e) m a ⊎ Reopens (StandsHeld shape false (Some y) m Nothing e) m b
-  refound_either e y m a b same able plain (inl h) = inl (refound e y m a same able plain h)
-  refound_either e y m a b same able plain (inr h) = inr (refound e y m b same able plain h)
+  refound_either e z y m a b same able put (inl h) = inl (refound e z y m a same able put h)
+  refound_either e z y m a b same able put (inr h) = inr (refound e z y m b same able put h)

@@ -1,7 +1,7 @@
 -- What a store on its devices holds of a database.
 use Rattle.salt_bytes.specs.Formats.{has_nulls}
 use Rattle.salt_bytes.specs.Generations.{Counts, WhichLog}
-use Rattle.salt_commit.specs.Messages.{IsAtRest, IsNewIn}
+use Rattle.salt_commit.specs.Messages.{IsAtRest, IsNewIn, net_of}
 use Rattle.salt_commit.specs.Stores.{IsStore, decided_by, reading}
 use Rattle.salt_commit.specs.declared.store.Store.{Store}
 use Rattle.salt_devices.specs.Leaving.{CanOpen}
@@ -9,6 +9,7 @@ use Rattle.salt_disk.specs.Settling.{AreSettled}
 use Rattle.salt_devices.specs.declared.pending.Pending.{Pending}
 use Rattle.salt_disk.specs.Disks.{View}
 use Rattle.salt_model.specs.Kept.{Definition, Kept}
+use Rattle.salt_net.specs.Turns.{Turning}
 use Rattle.salt_values.specs.Id.{has_id}
 use Rattle.salt_stands.specs.Commits.{each_tables, found_of, parts_of}
 use Rattle.salt_stands.specs.Coordinator.{Coordinator, coordinator_pair}
@@ -16,11 +17,16 @@ use Rattle.salt_stands.specs.Partition.{pages_device, part_pair}
 use Rattle.salt_stands.specs.Pieces.{PartView, is_prepared_in}
 use Rattle.salt_stands.specs.Placed.{IsPlaced}
 use Rattle.salt_stands.specs.Stands.{logs_of}
+use Rattle.salt_storage.specs.Staying.{Setup}
 use Rattle.salt_storage.specs.Storing.{IsSoundKept}
 use Rattle.salt_place.specs.Placement.{IsParts}
 use Rattle.salt_values.specs.declared.id.Id.{Id}
 use Rattle.salt_place.specs.declared.placement.Shape.{Shape}
 use Rattle.std.specs.Prelude.{Bool, IfSome, IsTrue, None, Option, Some, false, true, ℕ, ◌<◌, ◌≡◌}
+
+-- what devices are asked for
+abbrev pub setup_in : Shape → Bool → Setup
+setup_in shape over = record { shape = shape; over_net = over }
 
 -- there are devices for each part
 pub record IsAble (shape : Shape) (d : View) : Type 0 where
@@ -61,6 +67,11 @@ pub record NetFits (x : Store) (boot : ℕ) : Type 0 where
 
 abbrev pub FitsNet : Option Store → ℕ → Type 0
 FitsNet o boot = IfSome o (λ x. NetFits x boot)
+
+-- what its commits have sent
+abbrev pub net_in : Option Store → Option Turning
+net_in None = None
+net_in (Some x) = net_of x
 
 abbrev pub HoldsIn : View → Shape → Option Store → Kept → Type 0
 HoldsIn d shape None k = ⊥

@@ -3,6 +3,7 @@
 ghost use Rattle.salt_commit.specs.Messages.{messages_of};
 ghost use Rattle.salt_commit.specs.Openings.{HasRoom};
 ghost use Rattle.salt_commit.specs.Stores.{shape_of_store};
+ghost use Rattle.salt_devices.specs.Holding.{setup_in};
 ghost use Rattle.salt_devices.specs.Leaving.{LeavesEither, LeavesAs};
 ghost use Rattle.salt_devices.specs.Opened.{IsHeldAgain};
 ghost use Rattle.salt_devices.specs.Remembering.{AreNumbersOf, Follow, IsFoundAgain, MayFollow, MayTell, Recalls, Remembers};
@@ -16,7 +17,7 @@ ghost use Rattle.salt_storage.specs.declared.halt.Halt.TheVariants.{DeviceFull};
 ghost use Rattle.salt_storage.specs.declared.open.OpenErr.TheVariants.{Halted};
 ghost use Rattle.salt_place.specs.Placement.{GivesPlaceOf, IsParts, TakesEachKey};
 ghost use Rattle.salt_place.specs.declared.placement.Shape.{Shape};
-ghost use Rattle.std.specs.Prelude.{Err, IfErr, IfOk, IsTrue, None, OnErr, Some, false, true, ℕ, ◌+◌, ◌↔◌, ◌≡◌, ◌⊎◌};
+ghost use Rattle.std.specs.Prelude.{Bool, Err, IfErr, IfOk, IsTrue, None, OnErr, Some, false, true, ℕ, ◌+◌, ◌↔◌, ◌≡◌, ◌⊎◌};
 
 use crate::open::{fault, open_devices};
 use crate::pending::Pending;
@@ -125,7 +126,7 @@ pub fn open_again<D: Disks, F: Fn(PlaceKind, &Key, u32) -> u32>(
     ensures leaves { OnErr result ((a b : Kept) → LeavesAs true (D.view disks.old) shape a b → LeavesEither (D.view disks.new) shape a b) }
     ensures known { IfErr result (λ e. (a b : Kept) → LeavesAs true (D.view disks.old) shape a b → Remembers shape (Some before.now) numbers pending.now a b → MayFail (RestsAs shape false (D.view disks.new)) a b e) }
     ensures full { (dev : ℕ) → result ≡ Err (Halted (DeviceFull dev)) → ⊥ }
-    ensures within { StaysWithin shape shape (D.view disks.old) (D.view disks.new) }
+    ensures within { (over : Bool) → StaysWithin (setup_in shape over) (setup_in shape over) (D.view disks.old) (D.view disks.new) }
     ensures cause { HasCause (D.view disks.old) (D.view disks.new) (open_disk_err result) }
 {
     if pending.is_lost() {

@@ -4,7 +4,7 @@ ghost use Rattle.salt_devices.specs.declared.pending.Pending.TheVariants.{Nothin
 ghost use Rattle.std.specs.Prelude.{None, true, ◌≡◌};
 
 use crate::again::open_again;
-use crate::held::{begin_boot, decide_definition, decide_unit, load_rows};
+use crate::held::{begin_boot, decide_definition, decide_unit, load_rows, put_over};
 use crate::open::open_first;
 use crate::pending::{Pending, pending_opening, pending_unit};
 use salt_bytes::Move;
@@ -12,6 +12,7 @@ use salt_commit::Store;
 use salt_disk::Disks;
 use salt_eval::Tables;
 use salt_model::Reach;
+use salt_net::Net;
 use salt_place::{PlaceKind, Placement, Shape};
 use salt_schema::Schema;
 use salt_storage::{Found, Halt, Numbers, OpenErr, Storage};
@@ -19,11 +20,13 @@ use salt_values::{Change, Id, Key};
 use std::alloc::{AllocError, Global};
 
 /// A database over devices, in the shape that is asked for: a store that stands on them, once it is opened. Behind an error the
-/// store stays, as what is remembered, until it is reopened.
+/// store stays, as what is remembered, until it is reopened. Where commits go over messages, each opening begins a new net.
 #[derive(Drop)]
 pub struct Devices {
     alloc: Global,
     shape: Shape,
+    // whether commits go over messages
+    over_net: bool,
     // whether the devices were started, and nothing was called since
     started: bool,
     store: Option<Store>,
@@ -34,8 +37,9 @@ pub struct Devices {
 
 impl Devices {
     /// Devices that are not opened yet.
-    pub fn new(alloc: Global, shape: Shape) -> Devices
+    pub fn new(alloc: Global, shape: Shape, over_net: bool) -> Devices
         ensures shape { result.shape ≡ shape }
+        ensures over_net { result.over_net ≡ over_net }
         ensures started { result.started ≡ true }
         ensures store { result.store ≡ None }
         ensures pending { result.pending ≡ Nothing }
@@ -43,6 +47,7 @@ impl Devices {
         Devices {
             alloc,
             shape,
+            over_net,
             started: true,
             store: None,
             numbers: Numbers {
@@ -56,7 +61,7 @@ impl Devices {
 
 impl Storage for Devices {
     ghost use Rattle.salt_devices.specs.Filling.{FillsIn};
-    ghost use Rattle.salt_devices.specs.Holding.{CanStart, IsNewWith};
+    ghost use Rattle.salt_devices.specs.Holding.{CanStart, IsNewWith, net_in, setup_in};
     ghost use Rattle.salt_devices.specs.Refusing.{Finds, Refuses};
     ghost use Rattle.salt_devices.specs.Standing.{RestsAs, StandsHeld, StandsLeft, StandsStarted};
     ghost use Rattle.salt_devices.specs.declared.pending.Pending.TheVariants.{Opening};
@@ -81,7 +86,9 @@ impl Storage for Devices {
 
     ghost finds = { λ d x k. Finds d x.started x.shape k };
 
-    ghost asked = { λ x. x.shape };
+    ghost asked = { λ x. setup_in x.shape x.over_net };
+
+    ghost net = { λ x. net_in x.store };
 
     ghost fills = { λ d x w dev. FillsIn d x.shape w dev };
 
@@ -93,7 +100,7 @@ impl Storage for Devices {
         self.started = false;
         match open_first(self.alloc, disks, place, self.shape, &self.pending) {
             Ok((store, found)) => {
-                self.store = Some(store);
+                self.store = Some(put_over(store, self.over_net));
                 self.numbers = Numbers {
                     boot: found.boot,
                     decisions: found.decisions,
@@ -127,7 +134,7 @@ impl Storage for Devices {
             &self.pending,
         ) {
             Ok((store, found)) => {
-                self.store = Some(store);
+                self.store = Some(put_over(store, self.over_net));
                 self.numbers = found;
                 self.pending = Pending::Nothing;
                 Ok(found)
@@ -216,6 +223,17 @@ impl Storage for Devices {
         disks.arm(calls, pick)
     }
 
+    fn arm_net<D: Disks>(&mut self, _disks: &D, pairs: &[(u64, u8)]) -> Result<(), AllocError> {
+        match &mut self.store {
+            Some(store) => store.arm_net(pairs),
+            None => Ok(()),
+        }
+    }
+
+    fn over_net(&self) -> bool {
+        self.over_net
+    }
+
     fn restart<D: Disks>(&mut self, disks: &mut D) {
         disks.restart();
         self.started = true;
@@ -223,5 +241,13 @@ impl Storage for Devices {
 
     fn stands<D: Disks>(&self, disks: &D) {
         let _ = disks;
+    }
+
+    fn into_net<D: Disks>(self, _disks: &D) -> Option<Net> {
+        let store = self.store;
+        match store {
+            Some(store) => store.into_net(),
+            None => None,
+        }
     }
 }

@@ -3,16 +3,19 @@
 ghost use Rattle.salt_bytes.specs.declared.moves.Move.{Move};
 ghost use Rattle.law_definitions.specs.Texts.{definition_in};
 ghost use Rattle.salt_devices.specs.Filling.{FillsIn};
-ghost use Rattle.salt_commit.specs.Messages.{IsAtRest, IsNewIn, messages_of};
+ghost use Rattle.salt_commit.specs.Messages.{IsAtRest, IsNewIn, messages_of, net_of};
 ghost use Rattle.salt_commit.specs.Stores.{rows_of_store};
 ghost use Rattle.salt_devices.specs.Holding.{IsHeld, IsNewTo};
 ghost use Rattle.salt_devices.specs.Leaving.{LeavesEither};
 ghost use Rattle.salt_disk.specs.Disks.{HasCause, KeepsAll};
 ghost use Rattle.salt_model.specs.Kept.{Definition, Kept, schema_of};
 ghost use Rattle.salt_model.specs.Tables.{Tables};
+ghost use Rattle.salt_net.specs.Turns.{commits};
+ghost use Rattle.salt_stands.specs.Placed.{nodes_in};
+ghost use Rattle.salt_stands.specs.Turning.{no_turns};
 ghost use Rattle.salt_stands.specs.Stands.{are_spent};
 ghost use Rattle.salt_storage.specs.Answers.{disk_err};
-ghost use Rattle.salt_storage.specs.Staying.{StaysWithin};
+ghost use Rattle.salt_storage.specs.Staying.{Setup, StaysWithin};
 ghost use Rattle.salt_storage.specs.Storing.{IsPartOf, MayDecide, MayDefine, booted, decided, defined};
 ghost use Rattle.salt_storage.specs.Writing.{OfBoot, OfDefinition, OfUnit};
 ghost use Rattle.salt_storage.specs.declared.halt.Halt.TheVariants.{DeviceFull, Memory};
@@ -22,7 +25,7 @@ ghost use Rattle.salt_place.specs.Placement.{GivesPlaceOf, TakesEachKey};
 ghost use Rattle.salt_values.specs.declared.cont.Cont.{Cont};
 ghost use Rattle.salt_values.specs.declared.id.Id.{Id};
 ghost use Rattle.salt_place.specs.declared.placement.Shape.{Shape};
-ghost use Rattle.std.specs.Prelude.{Err, IfOk, List, OnErr, OnOk, Some, false, length, ℕ, ◌+◌, ◌<◌, ◌≡◌, ◌≢◌};
+ghost use Rattle.std.specs.Prelude.{Err, IfOk, List, None, OnErr, OnOk, Some, false, if◌then◌else◌, length, option_map, ℕ, ◌+◌, ◌<◌, ◌≡◌, ◌≢◌};
 
 use crate::told::{told_keys, told_move};
 use law_types::typed_changes_are_sound;
@@ -38,6 +41,22 @@ use salt_schema::Schema;
 use salt_storage::Halt;
 use salt_values::{Change, Id, Key};
 use std::alloc::Global;
+
+/// Puts the commits of a store that was just opened over messages, where that is asked for: then a new net begins.
+pub fn put_over(store: Store, over_net: bool) -> Store
+    requires plain { messages_of store ≡ None }
+    ensures net { net_of result ≡ (if over_net then Some no_turns else None) }
+    ensures rests { IsAtRest result }
+    ensures new { (u : Id) → IsNewIn result u }
+    ensures rest { result ≡ record store { messages = messages_of result } }
+{
+    if !over_net {
+        return store;
+    }
+    let mut store = store;
+    store.over_net();
+    store
+}
 
 /// The rows of a reach, each of which meets its table. Nothing is written.
 pub fn load_rows<D: Disks, F: Fn(PlaceKind, &Key, u32) -> u32>(
@@ -74,7 +93,7 @@ pub fn begin_boot<D: Disks>(store: &mut Store, disks: &mut D) -> Result<u64, Hal
     ensures stay { rows_of_store store.new ≡ rows_of_store store.old }
     ensures messages { messages_of store.new ≡ messages_of store.old }
     ensures full { (dev : ℕ) → result ≡ Err (DeviceFull dev) → (shape : Shape) (k : Kept) → IsHeld (D.view disks.old) shape store.old k → FillsIn (D.view disks.new) shape OfBoot dev }
-    ensures within { (shape : Shape) (k : Kept) → IsHeld (D.view disks.old) shape store.old k → StaysWithin shape shape (D.view disks.old) (D.view disks.new) }
+    ensures within { (setup : Setup) (k : Kept) → IsHeld (D.view disks.old) setup.shape store.old k → StaysWithin setup setup (D.view disks.old) (D.view disks.new) }
     ensures cause { HasCause (D.view disks.old) (D.view disks.new) (disk_err result) }
 {
     let boot = store.boot(disks)?;
@@ -100,7 +119,7 @@ pub fn decide_definition<D: Disks, F: Fn(PlaceKind, &Key, u32) -> u32>(
     ensures stay { rows_of_store store.new ≡ rows_of_store store.old }
     ensures messages { messages_of store.new ≡ messages_of store.old }
     ensures full { (dev : ℕ) → result ≡ Err (DeviceFull dev) → (shape : Shape) (k : Kept) → IsHeld (D.view disks.old) shape store.old k → FillsIn (D.view disks.new) shape (OfDefinition text.now) dev }
-    ensures within { (shape : Shape) (k : Kept) → IsHeld (D.view disks.old) shape store.old k → StaysWithin shape shape (D.view disks.old) (D.view disks.new) }
+    ensures within { (setup : Setup) (k : Kept) → IsHeld (D.view disks.old) setup.shape store.old k → StaysWithin setup setup (D.view disks.old) (D.view disks.new) }
     ensures cause { HasCause (D.view disks.old) (D.view disks.new) (disk_err result) }
 {
     if store.decisions() == u64::MAX {
@@ -134,10 +153,11 @@ pub fn decide_unit<D: Disks, F: Fn(PlaceKind, &Key, u32) -> u32>(
     ensures leaves { (shape : Shape) (k : Kept) (conts : List Cont) → IsHeld (D.view disks.old) shape store.old k → MayDecide k unit changes.now made.now conts
         → LeavesEither (D.view disks.new) shape k (decided k changes.now conts) }
     ensures rests { OnOk result (IsAtRest store.new) }
+    ensures net { OnOk result ((shape : Shape) (k : Kept) → IsHeld (D.view disks.old) shape store.old k → net_of store.new ≡ option_map (commits unit (nodes_in shape changes.now)) (net_of store.old)) }
     ensures others_new { OnOk result ((u : Id) → is_same_id u unit ≡ false → IsNewIn store.old u → IsNewIn store.new u) }
     ensures stay { (e : Halt) → result ≡ Err e → e ≢ Memory → rows_of_store store.new ≡ rows_of_store store.old }
     ensures full { (dev : ℕ) → result ≡ Err (DeviceFull dev) → (shape : Shape) (k : Kept) → IsHeld (D.view disks.old) shape store.old k → FillsIn (D.view disks.new) shape (OfUnit unit changes.now made.now) dev }
-    ensures within { (shape : Shape) (k : Kept) → IsHeld (D.view disks.old) shape store.old k → StaysWithin shape shape (D.view disks.old) (D.view disks.new) }
+    ensures within { (setup : Setup) (k : Kept) → IsHeld (D.view disks.old) setup.shape store.old k → StaysWithin setup setup (D.view disks.old) (D.view disks.new) }
     ensures cause { HasCause (D.view disks.old) (D.view disks.new) (disk_err result) }
 {
     if store.decisions() == u64::MAX {

@@ -7,6 +7,7 @@ ghost use Rattle.salt_commit.specs.Stores.{shape_of_store};
 ghost use Rattle.salt_stands.specs.LogDevices.{IsStoreLog};
 ghost use Rattle.salt_decisions.specs.Kept.{IsKept};
 ghost use Rattle.salt_devices.specs.Errors.{open_err_of};
+ghost use Rattle.salt_devices.specs.Holding.{setup_in};
 ghost use Rattle.salt_devices.specs.Leaving.{CanOpen, StandsForSomething, StandsFor, StandsStill};
 ghost use Rattle.salt_devices.specs.Opened.{HoldsFound, IsNewest, IsNewestOf, IsNewestWhere, IsOpen, IsUnread, OpensAs};
 ghost use Rattle.salt_devices.specs.Refusing.{RefusedAs};
@@ -25,7 +26,7 @@ ghost use Rattle.salt_storage.specs.declared.open.OpenErr.TheVariants.{Halted, N
 ghost use Rattle.salt_storage.specs.declared.open.OpenErr.{OpenErr};
 ghost use Rattle.salt_place.specs.Placement.{GivesPlaceOf, IsParts, TakesEachKey};
 ghost use Rattle.salt_place.specs.declared.placement.Shape.{Shape};
-ghost use Rattle.std.specs.Prelude.{Err, IfErr, IfOk, IfSome, IsTrue, List, None, Ok, OnErr, false, true, ℕ, ◌<◌, ◌≡◌, ◌⊎◌};
+ghost use Rattle.std.specs.Prelude.{Bool, Err, IfErr, IfOk, IfSome, IsTrue, List, None, Ok, OnErr, false, true, ℕ, ◌<◌, ◌≡◌, ◌⊎◌};
 
 use crate::pending::Pending;
 use law_definitions::definitions_are_read;
@@ -237,7 +238,7 @@ pub fn open_first<D: Disks, F: Fn(PlaceKind, &Key, u32) -> u32>(
     ensures unwritten { (refusal : OpenErr) → IsRefusal refusal → RefusedAs shape (D.view disks.old).bytes refusal → IsTrue (D.view disks.old).told
         → WritesNothing (D.view disks.old) (D.view disks.new) (open_disk_err result) }
     ensures full { (dev : ℕ) → result ≡ Err (Halted (DeviceFull dev)) → IsTrue (D.view disks.old).told → StorePassesLimit (D.view disks.new) shape dev }
-    ensures within { StaysWithin shape shape (D.view disks.old) (D.view disks.new) }
+    ensures within { (over : Bool) → StaysWithin (setup_in shape over) (setup_in shape over) (D.view disks.old) (D.view disks.new) }
     ensures cause { HasCause (D.view disks.old) (D.view disks.new) (open_disk_err result) }
 {
     match open_devices(alloc, disks, place, shape) {

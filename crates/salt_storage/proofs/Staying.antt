@@ -1,19 +1,18 @@
--- Calls one behind the other stay within a shape.
+-- Calls one behind the other stay within what is asked for.
 use Rattle.salt_disk.specs.Disks.{View}
 use Rattle.salt_stands.specs.LogDevices.{IsStoreLog}
-use Rattle.salt_storage.specs.Staying.{StaysWithin}
-use Rattle.salt_place.specs.declared.placement.Shape.{Shape}
+use Rattle.salt_storage.specs.Staying.{Setup, StaysWithin}
 use Rattle.std.proofs.Common.{subst, sym, ◌∙◌}
 use Rattle.std.specs.Prelude.{IsTrue, refl, ℕ, ◌<◌}
 
-pub stays-same : (shape : Shape) (v : View) → StaysWithin shape shape v v
-stays-same shape v = record {
+pub stays-same : (setup : Setup) (v : View) → StaysWithin setup setup v v
+stays-same setup v = record {
   asked = refl;
   shape = record { count = refl; can_stop = refl; told = refl; limit = λ dev. refl };
   others = λ told dev low out bytes image. image;
 }
 
-pub stays-behind : {first mid last : Shape} {a b c : View} → StaysWithin first mid a b → StaysWithin mid last b c → StaysWithin first last a c
+pub stays-behind : {first mid last : Setup} {a b c : View} → StaysWithin first mid a b → StaysWithin mid last b c → StaysWithin first last a c
 stays-behind g h = record {
   asked = h.asked ∙ g.asked;
   shape = record {
@@ -24,5 +23,5 @@ stays-behind g h = record {
   };
   others = λ told dev low out bytes image.
       g.others told dev low out bytes
-      (h.others (subst IsTrue (sym g.shape.told) told) dev (subst (λ (n : ℕ). dev < n) (sym g.shape.count) low) (subst (λ (s : Shape). ¬ IsStoreLog s.parts dev) (sym g.asked) out) bytes image);
+      (h.others (subst IsTrue (sym g.shape.told) told) dev (subst (λ (n : ℕ). dev < n) (sym g.shape.count) low) (subst (λ (s : Setup). ¬ IsStoreLog s.shape.parts dev) (sym g.asked) out) bytes image);
 }

@@ -2,3 +2,4 @@ pub mod Storing
 pub mod Answers
 pub mod Writing
 pub mod Staying
+pub mod Netted

@@ -1,12 +1,17 @@
--- Where a call on a database may write.
+-- What a storage is asked for, and where a call on it may write.
 use Rattle.salt_disk.specs.Disks.{SameShape, Shrinks, View}
 use Rattle.salt_stands.specs.LogDevices.{IsStoreLog}
 use Rattle.salt_place.specs.declared.placement.Shape.{Shape}
-use Rattle.std.specs.Prelude.{IsTrue, ℕ, ◌<◌, ◌≡◌}
+use Rattle.std.specs.Prelude.{Bool, IsTrue, ℕ, ◌<◌, ◌≡◌}
 
--- The shape that is asked for stays, and each device that is no log of it, one with pages too: what a stop may leave there, it may
+-- a shape of its devices, and whether commits go over messages
+pub record Setup : Type 0 where
+  pub shape : Shape
+  pub over_net : Bool
+
+-- What is asked for stays, and each device that is no log of its shape, one with pages too: what a stop may leave there, it may
 -- have left before.
-pub record StaysWithin (was is : Shape) (old new : View) : Type 0 where
+pub record StaysWithin (was is : Setup) (old new : View) : Type 0 where
   pub asked : is ≡ was
   pub shape : SameShape old new
-  pub others : IsTrue old.told → (dev : ℕ) → dev < old.count → ¬ IsStoreLog was.parts dev → Shrinks old new dev
+  pub others : IsTrue old.told → (dev : ℕ) → dev < old.count → ¬ IsStoreLog was.shape.parts dev → Shrinks old new dev

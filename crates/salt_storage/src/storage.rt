@@ -6,7 +6,9 @@ ghost use Rattle.salt_disk.specs.Disks.{HasCause, KeepsAll, View};
 ghost use Rattle.salt_model.specs.Kept.{Definition, Kept, schema_of};
 ghost use Rattle.salt_model.specs.Tables.{Tables};
 ghost use Rattle.salt_storage.specs.Answers.{IsLater, IsRefusal, MayFail, WritesNothing, disk_err, open_disk_err};
-ghost use Rattle.salt_storage.specs.Staying.{StaysWithin};
+ghost use Rattle.salt_net.specs.Turns.{Turning};
+ghost use Rattle.salt_storage.specs.Netted.{net_armed, net_begun, net_committed};
+ghost use Rattle.salt_storage.specs.Staying.{Setup, StaysWithin};
 ghost use Rattle.salt_storage.specs.Storing.{IsFound, IsPartOf, IsSoundKept, MayDecide, MayDefine, Reopens, booted, decided, defined};
 ghost use Rattle.salt_storage.specs.Writing.{FindsNoMore, OfBoot, OfDefinition, OfOpening, OfUnit, ToWrite};
 ghost use Rattle.salt_storage.specs.declared.halt.Halt.TheVariants.{DeviceFull, Stopped};
@@ -16,8 +18,7 @@ ghost use Rattle.salt_values.specs.Id.{is_same_id};
 ghost use Rattle.salt_place.specs.Placement.{GivesPlaceOf, TakesEachKey};
 ghost use Rattle.salt_values.specs.declared.cont.Cont.{Cont};
 ghost use Rattle.salt_values.specs.declared.id.Id.{Id};
-ghost use Rattle.salt_place.specs.declared.placement.Shape.{Shape};
-ghost use Rattle.std.specs.Prelude.{Err, IfErr, IfOk, IsTrue, List, OnErr, OnOk, Some, [], false, length, ℕ, ◌++◌, ◌+◌, ◌<◌, ◌∷◌, ◌≡◌, ◌≤◌, ◌⊎◌};
+ghost use Rattle.std.specs.Prelude.{Err, IfErr, IfOk, IsTrue, List, OnErr, OnOk, Option, Some, [], false, length, option_map, ℕ, ◌++◌, ◌+◌, ◌<◌, ◌∷◌, ◌≡◌, ◌≤◌, ◌⊎◌};
 
 use crate::found::{Found, Numbers};
 use crate::halt::Halt;
@@ -26,6 +27,7 @@ use salt_bytes::Move;
 use salt_disk::Disks;
 use salt_eval::Tables;
 use salt_model::Reach;
+use salt_net::Net;
 use salt_place::{PlaceKind, Placement};
 use salt_schema::Schema;
 use salt_values::{Change, Id, Key};
@@ -64,8 +66,11 @@ pub trait Storage {
     /// An opening of what a stop may leave of the devices finds this.
     ghost finds: { View → Self → Kept → Type 0 };
 
-    /// The shape that its devices are asked for.
-    ghost asked: { Self → Shape };
+    /// The shape that its devices are asked for, and whether its commits go over messages.
+    ghost asked: { Self → Setup };
+
+    /// What its commits have sent over messages since it was opened, and the pairs that wait, where they go over messages.
+    ghost net: { Self → Option Turning };
 
     /// What is written next would pass the limit of this device.
     ghost fills: { View → Self → ToWrite → ℕ → Type 0 };
@@ -92,6 +97,7 @@ pub trait Storage {
             → WritesNothing (D.view disks.old) (D.view disks.new) (open_disk_err result) }
         ensures able { OnErr result (able (D.view disks.new) self.new) }
         ensures full { (dev : ℕ) → result ≡ Err (OpenErr.Halted (DeviceFull dev)) → fills (D.view disks.new) self.new OfOpening dev }
+        ensures net { OnOk result (net self.new ≡ net_begun (asked self.new)) }
         ensures within { StaysWithin (asked self.old) (asked self.new) (D.view disks.old) (D.view disks.new) }
         ensures cause { HasCause (D.view disks.old) (D.view disks.new) (open_disk_err result) };
 
@@ -111,6 +117,7 @@ pub trait Storage {
         ensures leaves { OnErr result ((a b : Kept) → leaves (D.view disks.old) self.old a b → leaves (D.view disks.new) self.new a b) }
         ensures known { IfErr result (λ e. (a b : Kept) → leaves (D.view disks.old) self.old a b → MayFail (rests (D.view disks.new) self.new) a b e) }
         ensures full { (dev : ℕ) → result ≡ Err (OpenErr.Halted (DeviceFull dev)) → ⊥ }
+        ensures net { OnOk result (net self.new ≡ net_begun (asked self.new)) }
         ensures within { StaysWithin (asked self.old) (asked self.new) (D.view disks.old) (D.view disks.new) }
         ensures cause { HasCause (D.view disks.old) (D.view disks.new) (open_disk_err result) };
 
@@ -122,6 +129,7 @@ pub trait Storage {
         ensures is_new { IfOk result (λ boot. (u : Id) → u.boot ≡ boot → is_new (D.view disks.new) self.new u) }
         ensures leaves { OnErr result ((k : Kept) → holds (D.view disks.old) self.old k → leaves (D.view disks.new) self.new k (booted k)) }
         ensures full { (dev : ℕ) → result ≡ Err (DeviceFull dev) → fills (D.view disks.new) self.new OfBoot dev }
+        ensures net { OnOk result (net self.new ≡ net self.old) }
         ensures within { StaysWithin (asked self.old) (asked self.new) (D.view disks.old) (D.view disks.new) }
         ensures cause { HasCause (D.view disks.old) (D.view disks.new) (disk_err result) };
 
@@ -142,6 +150,7 @@ pub trait Storage {
         ensures leaves { OnErr result ((k : Kept) → holds (D.view disks.old) self.old k → leaves (D.view disks.new) self.new k k) }
         ensures full { (dev : ℕ) → result ≡ Err (DeviceFull dev) → ⊥ }
         ensures unwritten { KeepsAll (D.view disks.old) (D.view disks.new) (disk_err result) }
+        ensures net { OnOk result (net self.new ≡ net self.old) }
         ensures within { StaysWithin (asked self.old) (asked self.new) (D.view disks.old) (D.view disks.new) }
         ensures cause { HasCause (D.view disks.old) (D.view disks.new) (disk_err result) };
 
@@ -165,6 +174,7 @@ pub trait Storage {
         ensures leaves { OnErr result ((k : Kept) (conts : List Cont) → holds (D.view disks.old) self.old k → MayDecide k unit changes.now made.now conts
             → leaves (D.view disks.new) self.new k (decided k changes.now conts)) }
         ensures full { (dev : ℕ) → result ≡ Err (DeviceFull dev) → fills (D.view disks.new) self.new (OfUnit unit changes.now made.now) dev }
+        ensures net { OnOk result (net self.new ≡ net_committed (asked self.old) unit changes.now (net self.old)) }
         ensures within { StaysWithin (asked self.old) (asked self.new) (D.view disks.old) (D.view disks.new) }
         ensures cause { HasCause (D.view disks.old) (D.view disks.new) (disk_err result) };
 
@@ -185,6 +195,7 @@ pub trait Storage {
         ensures leaves { OnErr result ((k : Kept) (d : Definition) → holds (D.view disks.old) self.old k → definition_in text.now ≡ Some d → MayDefine k d
             → leaves (D.view disks.new) self.new k (defined k d)) }
         ensures full { (dev : ℕ) → result ≡ Err (DeviceFull dev) → fills (D.view disks.new) self.new (OfDefinition text.now) dev }
+        ensures net { OnOk result (net self.new ≡ net self.old) }
         ensures within { StaysWithin (asked self.old) (asked self.new) (D.view disks.old) (D.view disks.new) }
         ensures cause { HasCause (D.view disks.old) (D.view disks.new) (disk_err result) };
 
@@ -195,9 +206,22 @@ pub trait Storage {
         ensures ok { OnOk result ((D.view disks.new).armed ≡ (D.view disks.old).armed ++ (calls, pick) ∷ []) }
         ensures err { OnErr result ((D.view disks.new).armed ≡ (D.view disks.old).armed) }
         ensures faults { (D.view disks.new).faults ≡ (D.view disks.old).faults }
+        ensures net { net self.new ≡ net self.old }
         ensures within { StaysWithin (asked self.old) (asked self.new) (D.view disks.old) (D.view disks.new) }
         ensures holds { (k : Kept) → holds (D.view disks.old) self.old k → holds (D.view disks.new) self.new k }
         ensures is_new { (u : Id) → is_new (D.view disks.old) self.old u → is_new (D.view disks.new) self.new u };
+
+    /// These pairs wait behind the others. An error leaves those that waited.
+    fn arm_net<D: Disks>(&mut self, disks: &D, pairs: &[(u64, u8)]) -> Result<(), AllocError>
+        ensures ok { OnOk result (net self.new ≡ net_armed pairs.now (net self.old)) }
+        ensures err { OnErr result (net self.new ≡ net self.old) }
+        ensures asked { asked self.new ≡ asked self.old }
+        ensures holds { (k : Kept) → holds (D.view disks.now) self.old k → holds (D.view disks.now) self.new k }
+        ensures is_new { (u : Id) → is_new (D.view disks.now) self.old u → is_new (D.view disks.now) self.new u };
+
+    /// Whether its commits go over messages.
+    fn over_net(&self) -> bool
+        ensures { result ≡ (asked self.now).over_net };
 
     /// Starts the devices again, after a fault or a stop.
     fn restart<D: Disks>(&mut self, disks: &mut D)
@@ -219,4 +243,9 @@ pub trait Storage {
         ensures able { (a b : Kept) → leaves (D.view disks.now) self.now a b → able (D.view disks.now) self.now }
         ensures settled { settled (D.view disks.now) self.now → able (D.view disks.now) self.now }
         ensures finds { (k : Kept) → settled (D.view disks.now) self.now → rests (D.view disks.now) self.now k → finds (D.view disks.now) self.now k };
+
+    /// It is given up: the net that its commits have gone over, where they go over messages.
+    fn into_net<D: Disks>(self, disks: &D) -> Option<Net>
+        requires { (k : Kept) × holds (D.view disks.now) self k }
+        ensures { result ≡ option_map (λ t. t.events) (net self) };
 }

@@ -1,6 +1,7 @@
 use Rattle.salt_devices.proofs.Anew.{fails_known, has_shape, holds_there, mute_left, mute_there, never, not_left, recalled, unwritten_left}
 use Rattle.salt_devices.proofs.Within.{nothing_within, store_within, within_on}
 use Rattle.salt_devices.proofs.again.open_again.Goals as goal
+use Rattle.salt_devices.specs.Holding.{setup_in}
 use Rattle.salt_devices.specs.declared.pending.Pending.TheVariants.{Lost}
 use Rattle.salt_disk.proofs.CallAfterCall.{cause_on}
 use Rattle.salt_gatelog.proofs.Entries.{not_told}
@@ -80,23 +81,23 @@ returns-then-may_answer-clause-known g c a b h remembers =
     (c.may_answer.ensures.may c.if-may_answer.true a b r.numbers r.follows)
 
 pub returns-then-is_lost-clause-within : goal.returns-then-is_lost-clause-within
-returns-then-is_lost-clause-within g c = nothing_within (g.D.Disks.view c.args.disks.now) c.args.shape
+returns-then-is_lost-clause-within g c over = nothing_within (g.D.Disks.view c.args.disks.now) (setup_in c.args.shape over)
 
 pub returns-in-Ok-true-clause-within : goal.returns-in-Ok-true-clause-within
-returns-in-Ok-true-clause-within g c = store_within (g.D.Disks.view c.args.disks.now) (g.D.Disks.view c.open_devices.new.disks) c.args.shape None c.in-Ok.ensures.others
+returns-in-Ok-true-clause-within g c over = store_within (g.D.Disks.view c.args.disks.now) (g.D.Disks.view c.open_devices.new.disks) (setup_in c.args.shape over) None c.in-Ok.ensures.others
 
 pub returns-in-Ok-false-clause-within : goal.returns-in-Ok-false-clause-within
-returns-in-Ok-false-clause-within g c =
-    within_on (g.D.Disks.view c.args.disks.now) (g.D.Disks.view c.open_devices.new.disks) c.args.shape (g.D.Disks.view c.fault.new.disks) (open_disk_err_of c.fault.result)
-    (store_within (g.D.Disks.view c.args.disks.now) (g.D.Disks.view c.open_devices.new.disks) c.args.shape None c.in-Ok.ensures.others) c.fault.ensures.kept
+returns-in-Ok-false-clause-within g c over =
+    within_on (g.D.Disks.view c.args.disks.now) (g.D.Disks.view c.open_devices.new.disks) (setup_in c.args.shape over) (g.D.Disks.view c.fault.new.disks) (open_disk_err_of c.fault.result)
+    (store_within (g.D.Disks.view c.args.disks.now) (g.D.Disks.view c.open_devices.new.disks) (setup_in c.args.shape over) None c.in-Ok.ensures.others) c.fault.ensures.kept
 
 pub returns-in-Err-is_remembered-clause-within : goal.returns-in-Err-is_remembered-clause-within
-returns-in-Err-is_remembered-clause-within g c = store_within (g.D.Disks.view c.args.disks.now) (g.D.Disks.view c.open_devices.new.disks) c.args.shape None c.in-Ok.ensures.others
+returns-in-Err-is_remembered-clause-within g c over = store_within (g.D.Disks.view c.args.disks.now) (g.D.Disks.view c.open_devices.new.disks) (setup_in c.args.shape over) None c.in-Ok.ensures.others
 
 pub returns-then-may_answer-clause-within : goal.returns-then-may_answer-clause-within
-returns-then-may_answer-clause-within g c = store_within (g.D.Disks.view c.args.disks.now) (g.D.Disks.view c.open_devices.new.disks) c.args.shape (open_disk_err_of c.in-Err.e) c.in-Err.ensures.others
+returns-then-may_answer-clause-within g c over = store_within (g.D.Disks.view c.args.disks.now) (g.D.Disks.view c.open_devices.new.disks) (setup_in c.args.shape over) (open_disk_err_of c.in-Err.e) c.in-Err.ensures.others
 
 pub returns-else-may_answer-clause-within : goal.returns-else-may_answer-clause-within
-returns-else-may_answer-clause-within g c =
-    within_on (g.D.Disks.view c.args.disks.now) (g.D.Disks.view c.open_devices.new.disks) c.args.shape (g.D.Disks.view c.fault-in-Err.new.disks) (open_disk_err_of c.fault-in-Err.result)
-    (store_within (g.D.Disks.view c.args.disks.now) (g.D.Disks.view c.open_devices.new.disks) c.args.shape (open_disk_err_of c.in-Err.e) c.in-Err.ensures.others) c.fault-in-Err.ensures.kept
+returns-else-may_answer-clause-within g c over =
+    within_on (g.D.Disks.view c.args.disks.now) (g.D.Disks.view c.open_devices.new.disks) (setup_in c.args.shape over) (g.D.Disks.view c.fault-in-Err.new.disks) (open_disk_err_of c.fault-in-Err.result)
+    (store_within (g.D.Disks.view c.args.disks.now) (g.D.Disks.view c.open_devices.new.disks) (setup_in c.args.shape over) (open_disk_err_of c.in-Err.e) c.in-Err.ensures.others) c.fault-in-Err.ensures.kept

@@ -67,7 +67,7 @@ returns-in_err-boot-clause-cause g c =
     rw (answer_is c.from_residual.result p.0 c.in_err-boot.field-0.0 p.1 p.2) c.in_err-boot.ensures.cause
 
 pub returns-clause-within : goal.returns-clause-within
-returns-clause-within g c shape k h = entry_within (g.D.Disks.view c.args.disks.now) (g.D.Disks.view c.boot.new.disks) shape c.args.store.now k h None c.in_ok-boot.ensures.others
+returns-clause-within g c setup k h = entry_within (g.D.Disks.view c.args.disks.now) (g.D.Disks.view c.boot.new.disks) setup c.args.store.now k h None c.in_ok-boot.ensures.others
 
 pub returns-in_err-boot-clause-within : goal.returns-in_err-boot-clause-within
-returns-in_err-boot-clause-within g c shape k h = entry_within (g.D.Disks.view c.args.disks.now) (g.D.Disks.view c.boot.new.disks) shape c.args.store.now k h (Some c.in_err-boot.field-0.0) c.in_err-boot.ensures.others
+returns-in_err-boot-clause-within g c setup k h = entry_within (g.D.Disks.view c.args.disks.now) (g.D.Disks.view c.boot.new.disks) setup c.args.store.now k h (Some c.in_err-boot.field-0.0) c.in_err-boot.ensures.others

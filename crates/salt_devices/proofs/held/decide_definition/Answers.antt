@@ -69,10 +69,10 @@ pub returns-then-decisions-eq18446744073709551615-clause-leaves : goal.returns-t
 returns-then-decisions-eq18446744073709551615-clause-leaves g c shape k def h reads may = held_leaves (g.D.Disks.view c.args.disks.now) shape c.args.store.now k h (defined k def)
 
 pub returns-then-decisions-eq18446744073709551615-clause-within : goal.returns-then-decisions-eq18446744073709551615-clause-within
-returns-then-decisions-eq18446744073709551615-clause-within g c shape k h = nothing_within (g.D.Disks.view c.args.disks.now) shape
+returns-then-decisions-eq18446744073709551615-clause-within g c setup k h = nothing_within (g.D.Disks.view c.args.disks.now) setup
 
 pub returns-clause-within : goal.returns-clause-within
-returns-clause-within g c shape k h = entry_within (g.D.Disks.view c.args.disks.now) (g.D.Disks.view c.define.new.disks) shape c.args.store.now k h None c.in_ok-number.ensures.others
+returns-clause-within g c setup k h = entry_within (g.D.Disks.view c.args.disks.now) (g.D.Disks.view c.define.new.disks) setup c.args.store.now k h None c.in_ok-number.ensures.others
 
 pub returns-in_err-number-clause-within : goal.returns-in_err-number-clause-within
-returns-in_err-number-clause-within g c shape k h = entry_within (g.D.Disks.view c.args.disks.now) (g.D.Disks.view c.define.new.disks) shape c.args.store.now k h (Some c.in_err-number.field-0.0) c.in_err-number.ensures.others
+returns-in_err-number-clause-within g c setup k h = entry_within (g.D.Disks.view c.args.disks.now) (g.D.Disks.view c.define.new.disks) setup c.args.store.now k h (Some c.in_err-number.field-0.0) c.in_err-number.ensures.others

@@ -9,6 +9,11 @@ use Rattle.salt_devices.proofs.Deciding.{others_stay_new, stands_to_commit, unit
 use Rattle.salt_devices.proofs.Filled.{unit_fills}
 use Rattle.salt_storage.proofs.Halted.{full_is, memory_is}
 use Rattle.salt_devices.proofs.Limited.{unit_stays}
+use Rattle.salt_devices.proofs.Netted.{shape_held}
+use Rattle.salt_commit.specs.Messages.{net_of}
+use Rattle.salt_net.specs.Turns.{commits}
+use Rattle.salt_place.specs.declared.placement.Shape.{Shape}
+use Rattle.salt_stands.specs.Placed.{nodes_in}
 use Rattle.salt_devices.proofs.Stores.{held_leaves}
 use Rattle.salt_devices.proofs.Within.{commit_within, nothing_within}
 use Rattle.salt_devices.proofs.held.decide_unit.Goals as goal
@@ -20,6 +25,7 @@ use Rattle.law_types.specs.Typed.{AreChangesOf}
 use Rattle.std.proofs.Common.{Err, None, Some, ap, refl, subst, true, ◌≡◌, ◌∙◌}
 use Rattle.std.proofs.lemmas.Result.{err_from_is_err_and}
 use Rattle.std.specs.List.{list_all}
+use Rattle.std.specs.Prelude.{option_map}
 
 pub spelled_move-requires : goal.spelled_move-requires
 spelled_move-requires g c = let r = c.requires.held in short_move r.1 c.args.unit c.args.changes.now c.args.made.now r.3.0 r.3.1
@@ -97,20 +103,25 @@ returns-in_err-number-clause-full g c dev is shape k h =
     (unit_fills d shape x k h c.args.unit cs made dev (subst (λ b. CommitPassesLimit d.limit x c.args.unit cs b dev) spells full))
 
 pub returns-then-decisions-eq18446744073709551615-clause-within : goal.returns-then-decisions-eq18446744073709551615-clause-within
-returns-then-decisions-eq18446744073709551615-clause-within g c shape k h = nothing_within (g.D.Disks.view c.args.disks.now) shape
+returns-then-decisions-eq18446744073709551615-clause-within g c setup k h = nothing_within (g.D.Disks.view c.args.disks.now) setup
 
 pub returns-in_err-spelled-clause-within : goal.returns-in_err-spelled-clause-within
-returns-in_err-spelled-clause-within g c shape k h = nothing_within (g.D.Disks.view c.args.disks.now) shape
+returns-in_err-spelled-clause-within g c setup k h = nothing_within (g.D.Disks.view c.args.disks.now) setup
 
 pub returns-clause-within : goal.returns-clause-within
-returns-clause-within g c shape k h = commit_within (g.D.Disks.view c.args.disks.now) (g.D.Disks.view c.commit.new.disks) shape c.args.store.now k h c.args.changes.now None c.in_ok-number.ensures.others
+returns-clause-within g c setup k h = commit_within (g.D.Disks.view c.args.disks.now) (g.D.Disks.view c.commit.new.disks) setup c.args.store.now k h c.args.changes.now None c.in_ok-number.ensures.others
 
 pub returns-in_err-number-clause-within : goal.returns-in_err-number-clause-within
-returns-in_err-number-clause-within g c shape k h =
-    commit_within (g.D.Disks.view c.args.disks.now) (g.D.Disks.view c.commit.new.disks) shape c.args.store.now k h c.args.changes.now (Some c.in_err-number.field-0.0) c.in_err-number.ensures.others
+returns-in_err-number-clause-within g c setup k h =
+    commit_within (g.D.Disks.view c.args.disks.now) (g.D.Disks.view c.commit.new.disks) setup c.args.store.now k h c.args.changes.now (Some c.in_err-number.field-0.0) c.in_err-number.ensures.others
 
 pub returns-in_err-number-clause-stay : goal.returns-in_err-number-clause-stay
 returns-in_err-number-clause-stay g c e is not =
     let p = err_from_is_err_and c.from_residual-in_err-number.result c.from_residual-in_err-number.ensures.1 in
     let same : e ≡ p.0 = cc (is, p.1) in
     c.in_err-number.ensures.stay c.in_err-number.field-0.0 refl (λ lacks. not (same ∙ memory_is p.0 (p.2 ∙ lacks)))
+
+pub returns-clause-net : goal.returns-clause-net
+returns-clause-net g c shape k h =
+    let x = c.args.store.now in
+    c.in_ok-number.ensures.net ∙ ap (λ (s : Shape). option_map (commits c.args.unit (nodes_in s c.args.changes.now)) (net_of x)) (shape_held (g.D.Disks.view c.args.disks.now) shape x k h)

@@ -3,6 +3,7 @@ use Rattle.salt_devices.proofs.Within.{store_within, within_on}
 use Rattle.salt_devices.proofs.open.open_first.Goals as goal
 use Rattle.salt_gatelog.proofs.Entries.{not_told}
 use Rattle.salt_storage.specs.Answers.{open_disk_err_of}
+use Rattle.salt_devices.specs.Holding.{setup_in}
 use Rattle.std.proofs.Common.{IsTrue, None, sym, ◌∙◌}
 
 pub fault-requires : goal.fault-requires
@@ -29,15 +30,15 @@ returns-then-refuses-clause-unwritten g c refusal is refused told =
     absurd (c.refuses.ensures.refused c.if-refuses.true (not_refused d c.args.shape c.args.pending.now c.in-Err.e c.requires.opens (c.is_opening.ensures.0 c.if-not-is_opening.false) told (c.in-Err.ensures.err told)))
 
 pub returns-in-Ok-clause-within : goal.returns-in-Ok-clause-within
-returns-in-Ok-clause-within g c = store_within (g.D.Disks.view c.args.disks.now) (g.D.Disks.view c.open_devices.new.disks) c.args.shape None c.in-Ok.ensures.others
+returns-in-Ok-clause-within g c over = store_within (g.D.Disks.view c.args.disks.now) (g.D.Disks.view c.open_devices.new.disks) (setup_in c.args.shape over) None c.in-Ok.ensures.others
 
 pub returns-then-not-is_opening-clause-within : goal.returns-then-not-is_opening-clause-within
-returns-then-not-is_opening-clause-within g c = store_within (g.D.Disks.view c.args.disks.now) (g.D.Disks.view c.open_devices.new.disks) c.args.shape (open_disk_err_of c.in-Err.e) c.in-Err.ensures.others
+returns-then-not-is_opening-clause-within g c over = store_within (g.D.Disks.view c.args.disks.now) (g.D.Disks.view c.open_devices.new.disks) (setup_in c.args.shape over) (open_disk_err_of c.in-Err.e) c.in-Err.ensures.others
 
 pub returns-then-refuses-clause-within : goal.returns-then-refuses-clause-within
-returns-then-refuses-clause-within g c =
-    within_on (g.D.Disks.view c.args.disks.now) (g.D.Disks.view c.open_devices.new.disks) c.args.shape (g.D.Disks.view c.fault.new.disks) (open_disk_err_of c.fault.result)
-    (store_within (g.D.Disks.view c.args.disks.now) (g.D.Disks.view c.open_devices.new.disks) c.args.shape (open_disk_err_of c.in-Err.e) c.in-Err.ensures.others) c.fault.ensures.kept
+returns-then-refuses-clause-within g c over =
+    within_on (g.D.Disks.view c.args.disks.now) (g.D.Disks.view c.open_devices.new.disks) (setup_in c.args.shape over) (g.D.Disks.view c.fault.new.disks) (open_disk_err_of c.fault.result)
+    (store_within (g.D.Disks.view c.args.disks.now) (g.D.Disks.view c.open_devices.new.disks) (setup_in c.args.shape over) (open_disk_err_of c.in-Err.e) c.in-Err.ensures.others) c.fault.ensures.kept
 
 pub returns-else-refuses-clause-within : goal.returns-else-refuses-clause-within
-returns-else-refuses-clause-within g c = store_within (g.D.Disks.view c.args.disks.now) (g.D.Disks.view c.open_devices.new.disks) c.args.shape (open_disk_err_of c.in-Err.e) c.in-Err.ensures.others
+returns-else-refuses-clause-within g c over = store_within (g.D.Disks.view c.args.disks.now) (g.D.Disks.view c.open_devices.new.disks) (setup_in c.args.shape over) (open_disk_err_of c.in-Err.e) c.in-Err.ensures.others

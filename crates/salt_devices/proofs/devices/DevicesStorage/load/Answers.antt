@@ -1,7 +1,8 @@
-use Rattle.salt_devices.proofs.Netted.{net_same, new_same, new_there}
+use Rattle.salt_devices.proofs.Netted.{net_same, new_same, new_there, sent_same}
 use Rattle.salt_devices.proofs.Standing.{breaks_off, goes_on, the_net, the_store}
 use Rattle.salt_devices.proofs.Within.{kept_within}
 use Rattle.salt_devices.proofs.devices.DevicesStorage.load.Goals as goal
+use Rattle.salt_devices.specs.Holding.{setup_in}
 use Rattle.salt_devices.specs.Remembering.{MayFollow}
 use Rattle.std.proofs.Common.{None, arith, refl, subst, sym}
 
@@ -28,7 +29,10 @@ returns-in-Err-clause-leaves g c k h =
     (c.in-Err.ensures.leaves c.args.self.now.shape k held) c.in-Err.ensures.stay (subst (λ q. MayFollow q k k) (sym h.nothing) refl) held.kept
 
 pub returns-in-Ok-clause-within : goal.returns-in-Ok-clause-within
-returns-in-Ok-clause-within g c = kept_within (g.D.Disks.view c.args.disks.now) (g.D.Disks.view c.load_rows.new.disks) c.args.self.now.shape None c.in-Ok.ensures.kept
+returns-in-Ok-clause-within g c = kept_within (g.D.Disks.view c.args.disks.now) (g.D.Disks.view c.load_rows.new.disks) (setup_in c.args.self.now.shape c.args.self.now.over_net) None c.in-Ok.ensures.kept
 
 pub returns-in-Err-clause-within : goal.returns-in-Err-clause-within
-returns-in-Err-clause-within g c = kept_within (g.D.Disks.view c.args.disks.now) (g.D.Disks.view c.load_rows.new.disks) c.args.self.now.shape _ c.in-Err.ensures.kept
+returns-in-Err-clause-within g c = kept_within (g.D.Disks.view c.args.disks.now) (g.D.Disks.view c.load_rows.new.disks) (setup_in c.args.self.now.shape c.args.self.now.over_net) _ c.in-Err.ensures.kept
+
+pub returns-in-Ok-clause-net : goal.returns-in-Ok-clause-net
+returns-in-Ok-clause-net g c = sent_same c.args.self.now.store c.in-Some.store c.load_rows.new.store c.in-Some.is c.in-Ok.ensures.messages

@@ -20,7 +20,8 @@ returns-in-Ok-clause-holds g c =
     let o = c.in-Ok.ensures.ok in
     let x = c.args.self.now in (
       o.kept,
-      opened_held d e x.shape c.in-Ok.store c.in-Ok.found o c.requires.settled.able c.in-Ok.ensures.within.shape c.in-Ok.ensures.plain,
+      opened_held d e x.shape c.in-Ok.store c.in-Ok.found o c.put_over.result c.requires.settled.able (c.in-Ok.ensures.within x.over_net).shape
+          (record { rests = c.put_over.ensures.rests; new = c.put_over.ensures.new; rest = c.put_over.ensures.rest }),
       o.is_found,
       opened_finds d e x.shape c.in-Ok.store c.in-Ok.found o x.started c.requires.settled.started_now,
     )
@@ -30,12 +31,12 @@ returns-in-Err-clause-refuses g c told = upon_bytes (g.D.Disks.view c.args.disks
 
 pub returns-in-Err-clause-still : goal.returns-in-Err-clause-still
 returns-in-Err-clause-still g c =
-    no_more (g.D.Disks.view c.args.disks.now) (g.D.Disks.view c.open_first.new.disks) c.args.self.now.shape c.in-Err.ensures.within.shape c.args.self.now.started _ c.requires.settled.started_now refl c.in-Err.ensures.still
+    no_more (g.D.Disks.view c.args.disks.now) (g.D.Disks.view c.open_first.new.disks) c.args.self.now.shape (c.in-Err.ensures.within c.args.self.now.over_net).shape c.args.self.now.started _ c.requires.settled.started_now refl c.in-Err.ensures.still
 
 pub returns-in-Err-clause-rests : goal.returns-in-Err-clause-rests
 returns-in-Err-clause-rests g c k h =
     let x = c.args.self.now in
-    rests_behind (g.D.Disks.view c.args.disks.now) (g.D.Disks.view c.open_first.new.disks) x.shape c.in-Err.ensures.within.shape c.requires.settled.able x.started c.requires.settled.started_now c.in-Err.ensures.rests k h
+    rests_behind (g.D.Disks.view c.args.disks.now) (g.D.Disks.view c.open_first.new.disks) x.shape (c.in-Err.ensures.within c.args.self.now.over_net).shape c.requires.settled.able x.started c.requires.settled.started_now c.in-Err.ensures.rests k h
 
 pub returns-in-Err-clause-tried : goal.returns-in-Err-clause-tried
 returns-in-Err-clause-tried g c is = tried_behind _ c.in-Err.e c.pending_opening.ensures (cc is)
@@ -44,13 +45,13 @@ pub returns-in-Err-clause-able : goal.returns-in-Err-clause-able
 returns-in-Err-clause-able g c =
     let d = g.D.Disks.view c.args.disks.now in
     let e = g.D.Disks.view c.open_first.new.disks in
-    called _ _ _ d e refl c.in-Err.ensures.within.shape c.requires.settled.able
-    (opens_behind d e c.args.self.now.shape _ c.in-Err.e c.in-Err.ensures.within.shape c.pending_opening.ensures (λ is. c.in-Err.ensures.stopped (ap Err is)))
+    called _ _ _ d e refl (c.in-Err.ensures.within c.args.self.now.over_net).shape c.requires.settled.able
+    (opens_behind d e c.args.self.now.shape _ c.in-Err.e (c.in-Err.ensures.within c.args.self.now.over_net).shape c.pending_opening.ensures (λ is. c.in-Err.ensures.stopped (ap Err is)))
 
 pub returns-in-Err-clause-full : goal.returns-in-Err-clause-full
 returns-in-Err-clause-full g c dev is =
     let full : c.in-Err.e ≡ Halted (DeviceFull dev) = cc is in
-    passes_on (g.D.Disks.view c.args.disks.now) (g.D.Disks.view c.open_first.new.disks) c.args.self.now.shape dev c.in-Err.ensures.within.shape (c.in-Err.ensures.full dev (ap Err full))
+    passes_on (g.D.Disks.view c.args.disks.now) (g.D.Disks.view c.open_first.new.disks) c.args.self.now.shape dev (c.in-Err.ensures.within c.args.self.now.over_net).shape (c.in-Err.ensures.full dev (ap Err full))
 
 pub returns-in-Ok-clause-unwritten : goal.returns-in-Ok-clause-unwritten
 returns-in-Ok-clause-unwritten g c refusal is refuses told =
@@ -61,3 +62,12 @@ pub returns-in-Err-clause-unwritten : goal.returns-in-Err-clause-unwritten
 returns-in-Err-clause-unwritten g c refusal is refuses told =
     let x = c.args.self.now in
     c.in-Err.ensures.unwritten refusal is (refused_bytes (g.D.Disks.view c.args.disks.now) x.shape x.started refusal c.requires.settled.started_now c.requires.settled.able (refuses told)) told
+
+pub returns-in-Ok-clause-net : goal.returns-in-Ok-clause-net
+returns-in-Ok-clause-net g c = c.put_over.ensures.net
+
+pub returns-in-Ok-clause-within : goal.returns-in-Ok-clause-within
+returns-in-Ok-clause-within g c = c.in-Ok.ensures.within c.args.self.now.over_net
+
+pub returns-in-Err-clause-within : goal.returns-in-Err-clause-within
+returns-in-Err-clause-within g c = c.in-Err.ensures.within c.args.self.now.over_net

@@ -17,17 +17,27 @@ pub returns-in-Ok-clause-holds : goal.returns-in-Ok-clause-holds
 returns-in-Ok-clause-holds g c a b h =
     let x = c.in-Some.before in
     let is = c.requires.settled.started_now in
-    refound_either _ _ _ c.args.self.now.numbers c.args.self.now.pending _ is x c.in-Some.is (g.D.Disks.view c.open_again.new.disks) c.in-Ok.store c.in-Ok.found a b c.in-Ok.ensures.within.shape c.requires.settled.able c.in-Ok.ensures.plain
+    refound_either _ _ _ c.args.self.now.numbers c.args.self.now.pending _ is x c.in-Some.is (g.D.Disks.view c.open_again.new.disks) c.in-Ok.store c.put_over.result c.in-Ok.found a b (c.in-Ok.ensures.within c.args.self.now.over_net).shape c.requires.settled.able
+    (record { rests = c.put_over.ensures.rests; new = c.put_over.ensures.new; rest = c.put_over.ensures.rest })
     (c.in-Ok.ensures.ok a b (the_left _ _ _ _ _ _ is x c.in-Some.is a b h) (the_memory _ _ _ _ _ _ is x c.in-Some.is a b h))
 
 pub returns-in-Err-clause-leaves : goal.returns-in-Err-clause-leaves
 returns-in-Err-clause-leaves g c a b h =
     let x = c.in-Some.before in
     let is = c.requires.settled.started_now in
-    left_behind _ _ _ _ _ _ is x c.in-Some.is a b h (g.D.Disks.view c.open_again.new.disks) c.in-Err.ensures.within.shape (c.in-Err.ensures.leaves a b (the_left _ _ _ _ _ _ is x c.in-Some.is a b h))
+    left_behind _ _ _ _ _ _ is x c.in-Some.is a b h (g.D.Disks.view c.open_again.new.disks) (c.in-Err.ensures.within c.args.self.now.over_net).shape (c.in-Err.ensures.leaves a b (the_left _ _ _ _ _ _ is x c.in-Some.is a b h))
 
 pub returns-in-Err-clause-known : goal.returns-in-Err-clause-known
 returns-in-Err-clause-known g c a b h =
     let x = c.in-Some.before in
     let is = c.requires.settled.started_now in
     c.in-Err.ensures.known a b (the_left _ _ _ _ _ _ is x c.in-Some.is a b h) (the_memory _ _ _ _ _ _ is x c.in-Some.is a b h)
+
+pub returns-in-Ok-clause-net : goal.returns-in-Ok-clause-net
+returns-in-Ok-clause-net g c = c.put_over.ensures.net
+
+pub returns-in-Ok-clause-within : goal.returns-in-Ok-clause-within
+returns-in-Ok-clause-within g c = c.in-Ok.ensures.within c.args.self.now.over_net
+
+pub returns-in-Err-clause-within : goal.returns-in-Err-clause-within
+returns-in-Err-clause-within g c = c.in-Err.ensures.within c.args.self.now.over_net
