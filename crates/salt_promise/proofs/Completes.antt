@@ -38,9 +38,9 @@ rose (e ∷ es) first last h = rose-from first h.0 last (later e first h.0 h.1) 
 -- A SCRIPT within its size is not too long
 
 not-too-long : (r : Run) (command : Command) (trace : Trace) → r.status ≡ ScriptTooLong → Does command r trace → IsWithin command r.before.source.bytes → ⊥
-not-too-long r (Script shape early) trace e d w = go r.before.source.bytes w (subst (λ s. AreLinesIn (way_of s).lines r.before.source.bytes r.after.source.bytes d.texts) e d.lines)
+not-too-long r (Script shape early over_net) trace e d w = go r.before.source.bytes w (subst (λ s. AreLinesIn (way_of s).lines r.before.source.bytes r.after.source.bytes d.texts) e d.lines)
   where
-    go : (o : Option (List ℕ)) → IsWithin (Script shape early) o → AreLinesIn LinesWithin o r.after.source.bytes d.texts → ⊥
+    go : (o : Option (List ℕ)) → IsWithin (Script shape early over_net) o → AreLinesIn LinesWithin o r.after.source.bytes d.texts → ⊥
     go None h g = h
     go (Some script) h g = let over = g.1 in omega arith
 not-too-long r (Load calls) trace e d w = subst (λ s. AreLoadLines (way_of s).lines (map Tree (load_lines calls)) (lines_of trace)) e d.lines
@@ -48,7 +48,7 @@ not-too-long r (Load calls) trace e d w = subst (λ s. AreLoadLines (way_of s).l
 -- FIRST LINES of the command
 
 first-lines : (r : Run) (command : Command) (trace : Trace) → (way_of r.status).lines ≡ FirstLines → Does command r trace → AsksFirst command r.before.source.bytes trace
-first-lines r (Script shape early) trace e d = (d.texts, d.asked, go r.before.source.bytes (subst (λ x. AreLinesIn x r.before.source.bytes r.after.source.bytes d.texts) e d.lines))
+first-lines r (Script shape early over_net) trace e d = (d.texts, d.asked, go r.before.source.bytes (subst (λ x. AreLinesIn x r.before.source.bytes r.after.source.bytes d.texts) e d.lines))
   where
     go : (o : Option (List ℕ)) → AreLinesIn FirstLines o r.after.source.bytes d.texts → AreLinesIn FirstLines o None d.texts
     go None h = tt

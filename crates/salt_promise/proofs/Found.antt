@@ -138,7 +138,7 @@ module _ (read : List ℕ → Option Definition) (reads : IsReader read) where
 
 abbrev pub finds_table : Run
 finds_table = record {
-  command = Some (Script one_part false);
+  command = Some (Script one_part false false);
   before = record { source = record { bytes = Some []; faults = 0 }; sink = record { bytes = Some []; faults = 0 }; devices = holding ample bytes_before [] };
   after = record {
     source = record { bytes = Some []; faults = 0 };
@@ -148,6 +148,7 @@ finds_table = record {
   status = Done;
   flight = None;
   story = Opened 2 1 ∷ Ready ∷ [];
+  net = None;
 }
 
 abbrev at_first : Kept
@@ -197,6 +198,8 @@ module _ (read : List ℕ → Option Definition) (reads : IsReader read) where
       can_stop = refl;
       early = refl;
       over_net = refl;
+      net = refl;
+      agreed = tt;
       tells = record { begins = refl; told = refl; played = played };
       promises = law trace played well;
       unspent = ((tt, refl), tt);
@@ -216,7 +219,7 @@ module _ (read : List ℕ → Option Definition) (reads : IsReader read) where
     source = refl;
     sink = refl;
     downs = (0, omega arith, (0, omega arith, omega arith));
-    stops = record { stops = []; behind = refl; are = refl };
+    stops = λ off. record { stops = []; behind = refl; are = refl };
     shape = record { count = refl; can_stop = refl; told = refl; limit = λ dev. refl };
     others = λ told dev low out c h. h ∙ beside-both dev out;
   })

@@ -40,7 +40,7 @@ use Rattle.salt_tokens.specs.Spelling.{keyword_of, sign_of}
 use Rattle.salt_tokens.specs.declared.sign.Sign.TheVariants as mark
 use Rattle.salt_tokens.specs.declared.token.TokenKind.TheVariants as kind
 use Rattle.salt_values.specs.declared.id.Id.{Id}
-use Rattle.std.proofs.Common.{arith, false, inl, inr, ◌∙◌}
+use Rattle.std.proofs.Common.{None, arith, false, inl, inr, ◌∙◌}
 use Rattle.std.specs.Prelude.{List, Option, Some, [], codes, refl, suc, zero, ℕ, ⊤, ◌++◌, ◌<◌, ◌∷◌, ◌≡◌, ◌⊎◌}
 
 -- THE SCRIPT: a session begins a unit, and commits it
@@ -133,12 +133,13 @@ after = record {
 
 abbrev pub in_flight : Run
 in_flight = record {
-  command = Some (Script one_part false);
+  command = Some (Script one_part false false);
   before = before;
   after = after;
   status = DiskFault;
   flight = Some (flight.Unit unit);
   story = Opened 1 0 ∷ Ready ∷ Began unit (Acid 1) ∷ Down Stopped ∷ [];
+  net = None;
 }
 
 -- ITS TRACE
@@ -248,6 +249,8 @@ module _ (read : List ℕ → Option Definition) (reads : IsReader read) where
       can_stop = refl;
       early = refl;
       over_net = refl;
+      net = refl;
+      agreed = tt;
       tells = record { begins = refl; told = refl; played = played };
       promises = law trace played well;
       unspent = ((((tt, refl), tt), tt), tt);
@@ -262,7 +265,7 @@ module _ (read : List ℕ → Option Definition) (reads : IsReader read) where
     source = refl;
     sink = refl;
     downs = (0, omega arith, (0, omega arith, (0, omega arith, (0, omega arith, (omega arith, omega arith)))));
-    stops = record { stops = []; behind = refl; are = refl };
+    stops = λ off. record { stops = []; behind = refl; are = refl };
     shape = record { count = refl; can_stop = refl; told = refl; limit = λ dev. refl };
     others = λ told dev low out c. beside dev out c;
   })

@@ -94,6 +94,8 @@ meets read reads law = runs_as refl (record {
     can_stop = refl;
     early = refl;
     over_net = refl;
+    net = refl;
+    agreed = tt;
     tells = record { begins = refl; told = refl; played = played };
     promises = law trace played well;
     unspent = (((tt, refl), tt), tt);
@@ -108,7 +110,7 @@ meets read reads law = runs_as refl (record {
   source = refl;
   sink = refl;
   downs = (0, omega arith, (0, omega arith, (0, omega arith, omega arith)));
-  stops = record { stops = []; behind = refl; are = refl };
+  stops = λ off. record { stops = []; behind = refl; are = refl };
   shape = record { count = refl; can_stop = refl; told = refl; limit = λ dev. refl };
   others = λ told dev low out c h. h ∙ beside-logs (opened 0) (opened 1) (opened 2) (opened 3) dev out;
 })

@@ -31,12 +31,13 @@ quiet = record { bytes = Some []; faults = 0 }
 -- over these devices, of an empty script, with nothing told
 abbrev run : (before after : View) → Status → Run
 run before after status = record {
-  command = Some (Script one_part false);
+  command = Some (Script one_part false false);
   before = record { source = quiet; sink = quiet; devices = before };
   after = record { source = quiet; sink = quiet; devices = after };
   status = status;
   flight = None;
   story = [];
+  net = None;
 }
 
 -- device 2 has no room
@@ -102,6 +103,8 @@ module _ (read : List ℕ → Option Definition) (reads : IsReader read) where
       can_stop = refl;
       early = refl;
       over_net = refl;
+      net = refl;
+      agreed = tt;
       tells = record { begins = refl; told = refl; played = tt };
       promises = law (from start) tt well;
       unspent = tt;
@@ -116,7 +119,7 @@ module _ (read : List ℕ → Option Definition) (reads : IsReader read) where
     source = refl;
     sink = refl;
     downs = omega arith;
-    stops = record { stops = []; behind = refl; are = refl };
+    stops = λ off. record { stops = []; behind = refl; are = refl };
     shape = record { count = refl; can_stop = refl; told = refl; limit = λ dev. refl };
     others = λ told dev low out c h. h ∙ beside-logs [] [] [] (0 ∷ []) dev out;
   })
@@ -143,13 +146,14 @@ module _ (read : List ℕ → Option Definition) (reads : IsReader read) where
       ends = refl;
       story = refl;
       flight = refl;
+      net = refl;
       does = record { texts = []; asked = tt; lines = record { got = []; front = ([], refl); within = omega arith; lines = refl; first = ([], refl) }; written = refl };
       devices = λ told. record { images = λ dev c h. h; unchanged = λ e. same };
     });
     source = refl;
     sink = refl;
     downs = omega arith;
-    stops = record { stops = []; behind = refl; are = refl };
+    stops = λ off. record { stops = []; behind = refl; are = refl };
     shape = record { count = refl; can_stop = refl; told = refl; limit = λ dev. refl };
     others = λ told dev low out c h. h;
   })

@@ -30,12 +30,13 @@ use Rattle.std.specs.Prelude.{List, None, Option, Some, [], codes, false, if◌t
 
 abbrev empty : Run
 empty = record {
-  command = Some (Script one_part false);
+  command = Some (Script one_part false false);
   before = record { source = record { bytes = Some []; faults = 0 }; sink = record { bytes = Some []; faults = 0 }; devices = holding ample blank [] };
   after = record { source = record { bytes = Some []; faults = 0 }; sink = record { bytes = Some (codes "opened 1 0" ++ 10 ∷ (codes "ready" ++ 10 ∷ [])); faults = 0 }; devices = holding ample opened [] };
   status = Done;
   flight = None;
   story = Opened 1 0 ∷ Ready ∷ [];
+  net = None;
 }
 
 -- no text is a line of it
@@ -48,7 +49,7 @@ none-asked [] [] e h = refl
 none-asked [] (a ∷ asked) e h = absurd h
 none-asked (t ∷ texts) asked e h = absurd cc
 
-no-lines : (t : Trace) → MayTell empty (Script one_part false) t → lines_of t ≡ []
+no-lines : (t : Trace) → MayTell empty (Script one_part false false) t → lines_of t ≡ []
 no-lines t m = none-asked m.lines.0 (lines_of t) (front-of-none m.lines.0 m.lines.2.first.0 m.lines.2.first.1) m.lines.1
 
 not-last : {A : Type 0} (xs : List A) (x : A) → xs ++ x ∷ [] ≡ [] → ⊥
@@ -108,7 +109,7 @@ module _ (read : List ℕ → Option Definition) (reads : IsReader read) where
   unfolding entries_in
   opens = record { found = nothing_found one_part; answers = record { read = read; reads = reads; is = (refl, refl, blank-unnamed read) }; keeps = refl }
 
-  behind : (t : Trace) → MayTell empty (Script one_part false) t → IsServed t
+  behind : (t : Trace) → MayTell empty (Script one_part false false) t → IsServed t
   behind t m = served t (no-lines t m) m.tells.told m.tells.played
 
   not-spent : (t : Trace) (boot decisions : ℕ) → IsServed t → AreSpentBehind t boot decisions → ⊥
@@ -121,7 +122,7 @@ module _ (read : List ℕ → Option Definition) (reads : IsReader read) where
   unrisen : Rose 0 0 → ⊥
   unrisen h = omega arith
 
-  pub unhindered : MeetsNothing empty (Script one_part false)
+  pub unhindered : MeetsNothing empty (Script one_part false false)
   unhindered = record {
     told = refl;
     kept = nothing_kept;

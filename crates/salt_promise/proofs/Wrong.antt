@@ -62,20 +62,21 @@ half = 2 ^ 63
 -- over one partition, of an empty script, with this printed
 abbrev run : (before after : View) → Status → Option Flight → List Event → List ℕ → Run
 run before after status flight story printed = record {
-  command = Some (Script one_part false);
+  command = Some (Script one_part false false);
   before = record { source = record { bytes = Some []; faults = 0 }; sink = record { bytes = Some []; faults = 0 }; devices = before };
   after = record { source = record { bytes = Some []; faults = 0 }; sink = record { bytes = Some printed; faults = 0 }; devices = after };
   status = status;
   flight = flight;
   story = story;
+  net = None;
 }
 
 one-command : (c d : Command) → Some c ≡ Some d → c ≡ d
 one-command c d e = cc
 
-of-script : (r : Run) → r.command ≡ Some (Script one_part false) → (RunsAs r (Script one_part false) → ⊥) → Runs r → ⊥
-of-script r is not (says_nothing e u) = let both : None ≡ Some (Script one_part false) = sym e ∙ is in cc
-of-script r is not (runs_as {command} e x) = not (subst (λ c. RunsAs r c) (one-command command (Script one_part false) (sym e ∙ is)) x)
+of-script : (r : Run) → r.command ≡ Some (Script one_part false false) → (RunsAs r (Script one_part false false) → ⊥) → Runs r → ⊥
+of-script r is not (says_nothing e u) = let both : None ≡ Some (Script one_part false false) = sym e ∙ is in cc
+of-script r is not (runs_as {command} e x) = not (subst (λ c. RunsAs r c) (one-command command (Script one_part false false) (sym e ∙ is)) x)
 
 -- SPENT NUMBERS, at first: the devices have boot 2^63, and it is served on
 
@@ -93,7 +94,7 @@ spent-closed k o = let both : opening.NumbersSpent half 0 ≡ Stands o.found = s
 spent-at-first : Runs spent_run → ⊥
 spent-at-first = of-script spent_run refl (λ x. by x.goes)
   where
-    by : FindsNothing spent_run (Script one_part false) ⊎ RunsOver spent_run (Script one_part false) → ⊥
+    by : FindsNothing spent_run (Script one_part false false) ⊎ RunsOver spent_run (Script one_part false false) → ⊥
     by (inl f) = let e = f.story in cc
     by (inr o) = spent-closed o.start.kept (o.opens refl)
 
@@ -116,13 +117,13 @@ each-unspent u (t says e) h = every-more (OpensUnspent u) (story_of t) e (each-u
 abbrev spent_later_story : List Event
 spent_later_story = Opened half 0 ∷ Ready ∷ Down why.Fault ∷ Opened (half + 1) 0 ∷ Ready ∷ []
 
-spent-later : (r : Run) → r.command ≡ Some (Script one_part false) → r.story ≡ spent_later_story → Runs r → ⊥
+spent-later : (r : Run) → r.command ≡ Some (Script one_part false false) → r.story ≡ spent_later_story → Runs r → ⊥
 spent-later r is told = of-script r is (λ x. by x.goes)
   where
     unspent : (t : Trace) → Every (OpensUnspent t) spent_later_story → ⊥
     unspent t h = let e = h.1.1.1.0 in cc
 
-    by : FindsNothing r (Script one_part false) ⊎ RunsOver r (Script one_part false) → ⊥
+    by : FindsNothing r (Script one_part false false) ⊎ RunsOver r (Script one_part false false) → ⊥
     by (inl f) = let both : spent_later_story ≡ [] = sym told ∙ f.story in cc
     by (inr o) = unspent o.trace (subst (Every (OpensUnspent o.trace)) (o.tells.told ∙ told) (each-unspent o.trace o.trace o.unspent))
 
@@ -137,7 +138,7 @@ touched_run status = run (holding ample (begun (header_at half) []) []) (holding
 written-where-refused : (status : Status) → Runs (touched_run status) → ⊥
 written-where-refused status = of-script (touched_run status) refl (λ x. by x.goes)
   where
-    by : FindsNothing (touched_run status) (Script one_part false) ⊎ RunsOver (touched_run status) (Script one_part false) → ⊥
+    by : FindsNothing (touched_run status) (Script one_part false false) ⊎ RunsOver (touched_run status) (Script one_part false false) → ⊥
     by (inl f) = let both : ◌≡◌ {A = List ℕ} (0 ∷ 0 ∷ []) (0 ∷ []) = (f.devices refl).images 1 (0 ∷ 0 ∷ []) refl in cc
     by (inr o) = spent-closed o.start.kept (o.opens refl)
 
@@ -161,7 +162,7 @@ no-log dev high (inr t) = by t.is
 spilt : (bytes : ℕ → List ℕ) (dev : ℕ) → 4 ≤ dev → dev < 26 → bytes dev ≡ 0 ∷ [] → Runs (spilt_run bytes) → ⊥
 spilt bytes dev high low written = of-script (spilt_run bytes) refl by
   where
-    by : RunsAs (spilt_run bytes) (Script one_part false) → ⊥
+    by : RunsAs (spilt_run bytes) (Script one_part false false) → ⊥
     by x = let both : ◌≡◌ {A = List ℕ} (0 ∷ []) [] = x.others refl dev low (no-log dev high) (0 ∷ []) (sym written) in cc
 
 written-pages : Runs (spilt_run (beside (0 ∷ []) [])) → ⊥
@@ -207,7 +208,7 @@ at-first bytes never = of-script (full_run bytes) refl (λ x. by x.goes)
     fills : (t : Trace) → phase t ≡ Fallen → IsFullBehind (full_run bytes).after.devices one_part t 1 → ⊥
     fills t e h = never (subst (λ p. NextFills (full_run bytes).after.devices one_part t p (next t) 1) e h)
 
-    by : FindsNothing (full_run bytes) (Script one_part false) ⊎ RunsOver (full_run bytes) (Script one_part false) → ⊥
+    by : FindsNothing (full_run bytes) (Script one_part false false) ⊎ RunsOver (full_run bytes) (Script one_part false false) → ⊥
     by (inl f) = refused f.answer f.ends
     by (inr o) = fills o.trace (fallen-untold o.trace o.tells.told) (o.ends.full 1 refl refl)
 
@@ -297,7 +298,7 @@ other-numbers = of-script other_numbers refl (λ x. by x.goes)
     behind : (t : Trace) → StandsBehind other_numbers one_part t spent_bytes → ⊥
     behind t b = apart (ap (λ k. k.boot) (stood-for spent_bytes spent_found spent-stands b.kept b.stands) ∙ b.numbers.0)
 
-    by : FindsNothing other_numbers (Script one_part false) ⊎ RunsOver other_numbers (Script one_part false) → ⊥
+    by : FindsNothing other_numbers (Script one_part false false) ⊎ RunsOver other_numbers (Script one_part false false) → ⊥
     by (inl f) = let e = f.story in let both : Down why.Stopped ∷ Down why.Stopped ∷ [] ≡ [] = e in cc
     by (inr o) = behind o.trace (o.ends.images refl spent_bytes (λ dev low. refl))
 
@@ -374,12 +375,12 @@ in-flight-untold = of-script untold_run refl (λ x. by x.goes)
     undecided : Every (λ a. is_decision a ≡ false) untold_story
     undecided = (refl, (refl, (refl, (refl, tt))))
 
-    number-of : (o : RunsOver untold_run (Script one_part false)) → (kept o.trace).decisions ≡ 0
+    number-of : (o : RunsOver untold_run (Script one_part false false)) → (kept o.trace).decisions ≡ 0
     number-of o =
         same-number o.trace (subst (Every (λ a. is_decision a ≡ false)) (sym o.tells.told) undecided)
         ∙ ap (λ s. s.kept.decisions) o.tells.begins ∙ started o.start.kept (o.opens refl)
 
-    by : FindsNothing untold_run (Script one_part false) ⊎ RunsOver untold_run (Script one_part false) → ⊥
+    by : FindsNothing untold_run (Script one_part false false) ⊎ RunsOver untold_run (Script one_part false false) → ⊥
     by (inl f) = let both : untold_story ≡ [] = f.story in cc
     by (inr o) = behind o.trace (number-of o) (o.ends.images refl made_bytes (λ dev low. refl))
 
@@ -392,11 +393,11 @@ early-stop : (first : List (ℕ × ℕ)) → first ≡ [] → armed_behind early
 unfolding early_story
 early-stop first e = ap (λ stops. armed_behind early_story (Some stops)) e
 
-stop-before-armed : (r : Run) → r.command ≡ Some (Script one_part false) → r.before.devices.armed ≡ [] → r.story ≡ early_story → Runs r → ⊥
+stop-before-armed : (r : Run) → r.command ≡ Some (Script one_part false false) → r.before.devices.armed ≡ [] → r.story ≡ early_story → Runs r → ⊥
 stop-before-armed r is none told = of-script r is no-stop
   where
-    no-stop : RunsAs r (Script one_part false) → ⊥
-    no-stop x = let both : None ≡ Some x.stops.stops = sym (ap (λ s. armed_behind s (Some r.before.devices.armed)) told ∙ early-stop r.before.devices.armed none) ∙ x.stops.behind in cc
+    no-stop : RunsAs r (Script one_part false false) → ⊥
+    no-stop x = let both : None ≡ Some (x.stops refl).stops = sym (ap (λ s. armed_behind s (Some r.before.devices.armed)) told ∙ early-stop r.before.devices.armed none) ∙ (x.stops refl).behind in cc
 
 -- ANOTHER STOP is armed at last than the one that the story tells
 
@@ -411,7 +412,7 @@ abbrev first-pick : List (ℕ × ℕ) → ℕ
 first-pick [] = 0
 first-pick (stop ∷ stops) = stop.1
 
-another-stop : (r : Run) → r.command ≡ Some (Script one_part false) → r.status ≡ Done → r.before.devices.armed ≡ [] → r.story ≡ armed_story → r.after.devices.armed ≡ (7, 0) ∷ [] → Runs r → ⊥
+another-stop : (r : Run) → r.command ≡ Some (Script one_part false false) → r.status ≡ Done → r.before.devices.armed ≡ [] → r.story ≡ armed_story → r.after.devices.armed ≡ (7, 0) ∷ [] → Runs r → ⊥
 another-stop r is done none told left = of-script r is by
   where
     same : (a b : List (ℕ × ℕ)) → Some a ≡ Some b → a ≡ b
@@ -420,14 +421,13 @@ another-stop r is done none told left = of-script r is by
     apart : ◌≡◌ {A = ℕ} 0 1 → ⊥
     apart e = omega arith
 
-    by : RunsAs r (Script one_part false) → ⊥
+    by : RunsAs r (Script one_part false false) → ⊥
     by x =
-        let stops = sym (ap (λ s. armed_behind s (Some r.before.devices.armed)) told ∙ told-stops r.before.devices.armed none) ∙ x.stops.behind in
-        let last : r.after.devices.armed ≡ x.stops.stops = subst (λ s. AreArmed s x.stops.stops r.after.devices.armed) done x.stops.are in
-        apart (ap first-pick (sym left ∙ last ∙ sym (same ((7, 1) ∷ []) x.stops.stops stops)))
+        let stops = sym (ap (λ s. armed_behind s (Some r.before.devices.armed)) told ∙ told-stops r.before.devices.armed none) ∙ (x.stops refl).behind in
+        let last : r.after.devices.armed ≡ (x.stops refl).stops = subst (λ s. AreArmed s (x.stops refl).stops r.after.devices.armed) done (x.stops refl).are in
+        apart (ap first-pick (sym left ∙ last ∙ sym (same ((7, 1) ∷ []) (x.stops refl).stops stops)))
 
--- PAIRS OF MESSAGES are no stops, though the story alone does not tell them apart: here what `net` armed is taken for the stop that came. (No
--- commit of a run goes over messages yet.)
+-- PAIRS OF MESSAGES are no stops, though the story alone does not tell them apart: here what `net` armed is taken for the stop that came.
 
 abbrev stopped_by_net : Trace
 stopped_by_net =
@@ -494,7 +494,7 @@ statements-in-opening = of-script undrained_run refl (λ x. by x.goes)
     started : (k : Kept) → OpenAs one_part blank k → k.conts ≡ []
     started k o = sym (ap (λ f. (kept_in f).conts) (ok (sym (nothing-stands o.answers.read) ∙ o.answers.is.0)) ∙ ap (λ x. x.conts) o.keeps)
 
-    by : FindsNothing undrained_run (Script one_part false) ⊎ RunsOver undrained_run (Script one_part false) → ⊥
+    by : FindsNothing undrained_run (Script one_part false false) ⊎ RunsOver undrained_run (Script one_part false false) → ⊥
     by (inl f) = let both : undrained_story ≡ [] = f.story in cc
     by (inr o) = undrained o.trace (ap (λ s. s.kept.conts) o.tells.begins ∙ started o.start.kept (o.opens refl)) o.tells.told o.drains
 

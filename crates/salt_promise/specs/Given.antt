@@ -2,6 +2,7 @@
 use Rattle.salt_disk.specs.Disks.{View}
 use Rattle.salt_model.specs.declared.events.Event.{Event}
 use Rattle.salt_model.specs.declared.events.Flight.{Flight}
+use Rattle.salt_net.specs.declared.kinds.NetEvent.{NetEvent}
 use Rattle.salt_promise.specs.declared.command.Command.TheVariants.{Load, Script}
 use Rattle.salt_promise.specs.declared.command.Command.{Command}
 use Rattle.salt_promise.specs.declared.status.Status.{Status}
@@ -25,13 +26,18 @@ world left reads held writes devices = record { source = record { bytes = left; 
 
 -- the shape of the devices that a command asks for
 abbrev pub shape_of : Command → Shape
-shape_of (Script shape early) = shape
+shape_of (Script shape early over_net) = shape
 shape_of (Load calls) = record { parts = 2; kind = Remainder }
 
 -- whether its openings end before accepted programs are finished
 abbrev pub early_of : Command → Bool
-early_of (Script shape early) = early
+early_of (Script shape early over_net) = early
 early_of (Load calls) = false
+
+-- whether its commits go over messages
+abbrev pub over_net_of : Command → Bool
+over_net_of (Script shape early over_net) = over_net
+over_net_of (Load calls) = false
 
 -- no command, where the words say none
 pub record Run : Type 1 where
@@ -41,3 +47,5 @@ pub record Run : Type 1 where
   pub status : Status
   pub flight : Option Flight
   pub story : List Event
+  -- the events of the net that its commits went over, where it is given
+  pub net : Option (List NetEvent)

@@ -27,10 +27,11 @@ count_said most word = then_some (list_all is_ascii_digit word && is_count most 
 
 -- ---- the settings of a run
 
--- what words give to a run: a value to a setting, or leave for its openings to end early
+-- what words give to a run: a value to a setting, leave for its openings to end early, or its commits over to messages
 pub data Given : Type 0 where
   given : (setting : Setting) (value : List ℕ) → Given
   ends_early : Given
+  goes_over_net : Given
 
 abbrev pub name_of : Setting → List ℕ
 name_of Parts = codes "--parts"
@@ -52,7 +53,7 @@ value_in word = option_and_then (λ at. given_to (take at word) (drop (at + 1) w
 
 -- what one word gives
 abbrev pub given_in : List ℕ → Option Given
-given_in word = if bytes_eq word (codes "--early") then Some ends_early else value_in word
+given_in word = if bytes_eq word (codes "--early") then Some ends_early else if bytes_eq word (codes "--net") then Some goes_over_net else value_in word
 
 abbrev pub begins_with_dash : List ℕ → Bool
 begins_with_dash [] = false
@@ -85,21 +86,32 @@ abbrev pub values_of : Setting → List Given → List (List ℕ)
 values_of setting [] = []
 values_of setting (given other value ∷ gs) = if is_setting setting other then value ∷ values_of setting gs else values_of setting gs
 values_of setting (ends_early ∷ gs) = values_of setting gs
+values_of setting (goes_over_net ∷ gs) = values_of setting gs
 
 -- how often openings are given leave to end early
 abbrev pub early_given : List Given → ℕ
 early_given [] = 0
 early_given (given setting value ∷ gs) = early_given gs
 early_given (ends_early ∷ gs) = suc (early_given gs)
+early_given (goes_over_net ∷ gs) = early_given gs
+
+-- how often commits are given over to messages
+abbrev pub net_given : List Given → ℕ
+net_given [] = 0
+net_given (given setting value ∷ gs) = net_given gs
+net_given (ends_early ∷ gs) = net_given gs
+net_given (goes_over_net ∷ gs) = suc (net_given gs)
 
 -- ---- a run
 
--- how many partitions, the folder of their files, where one is named, how rows are spread, and whether openings end early
+-- how many partitions, the folder of their files, where one is named, how rows are spread, whether openings end early, and whether
+-- commits go over messages
 pub record Settings : Type 0 where
   pub parts : ℕ
   pub folder : Option (List ℕ)
   pub kind : PlaceKind
   pub early : Bool
+  pub over_net : Bool
 
 -- a run has two partitions, or as many as it is told once
 abbrev pub parts_said : List (List ℕ) → Option ℕ
@@ -127,18 +139,19 @@ kind_said [] = Some Remainder
 kind_said (word ∷ []) = kind_called word
 kind_said (word ∷ another ∷ words) = None
 
--- openings end early where that is said once, and not where it is not said
-abbrev pub early_said : ℕ → Option Bool
-early_said zero = Some false
-early_said (suc zero) = Some true
-early_said (suc (suc times)) = None
+-- openings end early, or commits go over messages, where that is said once, and not where it is not said
+abbrev pub once_said : ℕ → Option Bool
+once_said zero = Some false
+once_said (suc zero) = Some true
+once_said (suc (suc times)) = None
 
-abbrev pub settings_of : Option ℕ → Option (Option (List ℕ)) → Option PlaceKind → Option Bool → Option Settings
-settings_of (Some parts) (Some folder) (Some kind) (Some early) = Some (record { parts = parts; folder = folder; kind = kind; early = early })
-settings_of parts folder kind early = None
+abbrev pub settings_of : Option ℕ → Option (Option (List ℕ)) → Option PlaceKind → Option Bool → Option Bool → Option Settings
+settings_of (Some parts) (Some folder) (Some kind) (Some early) (Some over_net) = Some (record { parts = parts; folder = folder; kind = kind; early = early; over_net = over_net })
+settings_of parts folder kind early over_net = None
 
 abbrev pub settings_given : List Given → Option Settings
-settings_given gs = settings_of (parts_said (values_of Parts gs)) (folder_said (values_of Folder gs)) (kind_said (values_of Place gs)) (early_said (early_given gs))
+settings_given gs =
+    settings_of (parts_said (values_of Parts gs)) (folder_said (values_of Folder gs)) (kind_said (values_of Place gs)) (once_said (early_given gs)) (once_said (net_given gs))
 
 -- the settings of a run that is called with these words behind `run`
 abbrev pub settings_said : List (List ℕ) → Option Settings
@@ -147,7 +160,7 @@ settings_said words = option_and_then settings_given (all_given words)
 -- ---- commands
 
 abbrev pub script_with : Settings → Command
-script_with settings = Script (record { parts = settings.parts; kind = settings.kind }) settings.early
+script_with settings = Script (record { parts = settings.parts; kind = settings.kind }) settings.early settings.over_net
 
 abbrev pub run_said : List (List ℕ) → Option Command
 run_said words = option_map script_with (settings_said words)

@@ -80,10 +80,11 @@ after = record {
 
 abbrev pub one_line : Run
 one_line = record {
-  command = Some (Script one_part false);
+  command = Some (Script one_part false false);
   before = before;
   after = after;
   status = Done;
   flight = None;
   story = Opened 1 0 ∷ Ready ∷ Refused Byte ∷ [];
+  net = None;
 }

@@ -1,6 +1,6 @@
 //! The command that words say.
 
-ghost use Rattle.salt_promise.specs.Given.{early_of, shape_of};
+ghost use Rattle.salt_promise.specs.Given.{early_of, over_net_of, shape_of};
 ghost use Rattle.std.specs.Prelude.{◌≡◌};
 
 use salt_place::{PlaceKind, Shape};
@@ -8,8 +8,13 @@ use salt_place::{PlaceKind, Shape};
 /// What the program is to do.
 #[derive(Clone, Copy, Debug, PartialEq, Eq)]
 pub enum Command {
-    /// `run`: the lines of a script, over devices of this shape; and whether openings end before accepted programs are finished.
-    Script { shape: Shape, early: bool },
+    /// `run`: the lines of a script, over devices of this shape; whether openings end before accepted programs are finished, and
+    /// whether commits go over messages.
+    Script {
+        shape: Shape,
+        early: bool,
+        over_net: bool,
+    },
     /// `load N`: the lines of the workload with so many calls, over two partitions.
     Load(u64),
 }
@@ -34,6 +39,16 @@ impl Command {
     {
         match self {
             Command::Script { early, .. } => early,
+            Command::Load(_) => false,
+        }
+    }
+
+    /// Whether its commits go over messages.
+    pub fn over_net(self) -> bool
+        ensures { result ≡ over_net_of self }
+    {
+        match self {
+            Command::Script { over_net, .. } => over_net,
             Command::Load(_) => false,
         }
     }

@@ -1,7 +1,7 @@
 //! How a run ends.
 
 ghost use Rattle.std.specs.Prelude.{◌≡◌};
-ghost use Rattle.salt_promise.specs.Status.{number_of};
+ghost use Rattle.salt_promise.specs.Status.{ends_between, number_of};
 
 use salt_place::{PlaceKind, Shape};
 use std::fmt;
@@ -34,6 +34,16 @@ pub enum Status {
 }
 
 impl Status {
+    /// Whether a run ends so between two lines: it is done, its source failed, or its script is too long.
+    pub fn is_between(self) -> bool
+        ensures { result ≡ ends_between self }
+    {
+        matches!(
+            self,
+            Status::Done | Status::ReadFault | Status::ScriptTooLong
+        )
+    }
+
     /// The exit status of the program.
     pub fn number(self) -> u8
         ensures { result ≡ number_of self }

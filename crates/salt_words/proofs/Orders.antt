@@ -1,6 +1,6 @@
 -- Settings behind settings.
 use Rattle.salt_words.proofs.Givens.{none-alone, none-given, one-given, two-given}
-use Rattle.salt_promise.specs.Words.{Given, all_given, early_given, early_said, ends_early, folder_said, given, given_by, given_in, is_setting, kind_said, parts_said, settings_given, settings_of, settings_said, values_of}
+use Rattle.salt_promise.specs.Words.{Given, all_given, early_given, ends_early, folder_said, given, given_by, given_in, goes_over_net, is_setting, kind_said, net_given, once_said, parts_said, settings_given, settings_of, settings_said, values_of}
 use Rattle.salt_promise.specs.declared.command.Setting.TheVariants.{Folder, Parts, Place}
 use Rattle.salt_promise.specs.declared.command.Setting.{Setting}
 use Rattle.std.proofs.Common.{ap, append-nil, arith, refl, subst, sym, ◌∙◌}
@@ -69,6 +69,7 @@ values_of-first false value us vs ws e = e
 values_of-append : (setting : Setting) (xs ys : List Given) → values_of setting (xs ++ ys) ≡ values_of setting xs ++ values_of setting ys
 values_of-append setting [] ys = refl
 values_of-append setting (ends_early ∷ xs) ys = values_of-append setting xs ys
+values_of-append setting (goes_over_net ∷ xs) ys = values_of-append setting xs ys
 values_of-append setting (given other value ∷ xs) ys =
     values_of-first (is_setting setting other) value (values_of setting (xs ++ ys)) (values_of setting xs) (values_of setting ys) (values_of-append setting xs ys)
 
@@ -95,6 +96,7 @@ early-append (ends_early ∷ xs) ys =
     let behind = early-append xs ys in
     let same : suc (early_given (xs ++ ys)) ≡ suc (early_given xs) + early_given ys = omega (arith, behind) in
     same
+early-append (goes_over_net ∷ xs) ys = early-append xs ys
 early-append (given setting value ∷ xs) ys = early-append xs ys
 
 early-swapped : (xs ys : List Given) → early_given (xs ++ ys) ≡ early_given (ys ++ xs)
@@ -103,12 +105,30 @@ early-swapped xs ys =
     let there = early-append ys xs in
     omega (arith, here, there)
 
+net-append : (xs ys : List Given) → net_given (xs ++ ys) ≡ net_given xs + net_given ys
+net-append [] ys = let same : net_given ys ≡ 0 + net_given ys = omega arith in same
+net-append (ends_early ∷ xs) ys = net-append xs ys
+net-append (goes_over_net ∷ xs) ys =
+    let behind = net-append xs ys in
+    let same : suc (net_given (xs ++ ys)) ≡ suc (net_given xs) + net_given ys = omega (arith, behind) in
+    same
+net-append (given setting value ∷ xs) ys = net-append xs ys
+
+net-swapped : (xs ys : List Given) → net_given (xs ++ ys) ≡ net_given (ys ++ xs)
+net-swapped xs ys =
+    let here = net-append xs ys in
+    let there = net-append ys xs in
+    omega (arith, here, there)
+
 given-swapped : (xs ys : List Given) → settings_given (xs ++ ys) ≡ settings_given (ys ++ xs)
 given-swapped xs ys =
-    ap (λ parts. settings_of parts (folder_said (values_of Folder (xs ++ ys))) (kind_said (values_of Place (xs ++ ys))) (early_said (early_given (xs ++ ys)))) (said-swapped Parts parts_said (λ u v ws. refl) xs ys)
-    ∙ ap (λ folder. settings_of (parts_said (values_of Parts (ys ++ xs))) folder (kind_said (values_of Place (xs ++ ys))) (early_said (early_given (xs ++ ys)))) (said-swapped Folder folder_said (λ u v ws. refl) xs ys)
-    ∙ ap (λ kind. settings_of (parts_said (values_of Parts (ys ++ xs))) (folder_said (values_of Folder (ys ++ xs))) kind (early_said (early_given (xs ++ ys)))) (said-swapped Place kind_said (λ u v ws. refl) xs ys)
-    ∙ ap (λ times. settings_of (parts_said (values_of Parts (ys ++ xs))) (folder_said (values_of Folder (ys ++ xs))) (kind_said (values_of Place (ys ++ xs))) (early_said times)) (early-swapped xs ys)
+    let one = xs ++ ys in
+    let other = ys ++ xs in
+    ap (λ parts. settings_of parts (folder_said (values_of Folder one)) (kind_said (values_of Place one)) (once_said (early_given one)) (once_said (net_given one))) (said-swapped Parts parts_said (λ u v ws. refl) xs ys)
+    ∙ ap (λ folder. settings_of (parts_said (values_of Parts other)) folder (kind_said (values_of Place one)) (once_said (early_given one)) (once_said (net_given one))) (said-swapped Folder folder_said (λ u v ws. refl) xs ys)
+    ∙ ap (λ kind. settings_of (parts_said (values_of Parts other)) (folder_said (values_of Folder other)) kind (once_said (early_given one)) (once_said (net_given one))) (said-swapped Place kind_said (λ u v ws. refl) xs ys)
+    ∙ ap (λ times. settings_of (parts_said (values_of Parts other)) (folder_said (values_of Folder other)) (kind_said (values_of Place other)) (once_said times) (once_said (net_given one))) (early-swapped xs ys)
+    ∙ ap (λ times. settings_of (parts_said (values_of Parts other)) (folder_said (values_of Folder other)) (kind_said (values_of Place other)) (once_said (early_given other)) (once_said times)) (net-swapped xs ys)
 
 both-swapped : (o p : Option (List Given)) → IsSome o → IsSome p → option_and_then settings_given (both o p) ≡ option_and_then settings_given (both p o)
 unfolding both

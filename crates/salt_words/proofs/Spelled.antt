@@ -1,8 +1,8 @@
 -- What is given is what is spelled.
 use Rattle.salt_words.proofs.Forms.{by-two, in-one, name-alone, one_word}
 use Rattle.salt_words.proofs.Givens.{none-alone, none-given, one-given, two-given}
-use Rattle.salt_words.specs.Spelling.{Spells, alone, in_one, in_two, nothing}
-use Rattle.salt_promise.specs.Words.{Given, all_given, begins_with_dash, ends_early, given, given_by, given_in, given_to, is_equals_sign, name_of, value_in}
+use Rattle.salt_words.specs.Spelling.{Spells, early_alone, in_one, in_two, net_alone, nothing}
+use Rattle.salt_promise.specs.Words.{Given, all_given, begins_with_dash, ends_early, given, given_by, given_in, given_to, goes_over_net, is_equals_sign, name_of, value_in}
 use Rattle.salt_promise.specs.declared.command.Setting.TheVariants.{Folder, Parts, Place}
 use Rattle.salt_promise.specs.declared.command.Setting.{Setting}
 use Rattle.std.proofs.Common.{ap, refl, subst, sym, ◌∙◌}
@@ -25,7 +25,8 @@ given-spelled (in_one setting value {words} h) =
 given-spelled (in_two setting value {words} d h) =
     two-given (name_of setting) value words (given setting value) (name-alone setting) (by-two setting value d)
     ∙ ap (option_map (λ gs. given setting value ∷ gs)) (given-spelled h)
-given-spelled (alone {words} h) = one-given (codes "--early") words ends_early refl ∙ ap (option_map (λ gs. ends_early ∷ gs)) (given-spelled h)
+given-spelled (early_alone {words} h) = one-given (codes "--early") words ends_early refl ∙ ap (option_map (λ gs. ends_early ∷ gs)) (given-spelled h)
+given-spelled (net_alone {words} h) = one-given (codes "--net") words goes_over_net refl ∙ ap (option_map (λ gs. goes_over_net ∷ gs)) (given-spelled h)
 
 -- ---- what is given is spelled
 
@@ -98,12 +99,16 @@ Reads words = (gs : List Given) → all_given words ≡ Some gs → Spells words
 Begins : List ℕ → Given → Type 0
 Begins word g = (words : List (List ℕ)) (gs : List Given) → Spells words gs → Spells (word ∷ words) (g ∷ gs)
 
-word-spelled : (word : List ℕ) (g : Given) (t : Bool) → bytes_eq word (codes "--early") ≡ t → (if t then Some ends_early else value_in word) ≡ Some g → Begins word g
+word-spelled : (word : List ℕ) (g : Given) (t u : Bool) → bytes_eq word (codes "--early") ≡ t → bytes_eq word (codes "--net") ≡ u →
+    (if t then Some ends_early else if u then Some goes_over_net else value_in word) ≡ Some g → Begins word g
 unfolding Begins one_word
-word-spelled word g true e h = λ words gs spells.
+word-spelled word g true u e f h = λ words gs spells.
     let is : ends_early ≡ g = cc in
-    subst (λ g. Spells (word ∷ words) (g ∷ gs)) is (subst (λ w. Spells (w ∷ words) (ends_early ∷ gs)) (sym ((bytes_eq-Decides word (codes "--early")).0 e)) (alone spells))
-word-spelled word g false e h = λ words gs spells.
+    subst (λ g. Spells (word ∷ words) (g ∷ gs)) is (subst (λ w. Spells (w ∷ words) (ends_early ∷ gs)) (sym ((bytes_eq-Decides word (codes "--early")).0 e)) (early_alone spells))
+word-spelled word g false true e f h = λ words gs spells.
+    let is : goes_over_net ≡ g = cc in
+    subst (λ g. Spells (word ∷ words) (g ∷ gs)) is (subst (λ w. Spells (w ∷ words) (goes_over_net ∷ gs)) (sym ((bytes_eq-Decides word (codes "--net")).0 f)) (net_alone spells))
+word-spelled word g false false e f h = λ words gs spells.
     let cut = cut-by word g (position is_equals_sign word) refl h in
     subst (λ g. Spells (word ∷ words) (g ∷ gs)) cut.same
     (subst (λ w. Spells (w ∷ words) (given cut.setting cut.value ∷ gs)) (sym cut.spelled) (in_one cut.setting cut.value spells))
@@ -112,7 +117,7 @@ one-spelled : (word : List ℕ) (words : List (List ℕ)) (g : Given) → given_
 unfolding Begins
 one-spelled word words g e reads = λ gs h.
     let b = behind g (all_given words) gs (sym (one-given word words g e) ∙ h) in
-    let spells = word-spelled word g (bytes_eq word (codes "--early")) refl e words b.0 (reads b.0 b.1) in
+    let spells = word-spelled word g (bytes_eq word (codes "--early")) (bytes_eq word (codes "--net")) refl refl e words b.0 (reads b.0 b.1) in
     subst (λ gs. Spells (word ∷ words) gs) b.2 spells
 
 two-spelled : (word next : List ℕ) (words : List (List ℕ)) (g : Given) → given_in word ≡ None → given_by word next ≡ Some g → Reads words → Reads (word ∷ next ∷ words)

@@ -1,8 +1,8 @@
 -- What the values of the program mean.
 use Rattle.salt_promise.specs.Words as words
-use Rattle.salt_promise.specs.Words.{early_given, early_said, folder_said, kind_said, parts_said, settings_of, values_of}
+use Rattle.salt_promise.specs.Words.{early_given, folder_said, kind_said, net_given, once_said, parts_said, settings_of, values_of}
 use Rattle.salt_words.specs.declared.settings.First.{First}
-use Rattle.salt_words.specs.declared.settings.Given.TheVariants.{Early, Value}
+use Rattle.salt_words.specs.declared.settings.Given.TheVariants.{Early, OverNet, Value}
 use Rattle.salt_words.specs.declared.settings.Given.{Given}
 use Rattle.salt_words.specs.declared.settings.Said.{Said}
 use Rattle.salt_promise.specs.declared.command.Setting.TheVariants.{Folder, Parts, Place}
@@ -14,13 +14,14 @@ use Rattle.std.specs.Prelude.{List, Option, if◌then◌else◌, option_to_list,
 abbrev pub given_meant : Given → words.Given
 given_meant (Value setting value) = words.given setting value.now
 given_meant Early = words.ends_early
+given_meant OverNet = words.goes_over_net
 
 abbrev pub first_meant : First → words.Given
 first_meant first = given_meant first.given
 
 -- the settings of a run, by the bytes of its folder
 abbrev pub settings_meant : Settings → words.Settings
-settings_meant s = record { parts = s.parts; folder = option_copied s.folder; kind = s.kind; early = s.early }
+settings_meant s = record { parts = s.parts; folder = option_copied s.folder; kind = s.kind; early = s.early; over_net = s.over_net }
 
 -- the settings where more is given behind what was said
 abbrev pub settings_behind : Said → List words.Given → Option words.Settings
@@ -29,4 +30,5 @@ settings_behind said gs =
     (parts_said (option_to_list (option_copied said.parts) ++ values_of Parts gs))
     (folder_said (option_to_list (option_copied said.folder) ++ values_of Folder gs))
     (kind_said (option_to_list (option_copied said.place) ++ values_of Place gs))
-    (early_said (if said.early then suc (early_given gs) else early_given gs))
+    (once_said (if said.early then suc (early_given gs) else early_given gs))
+    (once_said (if said.over_net then suc (net_given gs) else net_given gs))

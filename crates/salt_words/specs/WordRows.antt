@@ -7,10 +7,13 @@ use Rattle.std.specs.Prelude.{List, None, Option, Some, [], codes, false, refl, 
 
 -- the lines of a script over so many partitions
 abbrev over : ℕ → Command
-over parts = Script (record { parts = parts; kind = Remainder }) false
+over parts = Script (record { parts = parts; kind = Remainder }) false false
 
 abbrev over_early : ℕ → Command
-over_early parts = Script (record { parts = parts; kind = Remainder }) true
+over_early parts = Script (record { parts = parts; kind = Remainder }) true false
+
+abbrev over_net : ℕ → Command
+over_net parts = Script (record { parts = parts; kind = Remainder }) false true
 
 -- the command, and the folder of a run
 abbrev said : List (List ℕ) → Option Command × Option (List ℕ)
@@ -64,7 +67,7 @@ greatest_load : said (codes "load" ∷ codes "020000" ∷ []) ≡ (Some (Load 20
 unfolding all_given
 greatest_load = refl
 
-spread_by_bands : said (codes "run" ∷ codes "--place" ∷ codes "bands" ∷ codes "--parts=3" ∷ []) ≡ (Some (Script (record { parts = 3; kind = Bands }) false), None)
+spread_by_bands : said (codes "run" ∷ codes "--place" ∷ codes "bands" ∷ codes "--parts=3" ∷ []) ≡ (Some (Script (record { parts = 3; kind = Bands }) false false), None)
 unfolding all_given
 spread_by_bands = refl
 
@@ -80,7 +83,27 @@ early_between : said (codes "run" ∷ codes "--parts" ∷ codes "3" ∷ codes "-
 unfolding all_given
 early_between = refl
 
+net_alone : said (codes "run" ∷ codes "--net" ∷ []) ≡ (Some (over_net 2), None)
+unfolding all_given
+net_alone = refl
+
+net_before_others : said (codes "run" ∷ codes "--net" ∷ codes "--parts" ∷ codes "3" ∷ codes "--dir=data" ∷ []) ≡ (Some (over_net 3), Some (codes "data"))
+unfolding all_given
+net_before_others = refl
+
+net_and_early : said (codes "run" ∷ codes "--early" ∷ codes "--net" ∷ []) ≡ (Some (Script (record { parts = 2; kind = Remainder }) true true), None)
+unfolding all_given
+net_and_early = refl
+
 -- Words that say none.
+
+net_twice : said (codes "run" ∷ codes "--net" ∷ codes "--net" ∷ []) ≡ (None, None)
+unfolding all_given
+net_twice = refl
+
+net_with_a_value : said (codes "run" ∷ codes "--net=1" ∷ []) ≡ (None, None)
+unfolding all_given
+net_with_a_value = refl
 
 spread_otherwise : said (codes "run" ∷ codes "--place" ∷ codes "Bands" ∷ []) ≡ (None, None)
 unfolding all_given

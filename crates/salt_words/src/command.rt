@@ -23,6 +23,7 @@ pub fn command_in(words: &[String]) -> Option<Command>
                     kind: settings.kind,
                 },
                 early: settings.early,
+                over_net: settings.over_net,
             })
         }
         [word, calls] if word.as_bytes() == b"load".as_slice() => {

@@ -32,6 +32,8 @@ pub enum Given<'a> {
     Value { setting: Setting, value: &'a str },
     /// Leave for its openings to end early.
     Early,
+    /// Its commits over to messages.
+    OverNet,
 }
 
 /// A value that is given to a setting of this name.
@@ -60,6 +62,8 @@ fn given_in(word: &str) -> Option<Given<'_>>
 {
     if word.as_bytes() == b"--early".as_slice() {
         Some(Given::Early)
+    } else if word.as_bytes() == b"--net".as_slice() {
+        Some(Given::OverNet)
     } else {
         value_in(word)
     }
@@ -123,13 +127,15 @@ fn first_given<'a>(words: &'a [String]) -> Option<First<'a>>
     }
 }
 
-/// The value that each setting was given, where it was given one, and whether openings may end early.
+/// The value that each setting was given, where it was given one, whether openings may end early, and whether commits go over
+/// messages.
 #[derive(Clone, Copy)]
 struct Said<'a> {
     parts: Option<&'a str>,
     folder: Option<&'a str>,
     place: Option<&'a str>,
     early: bool,
+    over_net: bool,
 }
 
 /// With a value for a setting that had none.
@@ -143,18 +149,21 @@ fn said_of<'a>(said: Said<'a>, setting: Setting, value: &'a str) -> Option<Said<
             folder,
             place,
             early: said.early,
+            over_net: said.over_net,
         }),
         (Setting::Folder, parts, None, place) => Some(Said {
             parts,
             folder: Some(value),
             place,
             early: said.early,
+            over_net: said.over_net,
         }),
         (Setting::Place, parts, folder, None) => Some(Said {
             parts,
             folder,
             place: Some(value),
             early: said.early,
+            over_net: said.over_net,
         }),
         _ => None,
     }
@@ -172,6 +181,11 @@ fn said_with<'a>(said: Said<'a>, given: Given<'a>) -> Option<Said<'a>>
             early: true,
             ..said
         }),
+        Given::OverNet if said.over_net => None,
+        Given::OverNet => Some(Said {
+            over_net: true,
+            ..said
+        }),
     }
 }
 
@@ -185,6 +199,7 @@ fn said_in<'a>(words: &'a [String]) -> Option<Said<'a>>
         folder: None,
         place: None,
         early: false,
+        over_net: false,
     };
     let mut rest = words;
     while !rest.is_empty() {
@@ -241,6 +256,8 @@ pub struct Settings<'a> {
     pub kind: PlaceKind,
     /// Whether openings end before accepted programs are finished.
     pub early: bool,
+    /// Whether commits go over messages.
+    pub over_net: bool,
 }
 
 /// The settings that words say.
@@ -257,6 +274,7 @@ pub fn settings_in<'a>(words: &'a [String]) -> Option<Settings<'a>>
             folder,
             kind,
             early: said.early,
+            over_net: said.over_net,
         }),
     }
 }
