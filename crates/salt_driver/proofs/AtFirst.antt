@@ -52,17 +52,17 @@ often-unspent start zero = tt
 often-unspent start (suc times) = (often-unspent start times, tt)
 
 -- it lies there as it fell first
-unfound-point : (k : Kept) (can_stop early : Bool) → WellKept k → (times : ℕ) →
-    (p : Point) × KeepsPoint p (fallen_often (start_over k can_stop early) times) × IsSound (fallen_often (start_over k can_stop early) times) × IsUnopened k can_stop early p
+unfound-point : (k : Kept) (can_stop early over : Bool) → WellKept k → (times : ℕ) →
+    (p : Point) × KeepsPoint p (fallen_often (start_over k can_stop early over) times) × IsSound (fallen_often (start_over k can_stop early over) times) × IsUnopened k can_stop early over p
 unfolding fallen_point
-unfound-point k can_stop early well zero =
-    let start = start_over k can_stop early in
+unfound-point k can_stop early over well zero =
+    let start = start_over k can_stop early over in
     let at = start-point start well in
-    (starting start, at.0, at.1, record { fallen = refl; kept = refl; line = refl; units = refl; named = refl; owes = refl; flight = refl; can_stop = refl; early = refl; off_net = refl })
-unfound-point k can_stop early well (suc times) =
-    let u = unfound-point k can_stop early well times in
+    (starting start, at.0, at.1, record { fallen = refl; kept = refl; line = refl; units = refl; named = refl; owes = refl; flight = refl; can_stop = refl; early = refl; over_net = refl })
+unfound-point k can_stop early over well (suc times) =
+    let u = unfound-point k can_stop early over well times in
     let p = u.0 in
-    let trace = fallen_often (start_over k can_stop early) times in
+    let trace = fallen_often (start_over k can_stop early over) times in
     let l = leaves p.state trace (Down Stopped) u.1.state u.2 in
     let q = fallen_point Stopped p l in
     let at = falls-again p q trace u.1 u.2 (record { fallen = u.3.fallen; after = l.after; next = refl; flight = refl }) in (
@@ -79,18 +79,18 @@ unfound-point k can_stop early well (suc times) =
         flight = u.3.flight;
         can_stop = u.3.can_stop;
         early = u.3.early;
-        off_net = u.3.off_net;
+        over_net = u.3.over_net;
       },
     )
 
 -- over what was found then it is down
-pub down-at-first : (k : Kept) (can_stop early : Bool) (lies : ℕ → Point → Type 0) (flies : Option Flight) (story : List Event) → IsUnfound story → IsSoundKept k →
-    IsOpenedFirst lies k can_stop early → flies ≡ None → (trace : Trace) × IsDown lies flies (start_over k can_stop early) story trace × (lines_of trace ≡ [])
-down-at-first k can_stop early lies flies story u sound opens none =
-    let start = start_over k can_stop early in
+pub down-at-first : (k : Kept) (can_stop early over : Bool) (lies : ℕ → Point → Type 0) (flies : Option Flight) (story : List Event) → IsUnfound story → IsSoundKept k →
+    IsOpenedFirst lies k can_stop early over → flies ≡ None → (trace : Trace) × IsDown lies flies (start_over k can_stop early over) story trace × (lines_of trace ≡ [])
+down-at-first k can_stop early over lies flies story u sound opens none =
+    let start = start_over k can_stop early over in
     let times = u.0 in
     let trace = fallen_often start times in
-    let x = unfound-point k can_stop early sound.well times in (
+    let x = unfound-point k can_stop early over sound.well times in (
       trace,
       record {
         tells = record { begins = often-begins start times; told = u.1 start; played = x.2.played };

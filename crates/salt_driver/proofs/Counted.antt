@@ -1,4 +1,6 @@
 -- Stops counted along the events of a story.
+use Rattle.salt_ast.specs.declared.lines.Line.TheVariants.{Nothing}
+use Rattle.salt_ast.specs.declared.lines.Line.{Line}
 use Rattle.salt_disk.proofs.Coming.{come_as, come_counted, come_on, none_came, none_come}
 use Rattle.salt_disk.specs.Disks.{HasCause, HaveCome, Rose, View, stops_in, stops_left}
 use Rattle.salt_disk.specs.declared.disks.DiskErr.TheVariants.{Memory, Stopped}
@@ -14,16 +16,16 @@ use Rattle.salt_driver.specs.Counting.{CountsFall, CountsFaults, CountsMore, Cou
 use Rattle.std.proofs.Common.{ap, append-nil, append_assoc, arith, inl, inr, subst, sym, ◌∙◌}
 use Rattle.std.specs.Prelude.{List, None, Option, Some, [], false, length, refl, ℕ, ◌+◌, ◌++◌, ◌<◌, ◌∷◌, ◌≡◌, ◌≤◌, ◌⊎◌}
 
-pub armed-both : (es fs : List Event) → armed_in (es ++ fs) ≡ armed_in es ++ armed_in fs
-armed-both [] fs = refl
-armed-both (e ∷ es) fs = ap (λ l. stops_armed e ++ l) (armed-both es fs) ∙ sym (append_assoc (stops_armed e) (armed_in es) (armed_in fs))
+pub armed-both : (line : Line) (es fs : List Event) → armed_in line (es ++ fs) ≡ armed_in line es ++ armed_in line fs
+armed-both line [] fs = refl
+armed-both line (e ∷ es) fs = ap (λ l. stops_armed line e ++ l) (armed-both line es fs) ∙ sym (append_assoc (stops_armed line e) (armed_in line es) (armed_in line fs))
 
-armed-last : (es : List Event) (e : Event) → armed_in (es ++ e ∷ []) ≡ armed_in es ++ stops_armed e
-armed-last es e = armed-both es (e ∷ []) ∙ ap (λ l. armed_in es ++ l) (append-nil (stops_armed e))
+armed-last : (line : Line) (es : List Event) (e : Event) → armed_in line (es ++ e ∷ []) ≡ armed_in line es ++ stops_armed line e
+armed-last line es e = armed-both line es (e ∷ []) ∙ ap (λ l. armed_in line es ++ l) (append-nil (stops_armed line e))
 
 -- none behind none
-pub unarmed-both : (es fs : List Event) → armed_in es ≡ [] → armed_in fs ≡ [] → armed_in (es ++ fs) ≡ []
-unarmed-both es fs g h = armed-both es fs ∙ ap (λ l. l ++ armed_in fs) g ∙ h
+pub unarmed-both : (line : Line) (es fs : List Event) → armed_in line es ≡ [] → armed_in line fs ≡ [] → armed_in line (es ++ fs) ≡ []
+unarmed-both line es fs g h = armed-both line es fs ∙ ap (λ l. l ++ armed_in line fs) g ∙ h
 
 pub stopped-both : (es fs : List Event) → stopped_in (es ++ fs) ≡ stopped_in es + stopped_in fs
 stopped-both [] fs = omega arith
@@ -79,51 +81,51 @@ faults-on a b c answer g h = record {
 
 -- ALONG A LINE
 
-pub count-none : (v : View) (first : Option Event) (story : List Event) → CountsSoFar v v first story story first
-count-none v first story = record {
+pub count-none : (line : Line) (v : View) (first : Option Event) (story : List Event) → CountsSoFar line v v first story story first
+count-none line v first story = record {
   more = [];
   grows = sym (no-more story);
   unfaulted = refl;
   unstopped = refl;
   faults = same-faults v;
-  stops = λ before is. is ∙ ap (λ l. l ++ armed_at first) (sym (append-nil before));
+  stops = λ before is. is ∙ ap (λ l. l ++ armed_at line first) (sym (append-nil before));
 }
 
 -- what the last event has armed stands behind what those before it have
-told-last : (before : List (ℕ × ℕ)) (es : List Event) (e : Event) (armed : List (ℕ × ℕ)) → armed ≡ before ++ armed_in es ++ stops_armed e → armed ≡ before ++ armed_in (es ++ e ∷ [])
-told-last before es e armed is = is ∙ append_assoc before (armed_in es) (stops_armed e) ∙ ap (λ l. before ++ l) (sym (armed-last es e))
+told-last : (line : Line) (before : List (ℕ × ℕ)) (es : List Event) (e : Event) (armed : List (ℕ × ℕ)) → armed ≡ before ++ armed_in line es ++ stops_armed line e → armed ≡ before ++ armed_in line (es ++ e ∷ [])
+told-last line before es e armed is = is ∙ append_assoc before (armed_in line es) (stops_armed line e) ∙ ap (λ l. before ++ l) (sym (armed-last line es e))
 
 -- what a call arms stands behind what is armed
 armed-behind : (mid new : View) (armed : List (ℕ × ℕ)) → CountsStops mid new None armed 0 → new.armed ≡ mid.armed ++ armed
 armed-behind mid new armed h = none_came (mid.armed ++ armed) new.armed (come-same (0 + 0) 0 (mid.armed ++ armed) (mid.armed ++ armed) new.armed (omega arith) refl (h.stops (λ never. cc)))
 
-pub count-on : (old mid new : View) (first : Option Event) (story told now : List Event) (e : Event) (next : Option Event) →
-    CountsSoFar old mid first story told (Some e) → CountsStops mid new None (armed_at next) 0 → is_of_run e ≡ false →
-    now ≡ told ++ e ∷ [] → CountsSoFar old new first story now next
-count-on old mid new first story told now e next g h plain grows = record {
+pub count-on : (line : Line) (old mid new : View) (first : Option Event) (story told now : List Event) (e : Event) (next : Option Event) →
+    CountsSoFar line old mid first story told (Some e) → CountsStops mid new None (armed_at line next) 0 → is_of_run e ≡ false →
+    now ≡ told ++ e ∷ [] → CountsSoFar line old new first story now next
+count-on line old mid new first story told now e next g h plain grows = record {
   more = g.more ++ e ∷ [];
   grows = grows ∙ ap (λ es. es ++ e ∷ []) g.grows ∙ append-both story g.more (e ∷ []);
   unfaulted = unfaulted-both g.more (e ∷ []) g.unfaulted (one-unfaulted e (not-faulted e plain));
   unstopped = unstopped-both g.more (e ∷ []) g.unstopped (one-unstopped e (not-told e plain));
   faults = faults-on old mid new None g.faults h.faults;
-  stops = λ before is. armed-behind mid new (armed_at next) h ∙ ap (λ l. l ++ armed_at next) (told-last before g.more e mid.armed (g.stops before is));
+  stops = λ before is. armed-behind mid new (armed_at line next) h ∙ ap (λ l. l ++ armed_at line next) (told-last line before g.more e mid.armed (g.stops before is));
 }
 
-pub count-all : (old new : View) (first : Option Event) (story told : List Event) → CountsSoFar old new first story told None → CountsMore old new None first story told
-count-all old new first story told g = record {
+pub count-all : (line : Line) (old new : View) (first : Option Event) (story told : List Event) → CountsSoFar line old new first story told None → CountsMore line old new None first story told
+count-all line old new first story told g = record {
   more = g.more;
   grows = g.grows;
   unfaulted = g.unfaulted;
   unstopped = g.unstopped;
   faults = g.faults;
-  stops = λ some before is. come-same 0 0 new.armed (before ++ armed_in g.more) new.armed refl (g.stops before is ∙ append-nil (before ++ armed_in g.more)) (none_come new.armed new.armed refl);
+  stops = λ some before is. come-same 0 0 new.armed (before ++ armed_in line g.more) new.armed refl (g.stops before is ∙ append-nil (before ++ armed_in line g.more)) (none_come new.armed new.armed refl);
 }
 
 -- broken off in an event: for want of memory before it was told, or behind it
-pub count-stop : (old mid new : View) (answer : Option DiskErr) (first : Option Event) (story told now : List Event) (e : Event) →
-    CountsSoFar old mid first story told (Some e) → CountsStops mid new answer [] 0 →
-    ((now ≡ told) × (answer ≡ Some Memory)) ⊎ ((now ≡ told ++ e ∷ []) × (is_of_run e ≡ false)) → CountsMore old new answer first story now
-count-stop old mid new answer first story told now e g h (inl short) = record {
+pub count-stop : (line : Line) (old mid new : View) (answer : Option DiskErr) (first : Option Event) (story told now : List Event) (e : Event) →
+    CountsSoFar line old mid first story told (Some e) → CountsStops mid new answer [] 0 →
+    ((now ≡ told) × (answer ≡ Some Memory)) ⊎ ((now ≡ told ++ e ∷ []) × (is_of_run e ≡ false)) → CountsMore line old new answer first story now
+count-stop line old mid new answer first story told now e g h (inl short) = record {
   more = g.more;
   grows = short.0 ∙ g.grows;
   unfaulted = g.unfaulted;
@@ -131,66 +133,66 @@ count-stop old mid new answer first story told now e g h (inl short) = record {
   faults = faults-on old mid new answer g.faults h.faults;
   stops = λ some. absurd (some short.1);
 }
-count-stop old mid new answer first story told now e g h (inr said) = record {
+count-stop line old mid new answer first story told now e g h (inr said) = record {
   more = g.more ++ e ∷ [];
   grows = said.0 ∙ ap (λ es. es ++ e ∷ []) g.grows ∙ append-both story g.more (e ∷ []);
   unfaulted = unfaulted-both g.more (e ∷ []) g.unfaulted (one-unfaulted e (not-faulted e said.1));
   unstopped = unstopped-both g.more (e ∷ []) g.unstopped (one-unstopped e (not-told e said.1));
   faults = faults-on old mid new answer g.faults h.faults;
-  stops = λ some before is. come-same (stops_in answer + 0) (stops_in answer) (mid.armed ++ []) (before ++ armed_in (g.more ++ e ∷ [])) new.armed (omega arith)
-      (append-nil mid.armed ∙ told-last before g.more e mid.armed (g.stops before is)) (h.stops some);
+  stops = λ some before is. come-same (stops_in answer + 0) (stops_in answer) (mid.armed ++ []) (before ++ armed_in line (g.more ++ e ∷ [])) new.armed (omega arith)
+      (append-nil mid.armed ∙ told-last line before g.more e mid.armed (g.stops before is)) (h.stops some);
 }
 
 -- a turn, or a line, gives its first event
-pub count-turn : (old mid new : View) (first : Option Event) (story told : List Event) (next : Option Event) → CountsSoFar old mid first story told None →
-    CountsStops mid new None (armed_at next) 0 → CountsSoFar old new first story told next
-count-turn old mid new first story told next g h = record {
+pub count-turn : (line : Line) (old mid new : View) (first : Option Event) (story told : List Event) (next : Option Event) → CountsSoFar line old mid first story told None →
+    CountsStops mid new None (armed_at line next) 0 → CountsSoFar line old new first story told next
+count-turn line old mid new first story told next g h = record {
   more = g.more;
   grows = g.grows;
   unfaulted = g.unfaulted;
   unstopped = g.unstopped;
   faults = faults-on old mid new None g.faults h.faults;
-  stops = λ before is. armed-behind mid new (armed_at next) h ∙ ap (λ l. l ++ armed_at next) (g.stops before is ∙ append-nil (before ++ armed_in g.more));
+  stops = λ before is. armed-behind mid new (armed_at line next) h ∙ ap (λ l. l ++ armed_at line next) (g.stops before is ∙ append-nil (before ++ armed_in line g.more));
 }
 
 -- or is broken off
-pub count-short : (old mid new : View) (answer : Option DiskErr) (first : Option Event) (story told : List Event) → CountsSoFar old mid first story told None →
-    CountsStops mid new answer [] 0 → CountsMore old new answer first story told
-count-short old mid new answer first story told g h = record {
+pub count-short : (line : Line) (old mid new : View) (answer : Option DiskErr) (first : Option Event) (story told : List Event) → CountsSoFar line old mid first story told None →
+    CountsStops mid new answer [] 0 → CountsMore line old new answer first story told
+count-short line old mid new answer first story told g h = record {
   more = g.more;
   grows = g.grows;
   unfaulted = g.unfaulted;
   unstopped = g.unstopped;
   faults = faults-on old mid new answer g.faults h.faults;
-  stops = λ some before is. come-same (stops_in answer + 0) (stops_in answer) (mid.armed ++ []) (before ++ armed_in g.more) new.armed (omega arith)
-      (append-nil mid.armed ∙ g.stops before is ∙ append-nil (before ++ armed_in g.more)) (h.stops some);
+  stops = λ some before is. come-same (stops_in answer + 0) (stops_in answer) (mid.armed ++ []) (before ++ armed_in line g.more) new.armed (omega arith)
+      (append-nil mid.armed ∙ g.stops before is ∙ append-nil (before ++ armed_in line g.more)) (h.stops some);
 }
 
 -- events told behind others
-pub count-join : (old mid new : View) (answer : Option DiskErr) (first next : Option Event) (story told now : List Event) →
-    CountsSoFar old mid first story told next → CountsMore mid new answer next told now → CountsMore old new answer first story now
-count-join old mid new answer first next story told now g h = record {
+pub count-join : (line : Line) (old mid new : View) (answer : Option DiskErr) (first next : Option Event) (story told now : List Event) →
+    CountsSoFar line old mid first story told next → CountsMore line mid new answer next told now → CountsMore line old new answer first story now
+count-join line old mid new answer first next story told now g h = record {
   more = g.more ++ h.more;
   grows = h.grows ∙ ap (λ es. es ++ h.more) g.grows ∙ append-both story g.more h.more;
   unfaulted = unfaulted-both g.more h.more g.unfaulted h.unfaulted;
   unstopped = unstopped-both g.more h.more g.unstopped h.unstopped;
   faults = faults-on old mid new answer g.faults h.faults;
   stops = λ some before is.
-      let mine = before ++ armed_in g.more in
-      come-same (stops_in answer) (stops_in answer) (mine ++ armed_in h.more) (before ++ armed_in (g.more ++ h.more)) new.armed refl
-      (append_assoc before (armed_in g.more) (armed_in h.more) ∙ ap (λ l. before ++ l) (sym (armed-both g.more h.more)))
+      let mine = before ++ armed_in line g.more in
+      come-same (stops_in answer) (stops_in answer) (mine ++ armed_in line h.more) (before ++ armed_in line (g.more ++ h.more)) new.armed refl
+      (append_assoc before (armed_in line g.more) (armed_in line h.more) ∙ ap (λ l. before ++ l) (sym (armed-both line g.more h.more)))
       (h.stops some mine (g.stops before is));
 }
 
-pub count-so-far : (old new : View) (first : Option Event) (story told : List Event) → CountsMore old new None first story told →
-    CountsSoFar old new first story told None
-count-so-far old new first story told g = record {
+pub count-so-far : (line : Line) (old new : View) (first : Option Event) (story told : List Event) → CountsMore line old new None first story told →
+    CountsSoFar line old new first story told None
+count-so-far line old new first story told g = record {
   more = g.more;
   grows = g.grows;
   unfaulted = g.unfaulted;
   unstopped = g.unstopped;
   faults = g.faults;
-  stops = λ before is. none_came (before ++ armed_in g.more) new.armed (g.stops (λ never. cc) before is) ∙ sym (append-nil (before ++ armed_in g.more));
+  stops = λ before is. none_came (before ++ armed_in line g.more) new.armed (g.stops (λ never. cc) before is) ∙ sym (append-nil (before ++ armed_in line g.more));
 }
 
 -- OPENINGS
@@ -227,12 +229,12 @@ opening-untold old new answer story told h same = record {
   counts = h;
 }
 
-pub opening-said : (old new : View) (answer : Option DiskErr) (story told : List Event) (e : Event) → CountsStops old new answer [] 0 → stops_armed e ≡ [] → stops_told e ≡ 0 → faults_told e ≡ 0 →
+pub opening-said : (old new : View) (answer : Option DiskErr) (story told : List Event) (e : Event) → CountsStops old new answer [] 0 → stops_armed Nothing e ≡ [] → stops_told e ≡ 0 → faults_told e ≡ 0 →
     told ≡ story ++ e ∷ [] → CountsOpening old new answer story told
 opening-said old new answer story told e h unarmed untold faultless same = record {
   more = e ∷ [];
   grows = same;
-  unarmed = append-nil (stops_armed e) ∙ unarmed;
+  unarmed = append-nil (stops_armed Nothing e) ∙ unarmed;
   unfaulted = one-unfaulted e faultless;
   most = omega arith;
   counts = record {
@@ -248,7 +250,7 @@ opening-join old mid new answer story told now g h = record {
   more = g.more ++ h.more;
   grows = h.grows ∙ ap (λ es. es ++ h.more) g.grows ∙ append-both story g.more h.more;
   unfaulted = unfaulted-both g.more h.more g.unfaulted h.unfaulted;
-  unarmed = unarmed-both g.more h.more g.unarmed h.unarmed;
+  unarmed = unarmed-both Nothing g.more h.more g.unarmed h.unarmed;
   most =
       let came = come_counted (0 + stopped_in g.more) old.armed mid.armed (alone (0 + stopped_in g.more) old.armed mid.armed (g.counts.stops (λ never. cc))) in
       let both = stopped-both g.more h.more in
@@ -259,7 +261,7 @@ opening-join old mid new answer story told now g h = record {
 
 -- broken off in an event
 pub opening-stop : (old mid new : View) (answer : Option DiskErr) (story told now : List Event) (e : Event) → CountsOpening old mid None story told →
-    CountsStops mid new answer [] 0 → stops_armed e ≡ [] → ((now ≡ told) × (answer ≡ Some Memory)) ⊎ ((now ≡ told ++ e ∷ []) × (is_of_run e ≡ false)) →
+    CountsStops mid new answer [] 0 → stops_armed Nothing e ≡ [] → ((now ≡ told) × (answer ≡ Some Memory)) ⊎ ((now ≡ told ++ e ∷ []) × (is_of_run e ≡ false)) →
     CountsOpening old new answer story now
 opening-stop old mid new answer story told now e g h unarmed (inl short) = opening-join old mid new answer story told now g (opening-untold mid new answer told now h short.0)
 opening-stop old mid new answer story told now e g h unarmed (inr said) =
@@ -279,7 +281,7 @@ opening-fallen old mid new story told now h faults stops grows =
     record {
       more = h.more ++ Down why.Stopped ∷ [];
       grows = grows ∙ ap (λ es. es ++ Down why.Stopped ∷ []) h.grows ∙ append-both story h.more (Down why.Stopped ∷ []);
-      unarmed = unarmed-both h.more (Down why.Stopped ∷ []) h.unarmed refl;
+      unarmed = unarmed-both Nothing h.more (Down why.Stopped ∷ []) h.unarmed refl;
       unfaulted = unfaulted-both h.more (Down why.Stopped ∷ []) h.unfaulted refl;
       most = let x = come_counted (1 + stopped_in h.more) old.armed new.armed came in omega arith;
       counts = record {

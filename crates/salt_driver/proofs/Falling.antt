@@ -17,6 +17,7 @@ use Rattle.salt_model.specs.declared.events.Why.{Why}
 use Rattle.law_openings.proofs.Leaving.{leaves}
 use Rattle.law_openings.proofs.Opening.{falls-again, falls-in-opening}
 use Rattle.law_openings.specs.Openings.{FallsInOpening, Leaves}
+use Rattle.salt_driver.proofs.Along.{along-behind, says-along, stays-along}
 use Rattle.salt_driver.proofs.Segments.{sound-of}
 use Rattle.salt_driver.specs.Opening.{IsFallenFrom, halt_of}
 use Rattle.salt_driver.specs.Reopening.{BreaksOpening, EndsWithin, FallsAnew, NotBegun, Reopens, WithinOpening}
@@ -28,7 +29,7 @@ use Rattle.salt_storage.specs.declared.halt.Halt.TheVariants as halt
 use Rattle.salt_storage.specs.declared.halt.Halt.{Halt}
 use Rattle.salt_storage.specs.declared.open.OpenErr.TheVariants.{Halted}
 use Rattle.salt_storage.specs.declared.open.OpenErr.{OpenErr}
-use Rattle.std.proofs.Common.{ap, arith, inl, inr, subst, sym, ◌∙◌}
+use Rattle.std.proofs.Common.{ap, append-nil, arith, inl, inr, subst, sym, ◌∙◌}
 use Rattle.std.specs.Prelude.{Bool, List, None, Option, Some, [], false, if◌then◌else◌, refl, true, ℕ, ◌+◌, ◌++◌, ◌∷◌, ◌≡◌, ◌≤◌, ◌⊎◌}
 
 -- the point behind a Down
@@ -99,6 +100,7 @@ module _ (lies : ℕ → Point → Type 0) (left : Option Numbers → ℕ → Po
     lines = b.lines;
     down = down;
     grows = (b.grows.0 ++ Down Stopped ∷ [], grows ∙ ap (λ es. es ++ Down Stopped ∷ []) b.grows.1 ∙ appended story b.grows.0 (Down Stopped ∷ []));
+    along = along-behind trace b.after (b.after says Down Stopped) b.grows.0 (Down Stopped ∷ []) b.along (says-along b.after (Down Stopped));
   }
 
   not-begun : (b : BreaksOpening lies left fills flies e start trace story told) → NotBegun lies left fills flies e b.after b.point → IsDown again known start now (b.after says Down Stopped)
@@ -164,6 +166,7 @@ breaks-short lies left fills flies e start trace story told now stopped is b = r
   point = b.point;
   keeps = b.keeps;
   grows = (b.grows.0, is ∙ b.grows.1);
+  along = b.along;
   later = tt;
   stops = by b.stops;
 }
@@ -209,7 +212,7 @@ module _ (lies left : Point → Type 0) (fills : ToWrite → ℕ → Type 0) (fl
       now ≡ story ++ Down why ∷ [] → FallsAnew again known start trace story now
   unfolding fallen_point
   falls-served again known now falls same grows =
-      record { after = trace says Down why; lines = refl; down = by h.halts.reason h.halts.flies; grows = (Down why ∷ [], grows) }
+      record { after = trace says Down why; lines = refl; down = by h.halts.reason h.halts.flies; grows = (Down why ∷ [], grows); along = says-along trace (Down why) }
     where
       by : (halt_of why ≡ halt.Memory) ⊎ ((ev : Event) × (h.point.next ≡ Some ev) × (at_devices_in h.point.state.units ev ≡ true)) →
           ((halt_of why ≡ halt.Memory) × (flies ≡ None)) ⊎ (flies ≡ flight_told h.point.flight) → IsDown again known start now (trace says Down why)
@@ -235,6 +238,7 @@ halted-short lies left fills filled flies why start trace story now same h = rec
   point = h.point;
   keeps = h.keeps;
   grows = ([], same ∙ sym (no-more story));
+  along = stays-along trace;
   later = tt;
   stops = inr (record {
     halt = halt.Memory;
@@ -256,13 +260,17 @@ halted-short lies left fills filled flies why start trace story now same h = rec
 
 -- THROUGH SEVERAL FALLS
 
-grows-both : (story told now : List Event) → Grows story told → Grows told now → Grows story now
-grows-both story told now a b = (a.0 ++ b.0, b.1 ∙ ap (λ es. es ++ b.0) a.1 ∙ appended story a.0 b.0)
+-- before the first
+pub not-fallen : (lies : ℕ → Point → Type 0) (flies : Option Flight) (start : Start) (trace : Trace) (story : List Event) → IsDown lies flies start story trace → FallsAnew lies flies start trace story story
+not-fallen lies flies start trace story down = record { after = trace; lines = refl; down = down; grows = ([], sym (append-nil story)); along = stays-along trace }
+
+grows-both : (story told now : List Event) → (a : Grows story told) → (b : Grows told now) → now ≡ story ++ (a.0 ++ b.0)
+grows-both story told now a b = b.1 ∙ ap (λ es. es ++ b.0) a.1 ∙ appended story a.0 b.0
 
 module _ (lies again : ℕ → Point → Type 0) (flies known : Option Flight) (start : Start) (trace : Trace) (story told now : List Event)
     (f : FallsAnew lies flies start trace story told) where
   pub falls-behind : FallsAnew again known start f.after told now → FallsAnew again known start trace story now
-  falls-behind g = record { after = g.after; lines = g.lines ∙ f.lines; down = g.down; grows = grows-both story told now f.grows g.grows }
+  falls-behind g = record { after = g.after; lines = g.lines ∙ f.lines; down = g.down; grows = (f.grows.0 ++ g.grows.0, grows-both story told now f.grows g.grows); along = along-behind trace f.after g.after f.grows.0 g.grows.0 f.along g.along }
 
   pub breaks-behind : (left : Option Numbers → ℕ → Point → Type 0) (fills : ToWrite → ℕ → Type 0) (e : OpenErr) → BreaksOpening again left fills known e start f.after told now → BreaksOpening again left fills known e start trace story now
   breaks-behind left fills e b = record {
@@ -272,10 +280,11 @@ module _ (lies again : ℕ → Point → Type 0) (flies known : Option Flight) (
     fits = b.fits;
     point = b.point;
     keeps = b.keeps;
-    grows = grows-both story told now f.grows b.grows;
+    grows = (f.grows.0 ++ b.grows.0, grows-both story told now f.grows b.grows);
+    along = along-behind trace f.after b.after f.grows.0 b.grows.0 f.along b.along;
     later = b.later;
     stops = b.stops;
   }
 
   pub reopens-behind : {E : Type 0} → (sees : E → Option Event → State → Type 0) (e : E) → Reopens sees start f.after told e now → Reopens sees start trace story e now
-  reopens-behind sees e r = record { after = r.after; lines = r.lines ∙ f.lines; serves = r.serves; grows = grows-both story told now f.grows r.grows }
+  reopens-behind sees e r = record { after = r.after; lines = r.lines ∙ f.lines; serves = r.serves; grows = (f.grows.0 ++ r.grows.0, grows-both story told now f.grows r.grows); along = along-behind trace f.after r.after f.grows.0 r.grows.0 f.along r.along }

@@ -1,5 +1,6 @@
 pub mod Advancing
 pub mod StartNames
+pub mod Along
 pub mod Segments
 pub mod Counted
 pub mod Openings

@@ -21,11 +21,13 @@ use Rattle.salt_model.specs.declared.events.Event.{Event}
 use Rattle.salt_model.specs.declared.events.Flight.{Flight}
 use Rattle.law_openings.proofs.Opening.{opens-point}
 use Rattle.salt_driver.proofs.Advancing.{append-both, inside-both, lines-on, runs-both, tells-both}
+use Rattle.salt_driver.proofs.Along.{along-behind, goes-along, says-along, stays-along}
 use Rattle.salt_driver.proofs.Segments.{sound-at, sound-of, unspent-on}
 use Rattle.salt_driver.specs.Draining.{BreaksWithin}
 use Rattle.salt_driver.specs.Opening.{HasOpened, MayFailAt}
 use Rattle.salt_driver.specs.Reopening.{BreaksOpening, EndsWithin, Reopens}
 use Rattle.salt_driver.specs.Serving.{IsDown, IsFitting}
+use Rattle.salt_driver.specs.Along.{GoesAlong}
 use Rattle.salt_driver.specs.Standing.{BreaksAt, HaltsAt, IsInside, IsSoundPoint, OpensOn}
 use Rattle.salt_storage.specs.Answers.{IsLater, numbers_of}
 use Rattle.salt_storage.specs.Writing.{OfBoot, ToWrite}
@@ -142,8 +144,13 @@ module _ (lies : ℕ → Point → Type 0) (flies : Option Flight) (start : Star
       story-on ms (trace says Opened h.boot h.number) ∙ ap (λ es. (es ++ Opened h.boot h.number ∷ []) ++ told_by ms) d.tells.told ∙ sym tells
 
   behind-grows : (h : HasOpened d.room d.point) (ms : List TraceStep) (told : List Event) → told ≡ (story ++ Opened h.boot h.number ∷ []) ++ told_by ms →
-      (more : List Event) × (told ≡ story ++ more)
-  behind-grows h ms told tells = (Opened h.boot h.number ∷ told_by ms, tells ∙ append-both story (Opened h.boot h.number ∷ []) (told_by ms))
+      told ≡ story ++ (Opened h.boot h.number ∷ told_by ms)
+  behind-grows h ms told tells = tells ∙ append-both story (Opened h.boot h.number ∷ []) (told_by ms)
+
+  behind-along : (h : HasOpened d.room d.point) (ms : List TraceStep) → Every IsInside ms → GoesAlong trace (behind h ms) (Opened h.boot h.number ∷ told_by ms)
+  behind-along h ms inside =
+      along-behind trace (trace says Opened h.boot h.number) (behind h ms) (Opened h.boot h.number ∷ []) (told_by ms) (says-along trace (Opened h.boot h.number))
+      (goes-along ms (trace says Opened h.boot h.number) inside)
 
   -- what is told behind the Opened is told behind what was told before
   pub behind-opened : {E : Type 0} (sees : E → Option Event → State → Type 0) (h : HasOpened d.room d.point) (e : E) (opened told : List Event) → opened ≡ story ++ Opened h.boot h.number ∷ [] →
@@ -166,7 +173,8 @@ module _ (lies : ℕ → Point → Type 0) (flies : Option Flight) (start : Star
           keeps = k.0;
           stands = on.stands;
         };
-        grows = behind-grows h ms told on.tells;
+        grows = (Opened h.boot h.number ∷ told_by ms, behind-grows h ms told on.tells);
+        along = behind-along h ms on.inside;
       }
 
   -- it breaks off: before it was begun
@@ -182,6 +190,7 @@ module _ (lies : ℕ → Point → Type 0) (flies : Option Flight) (start : Star
     point = d.point;
     keeps = d.keeps;
     grows = ([], same ∙ sym (no-more story));
+    along = stays-along trace;
     later = tt;
     stops = inl (record {
       fallen = d.fallen;
@@ -209,7 +218,8 @@ module _ (lies : ℕ → Point → Type 0) (flies : Option Flight) (start : Star
         fits = behind-fits h ms q runs inside;
         point = q;
         keeps = k.0;
-        grows = behind-grows h ms told tells;
+        grows = (Opened h.boot h.number ∷ told_by ms, behind-grows h ms told tells);
+        along = behind-along h ms inside;
         later = tt;
         stops = inr (record { halt = halt; halted = refl; halts = halts; place = place });
       }
@@ -299,6 +309,7 @@ finding-fails lies now left fills flies known e start story trace d found stays 
       point = d.point;
       keeps = d.keeps;
       grows = ([], sym (no-more story));
+      along = stays-along trace;
       later = fails-later d.room d.point e (fails d.room d.point sound fallen d.again);
       stops = inl (record {
         fallen = d.fallen;

@@ -22,6 +22,7 @@ use Rattle.salt_storage.specs.Writing.{ToWrite}
 use Rattle.salt_storage.specs.declared.halt.Halt.{Halt}
 use Rattle.law_types.specs.Played.{HasKey}
 use Rattle.law_types.specs.Typed.{IsTyped}
+use Rattle.salt_driver.proofs.Along.{arms-on}
 use Rattle.std.proofs.Common.{ap, inl, inr, subst, sym, ◌∙◌}
 use Rattle.std.specs.Prelude.{List, Option, [], false, refl, ℕ, ◌++◌, ◌∷◌, ◌≡◌, ◌⊎◌}
 
@@ -109,6 +110,7 @@ module _ {E : Type 0} (old_sees new_sees : E → Option Event → State → Type
           stands = record { state = a.stands.state; idle = f.idle };
         };
         grows = (told_by a.moves, a.tells);
+        armed = arms-on a.moves (trace asks asked) a.inside;
       }
 
   -- broken off after some events
@@ -131,6 +133,7 @@ module _ {E : Type 0} (old_sees new_sees : E → Option Event → State → Type
           halts = a.halts;
         };
         grows = (told_by a.moves, a.tells);
+        armed = arms-on a.moves (trace asks asked) a.inside;
       }
 
   -- before the line, or at its first event
@@ -143,5 +146,6 @@ module _ {E : Type 0} (old_sees new_sees : E → Option Event → State → Type
     before = inr refl;
     halts = record { tells = s.tells; fits = s.fits; point = s.point; keeps = s.keeps; serving = s.keeps.state.units.phase ∙ s.stands.idle.serves; halts = short.1 };
     grows = ([], sym (no-more story));
+    armed = λ first. refl;
   }
   breaks-untold lies left fills flight halt trace asked old story s key (inr r) = breaks-by lies left fills flight halt trace asked old story story s r.0 key r.1 (stop-at lies left fills flight halt r.0 story r.2)

@@ -1,17 +1,20 @@
 -- Stops that are armed and used up, and faults, as they are counted.
+use Rattle.salt_ast.specs.declared.lines.Line.TheVariants.{Nothing}
+use Rattle.salt_ast.specs.declared.lines.Line.{Line}
 use Rattle.salt_disk.specs.Disks.{HaveCome, Rose, View, stops_in, stops_left}
 use Rattle.salt_disk.specs.declared.disks.DiskErr.TheVariants.{Failed, Memory}
 use Rattle.salt_disk.specs.declared.disks.DiskErr.{DiskErr}
+use Rattle.salt_model.specs.Arming.{stops_asked}
 use Rattle.salt_model.specs.declared.events.Event.TheVariants.{Armed, Down}
 use Rattle.salt_model.specs.declared.events.Event.{Event}
 use Rattle.salt_model.specs.declared.events.Why.TheVariants.{Fault, Stopped}
 use Rattle.salt_model.specs.declared.events.Why.{Why}
 use Rattle.std.specs.Prelude.{Err, List, None, Ok, Option, Result, Some, [], ℕ, ◌+◌, ◌++◌, ◌∷◌, ◌≡◌, ◌≤◌, ◌⊎◌}
 
--- the stops that an event arms, and how many have come where it stands
-abbrev pub stops_armed : Event → List (ℕ × ℕ)
-stops_armed (Armed pairs) = pairs
-stops_armed e = []
+-- the stops that an event arms in the segment of a line, and how many have come where it stands
+abbrev pub stops_armed : Line → Event → List (ℕ × ℕ)
+stops_armed line (Armed pairs) = stops_asked line pairs
+stops_armed line e = []
 
 abbrev pub stops_of : Why → ℕ
 stops_of Stopped = 1
@@ -21,9 +24,9 @@ abbrev pub stops_told : Event → ℕ
 stops_told (Down why) = stops_of why
 stops_told e = 0
 
-abbrev pub armed_in : List Event → List (ℕ × ℕ)
-armed_in [] = []
-armed_in (e ∷ es) = stops_armed e ++ armed_in es
+abbrev pub armed_in : Line → List Event → List (ℕ × ℕ)
+armed_in line [] = []
+armed_in line (e ∷ es) = stops_armed line e ++ armed_in line es
 
 abbrev pub stopped_in : List Event → ℕ
 stopped_in [] = 0
@@ -43,9 +46,9 @@ faulted_in [] = 0
 faulted_in (e ∷ es) = faults_told e + faulted_in es
 
 -- those that the event at hand has armed
-abbrev pub armed_at : Option Event → List (ℕ × ℕ)
-armed_at None = []
-armed_at (Some e) = stops_armed e
+abbrev pub armed_at : Line → Option Event → List (ℕ × ℕ)
+armed_at line None = []
+armed_at line (Some e) = stops_armed line e
 
 -- `Failed` comes only where the disks have failed.
 pub record CountsFaults (old new : View) (answer : Option DiskErr) : Type 0 where
@@ -59,35 +62,35 @@ pub record CountsStops (old new : View) (answer : Option DiskErr) (armed : List 
   pub stops : (answer ≡ Some Memory → ⊥) → HaveCome (stops_in answer + told) (old.armed ++ armed) new.armed
 
 -- those that are armed in the event that a call gives
-abbrev pub armed_by : {H : Type 0} → Result (Option Event) H → List (ℕ × ℕ)
-armed_by (Ok next) = armed_at next
-armed_by (Err e) = []
+abbrev pub armed_by : {H : Type 0} → Line → Result (Option Event) H → List (ℕ × ℕ)
+armed_by line (Ok next) = armed_at line next
+armed_by line (Err e) = []
 
--- So it is for the events by which a story has grown, of which the first was at hand before: what that has armed stands last already. And
--- none is a fall.
-pub record CountsMore (old new : View) (answer : Option DiskErr) (first : Option Event) (story told : List Event) : Type 0 where
+-- So it is for the events of a line by which a story has grown, of which the first was at hand before: what that has armed stands last
+-- already. And none is a fall.
+pub record CountsMore (line : Line) (old new : View) (answer : Option DiskErr) (first : Option Event) (story told : List Event) : Type 0 where
   pub more : List Event
   pub grows : told ≡ story ++ more
   pub unfaulted : faulted_in more ≡ 0
   pub unstopped : stopped_in more ≡ 0
   pub faults : CountsFaults old new answer
-  pub stops : (answer ≡ Some Memory → ⊥) → (before : List (ℕ × ℕ)) → old.armed ≡ before ++ armed_at first → HaveCome (stops_in answer) (before ++ armed_in more) new.armed
+  pub stops : (answer ≡ Some Memory → ⊥) → (before : List (ℕ × ℕ)) → old.armed ≡ before ++ armed_at line first → HaveCome (stops_in answer) (before ++ armed_in line more) new.armed
 
 -- up to an event that is at hand
-pub record CountsSoFar (old new : View) (first : Option Event) (story told : List Event) (next : Option Event) : Type 0 where
+pub record CountsSoFar (line : Line) (old new : View) (first : Option Event) (story told : List Event) (next : Option Event) : Type 0 where
   pub more : List Event
   pub grows : told ≡ story ++ more
   pub unfaulted : faulted_in more ≡ 0
   pub unstopped : stopped_in more ≡ 0
   pub faults : CountsFaults old new None
-  pub stops : (before : List (ℕ × ℕ)) → old.armed ≡ before ++ armed_at first → new.armed ≡ before ++ armed_in more ++ armed_at next
+  pub stops : (before : List (ℕ × ℕ)) → old.armed ≡ before ++ armed_at line first → new.armed ≡ before ++ armed_in line more ++ armed_at line next
 
 -- The events of openings and falls arm no stops, and none is a fall by a fault. Also where memory ran out, no more stops are told than
 -- were left.
 pub record CountsOpening (old new : View) (answer : Option DiskErr) (story told : List Event) : Type 0 where
   pub more : List Event
   pub grows : told ≡ story ++ more
-  pub unarmed : armed_in more ≡ []
+  pub unarmed : armed_in Nothing more ≡ []
   pub unfaulted : faulted_in more ≡ 0
   pub most : stopped_in more ≤ stops_left old
   pub counts : CountsStops old new answer [] (stopped_in more)
@@ -102,7 +105,7 @@ pub record FallsFirst (why : Why) (more : List Event) : Type 0 where
 pub record CountsFall (why : Why) (old new : View) (answer : Option DiskErr) (story told : List Event) : Type 0 where
   pub more : List Event
   pub grows : told ≡ story ++ more
-  pub unarmed : armed_in more ≡ []
+  pub unarmed : armed_in Nothing more ≡ []
   pub falls : ((more ≡ []) × (answer ≡ Some Memory)) ⊎ FallsFirst why more
   pub most : stopped_in more ≤ stops_of why + stops_left old
   pub faults : CountsFaults old new answer

@@ -66,16 +66,12 @@ MayFailAt room p (OtherShape kept asked) = ⊥
 MayFailAt room p (NumbersSpent boot decisions) = AreSpentAt room p boot decisions
 MayFailAt room p (Halted halt) = ⊤
 
--- the start of a run over what is kept: no commit goes over messages
-abbrev pub start_over : Kept → (can_stop early : Bool) → Start
-start_over k can_stop early = record { kept = k; can_stop = can_stop; early = early; over_net = false }
-
--- a state of a run whose commits do not go over messages
-abbrev pub IsOffNet : State → Type 0
-IsOffNet s = s.over_net ≡ false
+-- the start of a run over what is kept: whether it can be stopped, whether openings may be early, and whether commits go over messages
+abbrev pub start_over : Kept → (can_stop early over_net : Bool) → Start
+start_over k can_stop early over_net = record { kept = k; can_stop = can_stop; early = early; over_net = over_net }
 
 -- a run in which nothing is told but that it fell, and this is kept
-pub record IsUnopened (k : Kept) (stoppable can_early : Bool) (p : Point) : Type 0 where
+pub record IsUnopened (k : Kept) (stoppable can_early over : Bool) (p : Point) : Type 0 where
   pub fallen : p.state.units.phase ≡ Fallen
   pub kept : p.state.units.kept ≡ k
   pub line : p.state.units.line ≡ Nothing
@@ -85,7 +81,7 @@ pub record IsUnopened (k : Kept) (stoppable can_early : Bool) (p : Point) : Type
   pub flight : p.flight ≡ None
   pub can_stop : p.state.can_stop ≡ stoppable
   pub early : p.state.units.early ≡ can_early
-  pub off_net : IsOffNet p.state
+  pub over_net : p.state.over_net ≡ over
 
 -- What an opening has found at first: this is held, and may be kept; its numbers are not spent.
 pub record FindsFirst (finds holds : Kept → Type 0) (x : Found) : Type 0 where
@@ -97,8 +93,8 @@ pub record FindsFirst (finds holds : Kept → Type 0) (x : Found) : Type 0 where
   pub unspent : are_spent x.boot x.decisions ≡ false
 
 -- a run over that, in which nothing is told but that it fell, can be opened
-abbrev pub IsOpenedFirst : (lies : ℕ → Point → Type 0) → Kept → (can_stop early : Bool) → Type 0
-IsOpenedFirst lies k can_stop early = (p : Point) → IsUnopened k can_stop early p → lies 0 p
+abbrev pub IsOpenedFirst : (lies : ℕ → Point → Type 0) → Kept → (can_stop early over_net : Bool) → Type 0
+IsOpenedFirst lies k can_stop early over_net = (p : Point) → IsUnopened k can_stop early over_net p → lies 0 p
 
 -- the halt by which a run falls
 abbrev pub halt_of : Why → Halt

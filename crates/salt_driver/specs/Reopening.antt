@@ -8,6 +8,7 @@ use Rattle.salt_model.specs.Played.{Tells}
 use Rattle.salt_model.specs.Trace.{Start, Trace, lines_of, ◌says◌}
 use Rattle.salt_model.specs.declared.events.Event.{Event}
 use Rattle.salt_model.specs.declared.events.Flight.{Flight}
+use Rattle.salt_driver.specs.Along.{GoesAlong}
 use Rattle.salt_driver.specs.Opening.{MayFailAt}
 use Rattle.salt_driver.specs.Serving.{Grows, IsDown, IsFitting, Serves}
 use Rattle.salt_driver.specs.Standing.{HaltsAt}
@@ -27,6 +28,7 @@ pub record Reopens {E : Type 0} (sees : E → Option Event → State → Type 0)
   pub lines : lines_of after ≡ lines_of trace
   pub serves : Serves sees start e told after
   pub grows : Grows story told
+  pub along : GoesAlong trace after grows.0
 
 -- An opening was not begun: what is left of the devices stands here, where they may have one boot more; and unless memory ran out the
 -- engine can be opened. It failed by spent numbers, or halted. Where a device was full, the next boot was to be written there.
@@ -65,6 +67,7 @@ pub record BreaksOpening (lies : ℕ → Point → Type 0) (left : Option Number
   pub point : Point
   pub keeps : KeepsPoint point after
   pub grows : Grows story told
+  pub along : GoesAlong trace after grows.0
   pub later : IsLater e
   pub stops : NotBegun lies left fills flight e after point ⊎ WithinOpening lies left fills flight e after point
 
@@ -74,6 +77,7 @@ pub record FallsAnew (lies : ℕ → Point → Type 0) (flight : Option Flight) 
   pub lines : lines_of after ≡ lines_of trace
   pub down : IsDown lies flight start told after
   pub grows : Grows story told
+  pub along : GoesAlong trace after grows.0
 
 -- it is opened, or has fallen again
 abbrev pub OpensOrFalls : {E : Type 0} → Bool → (E → Option Event → State → Type 0) → (ℕ → Point → Type 0) → Option Flight → Start → Trace → List Event → E → List Event → Type 0

@@ -8,11 +8,12 @@ use Rattle.salt_model.specs.Kept.{WellKept}
 use Rattle.salt_model.specs.Phases.{Fallen, Serving, downs, has_opened, phase}
 use Rattle.salt_model.specs.Played.{Tells}
 use Rattle.salt_model.specs.Segments.{IsComplete}
-use Rattle.salt_model.specs.Trace.{Asked, Start, Trace, from, lines_of, story_before}
+use Rattle.salt_model.specs.Trace.{Asked, Start, Trace, from, line_asked, lines_of, story_before}
 use Rattle.salt_model.specs.Words.{Every}
 use Rattle.salt_model.specs.declared.events.Event.{Event}
 use Rattle.salt_model.specs.declared.events.Flight.{Flight}
 use Rattle.salt_stands.specs.Unspent.{OpensUnspent}
+use Rattle.salt_driver.specs.Along.{ArmsAlong}
 use Rattle.salt_driver.specs.Standing.{HaltsAt, IsIdleAt}
 use Rattle.salt_storage.specs.Writing.{ToWrite}
 use Rattle.salt_storage.specs.declared.halt.Halt.TheVariants.{Memory}
@@ -51,6 +52,7 @@ pub record Goes {E : Type 0} (sees : E → Option Event → State → Type 0) (s
   pub before : story_before after ≡ story
   pub serves : Serves sees start new told after
   pub grows : Grows story told
+  pub armed : ArmsAlong (line_asked asked) trace after grows.0
 
 -- it breaks off in a line: the story is that of a played trace, at whose end what is left of the devices stands, and from which the run
 -- can be opened anew, unless memory ran out
@@ -70,6 +72,7 @@ pub record Breaks (lies left : Point → Type 0) (fills : ToWrite → ℕ → Ty
   pub before : (story_before after ≡ story) ⊎ (told ≡ story)
   pub halts : Halts lies left fills flight halt start told after
   pub grows : Grows story told
+  pub armed : ArmsAlong (line_asked asked) trace after grows.0
 
 -- each trace of the engine and the story goes on by the line
 abbrev pub GoesOn : {E : Type 0} → (old_sees new_sees : E → Option Event → State → Type 0) → E → List Event → Asked → E → List Event → Type 0

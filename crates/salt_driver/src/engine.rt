@@ -14,12 +14,11 @@ ghost use Rattle.salt_model.specs.declared.events.Refusal.{Refusal};
 ghost use Rattle.salt_driver.specs.Counting.{CountsStops, armed_by};
 ghost use Rattle.salt_driver.specs.Standing.{BreaksAt, HaltsAt, IsAt, IsIdleAt, IsSoundPoint, RunsShort, left_to_come};
 ghost use Rattle.salt_storage.specs.Answers.{disk_err};
-ghost use Rattle.salt_storage.specs.Staying.{StaysWithin};
+ghost use Rattle.salt_storage.specs.Staying.{Setup, StaysWithin};
 ghost use Rattle.salt_storage.specs.Writing.{ToWrite};
 ghost use Rattle.salt_storage.specs.declared.found.Numbers.{Numbers};
 ghost use Rattle.salt_place.specs.Placement.{GivesPlaceOf, TakesEachKey};
 ghost use Rattle.salt_values.specs.declared.id.Id.{Id};
-ghost use Rattle.salt_place.specs.declared.placement.Shape.{Shape};
 ghost use Rattle.std.specs.Prelude.{IfErr, IfOk, List, None, Ok, OnOk, Option, Some, ℕ, [], ◌++◌, ◌+◌, ◌<◌, ◌∷◌, ◌≡◌, ◌≤◌, ◌⊎◌};
 
 use salt_ast::Line;
@@ -47,8 +46,8 @@ pub trait Stepping {
     /// What was in flight where it was broken off.
     ghost flight: { Self → Option Flight };
 
-    /// The shape that its devices are asked for.
-    ghost asked: { Self → Shape };
+    /// The shape that its devices are asked for, and whether its commits go over messages.
+    ghost asked: { Self → Setup };
 
     /// What is written next would pass the limit of this device.
     ghost fills: { View → Self → ToWrite → ℕ → Type 0 };
@@ -80,7 +79,7 @@ pub trait Stepping {
             RunsShort (lies (D.view disks.new) self.new 0) (left (D.view disks.new) self.new None 0) (fills (D.view disks.new) self.new) (flight self.new) halt p ⊎
             ((q : Point) × Moves (Ask (Tree line.now)) p q × HaltsAt (lies (D.view disks.new) self.new 0) (left (D.view disks.new) self.new None 0) (fills (D.view disks.new) self.new) (flight self.new) halt q)) }
         ensures within { StaysWithin (asked self.old) (asked self.new) (D.view disks.old) (D.view disks.new) }
-        ensures counts { CountsStops (D.view disks.old) (D.view disks.new) (disk_err result) (armed_by result) 0 };
+        ensures counts { CountsStops (D.view disks.old) (D.view disks.new) (disk_err result) (armed_by line.now result) 0 };
 
     /// Begins a line whose text is refused, and gives its first event.
     fn ask_rejected<D: Disks>(
@@ -96,7 +95,7 @@ pub trait Stepping {
             RunsShort (lies (D.view disks.new) self.new 0) (left (D.view disks.new) self.new None 0) (fills (D.view disks.new) self.new) (flight self.new) halt p ⊎
             ((q : Point) × Moves (Ask (Rejected refusal)) p q × HaltsAt (lies (D.view disks.new) self.new 0) (left (D.view disks.new) self.new None 0) (fills (D.view disks.new) self.new) (flight self.new) halt q)) }
         ensures within { StaysWithin (asked self.old) (asked self.new) (D.view disks.old) (D.view disks.new) }
-        ensures counts { CountsStops (D.view disks.old) (D.view disks.new) (disk_err result) (armed_by result) 0 };
+        ensures counts { CountsStops (D.view disks.old) (D.view disks.new) (disk_err result) (armed_by Nothing result) 0 };
 
     /// The program whose turn behind the line comes next.
     fn next_turn<D: Disks>(&self, disks: &D) -> Option<Id>
@@ -120,7 +119,7 @@ pub trait Stepping {
             ((q : Point) × Moves (Turn base) p q × HaltsAt (lies (D.view disks.new) self.new 0) (left (D.view disks.new) self.new None 0) (fills (D.view disks.new) self.new) (flight self.new) halt q)) }
         ensures fewer { OnOk result (turns self.new < turns self.old) }
         ensures within { StaysWithin (asked self.old) (asked self.new) (D.view disks.old) (D.view disks.new) }
-        ensures counts { CountsStops (D.view disks.old) (D.view disks.new) (disk_err result) (armed_by result) 0 };
+        ensures counts { CountsStops (D.view disks.old) (D.view disks.new) (disk_err result) (armed_by line.now result) 0 };
 
     /// Tells what comes next, and gives what comes after it. An error leaves the story as it was, or with this event.
     fn say<D: Disks, F: Fn(PlaceKind, &Key, u32) -> u32>(
@@ -143,7 +142,7 @@ pub trait Stepping {
         ensures less { IfOk result (λ next. left_to_come (waiting self.new) next < left_to_come (waiting self.old) (Some event)) }
         ensures turns { OnOk result (turns self.new ≤ turns self.old) }
         ensures within { StaysWithin (asked self.old) (asked self.new) (D.view disks.old) (D.view disks.new) }
-        ensures counts { CountsStops (D.view disks.old) (D.view disks.new) (disk_err result) (armed_by result) 0 };
+        ensures counts { CountsStops (D.view disks.old) (D.view disks.new) (disk_err result) (armed_by line.now result) 0 };
 
     /// A law: between lines it can be opened anew, and nothing is in flight; where it can be opened, what is left of its devices
     /// stands; and so it does where numbers are told.

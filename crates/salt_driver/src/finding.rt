@@ -5,6 +5,7 @@ ghost use Rattle.salt_model.specs.Kept.{Kept};
 ghost use Rattle.salt_driver.specs.Counting.{CountsOpening};
 ghost use Rattle.salt_driver.specs.Opening.{FailsToFind, FallsUnfound, FindsFirst, IsUnfound};
 ghost use Rattle.salt_storage.specs.Answers.{IsLater, IsRefusal, WritesNothing, open_disk_err};
+ghost use Rattle.salt_storage.specs.Netted.{net_begun};
 ghost use Rattle.salt_storage.specs.Staying.{StaysWithin};
 ghost use Rattle.salt_storage.specs.Writing.{FindsNoMore, OfOpening};
 ghost use Rattle.salt_storage.specs.declared.found.Found.{Found};
@@ -12,7 +13,7 @@ ghost use Rattle.salt_storage.specs.declared.halt.Halt.TheVariants.{DeviceFull, 
 ghost use Rattle.salt_storage.specs.declared.open.OpenErr.TheVariants.{Halted};
 ghost use Rattle.salt_storage.specs.declared.open.OpenErr.{OpenErr};
 ghost use Rattle.salt_place.specs.Placement.{GivesPlaceOf, TakesEachKey};
-ghost use Rattle.std.specs.Prelude.{Err, IfErr, IfOk, IsTrue, None, Ok, OnErr, Some, ℕ, [], ◌<◌, ◌≡◌, ◌⊎◌};
+ghost use Rattle.std.specs.Prelude.{Err, IfErr, IfOk, IsTrue, None, Ok, OnErr, OnOk, Some, ℕ, [], ◌<◌, ◌≡◌, ◌⊎◌};
 
 use salt_disk::Disks;
 use salt_model::{Event, Story, Why};
@@ -34,6 +35,7 @@ fn try_find<S: Storage, D: Disks, F: Fn(PlaceKind, &Key, u32) -> u32>(
     requires settled { S.settled (D.view disks.old) storage.old }
     ensures found { (x : Found) → result ≡ Ok (Some x) → FindsFirst (S.finds (D.view disks.old) storage.old) (S.holds (D.view disks.new) storage.new) x }
     ensures untold { (x : Found) → result ≡ Ok (Some x) → story.new ≡ story.old }
+    ensures net { (x : Found) → result ≡ Ok (Some x) → S.net storage.new ≡ net_begun (S.asked storage.new) }
     ensures unopened { result ≡ Ok None → S.unopened storage.new }
     ensures tried { result ≡ Ok None → S.tried (D.view disks.new) storage.new }
     ensures settled { result ≡ Ok None → S.settled (D.view disks.new) storage.new }
@@ -85,6 +87,7 @@ pub fn find<S: Storage, D: Disks, F: Fn(PlaceKind, &Key, u32) -> u32>(
     requires settled { S.settled (D.view disks.old) storage.old }
     requires empty { story.old ≡ [] }
     ensures found { IfOk result (FindsFirst (S.finds (D.view disks.old) storage.old) (S.holds (D.view disks.new) storage.new)) }
+    ensures net { OnOk result (S.net storage.new ≡ net_begun (S.asked storage.new)) }
     ensures unfound { IsUnfound story.new }
     ensures err { IfErr result (λ e. FailsToFind (S.refuses (D.view disks.old) storage.old) (S.finds (D.view disks.old) storage.old)
         (S.refuses (D.view disks.new) storage.new) (S.finds (D.view disks.new) storage.new) (S.fills (D.view disks.new) storage.new) e story.new) }

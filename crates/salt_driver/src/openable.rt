@@ -1,7 +1,9 @@
 //! What stands over devices and is opened: at first, and anew behind each fall.
 
 ghost use Rattle.salt_disk.specs.Disks.{View};
+ghost use Rattle.salt_ast.specs.declared.lines.Line.TheVariants.{Nothing};
 ghost use Rattle.law_states.specs.Points.{Moves, Point, Say};
+ghost use Rattle.law_states.specs.States.{State};
 ghost use Rattle.salt_model.specs.Kept.{schema_of};
 ghost use Rattle.salt_model.specs.Phases.{Fallen};
 ghost use Rattle.salt_model.specs.declared.events.Event.{Event};
@@ -12,16 +14,18 @@ ghost use Rattle.salt_driver.specs.Draining.{MayTick};
 ghost use Rattle.salt_driver.specs.Opening.{IsFallenFrom, MayFailAt, OpensAt};
 ghost use Rattle.salt_driver.specs.Standing.{BreaksAt, IsOpenedOn, IsOpeningAt, IsSoundPoint};
 ghost use Rattle.salt_storage.specs.Answers.{disk_err, numbers_told, open_disk_err};
+ghost use Rattle.salt_storage.specs.Netted.{net_told};
 ghost use Rattle.salt_storage.specs.Staying.{StaysWithin};
 ghost use Rattle.salt_storage.specs.Writing.{OfBoot};
 ghost use Rattle.salt_storage.specs.declared.halt.Halt.TheVariants.{DeviceFull, Memory};
 ghost use Rattle.salt_storage.specs.declared.open.OpenErr.{OpenErr};
 ghost use Rattle.salt_place.specs.Placement.{GivesPlaceOf, TakesEachKey};
-ghost use Rattle.std.specs.Prelude.{Err, IfErr, IfOk, None, OnErr, OnOk, Option, Some, ℕ, [], ◌++◌, ◌+◌, ◌<◌, ◌∷◌, ◌≡◌};
+ghost use Rattle.std.specs.Prelude.{Err, IfErr, IfOk, None, OnErr, OnOk, Option, Some, option_map, ℕ, [], ◌++◌, ◌+◌, ◌<◌, ◌∷◌, ◌≡◌};
 
 use crate::engine::Stepping;
 use salt_disk::Disks;
 use salt_model::{Event, Flight, Story};
+use salt_net::Net;
 use salt_place::{PlaceKind, Placement};
 use salt_schema::Schema;
 use salt_storage::{Halt, OpenErr};
@@ -75,7 +79,7 @@ pub trait Openable: Stepping {
         ensures untold { OnErr result (story.new ≡ story.old) }
         ensures full { (dev : ℕ) → result ≡ Err (DeviceFull dev) → Self.fills (D.view disks.new) self.new OfBoot dev }
         ensures within { StaysWithin (Self.asked self.old) (Self.asked self.new) (D.view disks.old) (D.view disks.new) }
-        ensures unarmed { IfOk result (λ next. stops_armed next ≡ []) }
+        ensures unarmed { IfOk result (λ next. stops_armed Nothing next ≡ []) }
         ensures counts { CountsStops (D.view disks.old) (D.view disks.new) (disk_err result) [] 0 };
 
     /// Tells what comes next in an opening, and gives what comes after it, none behind its end: a step where that is a statement, which
@@ -101,7 +105,7 @@ pub trait Openable: Stepping {
             MayTick p event story.old story.new steps.old steps.new) }
         ensures less { IfOk result (λ next. to_open self.new next < to_open self.old (Some event)) }
         ensures within { StaysWithin (Self.asked self.old) (Self.asked self.new) (D.view disks.old) (D.view disks.new) }
-        ensures unarmed { IfOk result (λ next. armed_at next ≡ []) }
+        ensures unarmed { IfOk result (λ next. armed_at Nothing next ≡ []) }
         ensures counts { CountsStops (D.view disks.old) (D.view disks.new) (disk_err result) [] 0 };
 
     /// Falls: the devices are started again.
@@ -123,4 +127,10 @@ pub trait Openable: Stepping {
     /// It is given up: what was in flight where it was broken off.
     fn flight(self) -> Option<Flight>
         ensures { result ≡ Self.flight self };
+
+    /// It is given up where nothing is missing of the last line: the net that its commits have gone over since the last opening, where
+    /// they go over messages.
+    fn into_net<D: Disks>(self, disks: &D) -> Option<Net>
+        requires { (s : State) × Self.sees (D.view disks.now) self None s }
+        ensures { (s : State) → Self.sees (D.view disks.now) self None s → result ≡ option_map (λ t. t.events) (net_told (Self.asked self) s.net) };
 }

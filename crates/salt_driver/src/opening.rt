@@ -1,5 +1,6 @@
 //! A run is opened, at first and behind a fall, and through the stops that come meanwhile.
 
+ghost use Rattle.salt_ast.specs.declared.lines.Line.TheVariants.{Nothing};
 ghost use Rattle.salt_disk.specs.Disks.{stops_left};
 ghost use Rattle.law_states.specs.Points.{Point};
 ghost use Rattle.law_states.specs.Steps.{units_after};
@@ -71,7 +72,7 @@ pub fn drain<E: Openable, D: Disks, F: Fn(PlaceKind, &Key, u32) -> u32, L: Ledge
     requires callable { TakesEachKey (F.pre place.now.place) }
     requires answers { GivesPlaceOf (F.post place.now.place) }
     requires stands { (p : Point) × IsSoundPoint p × IsOpeningAt (E.sees (D.view disks.old)) database.old (Some first) p }
-    requires unarmed { stops_armed first ≡ [] }
+    requires unarmed { stops_armed Nothing first ≡ [] }
     ensures ok { OnOk result ((p : Point) → IsSoundPoint p → IsOpeningAt (E.sees (D.view disks.old)) database.old (Some first) p →
         OpensOn (E.sees (D.view disks.new)) p story.old database.new None story.new) }
     ensures err { IfErr result (λ halt. (p : Point) → IsSoundPoint p → IsOpeningAt (E.sees (D.view disks.old)) database.old (Some first) p →
@@ -104,7 +105,7 @@ fn finish_opening<E: Openable, D: Disks, F: Fn(PlaceKind, &Key, u32) -> u32, L: 
     requires callable { TakesEachKey (F.pre place.now.place) }
     requires answers { GivesPlaceOf (F.post place.now.place) }
     requires stands { (p : Point) × IsSoundPoint p × IsOpeningAt (E.sees (D.view disks.old)) database.old (Some first) p }
-    requires unarmed { stops_armed first ≡ [] }
+    requires unarmed { stops_armed Nothing first ≡ [] }
     requires name { blank.name ≡ L.name }
     requires parts { blank.parts ≡ L.parts }
     requires some { 0 < blank.parts }

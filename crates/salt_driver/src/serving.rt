@@ -1,5 +1,6 @@
 //! A line is asked, its events are told until none comes next, and so is each turn behind it.
 
+ghost use Rattle.salt_ast.specs.declared.lines.Line.TheVariants.{Nothing};
 ghost use Rattle.law_states.specs.Points.{Point};
 ghost use Rattle.salt_model.specs.Trace.{Rejected, Start, Trace, Tree};
 ghost use Rattle.salt_model.specs.declared.events.Event.TheVariants.{Refused};
@@ -40,7 +41,7 @@ fn settle<E: Stepping, D: Disks, F: Fn(PlaceKind, &Key, u32) -> u32>(
     ensures turns { OnOk result (E.turns engine.new ≤ E.turns engine.old) }
     ensures refused { (refusal : Refusal) → first ≡ Some (Refused refusal) → disks.new ≡ disks.old }
     ensures within { StaysWithin (E.asked engine.old) (E.asked engine.new) (D.view disks.old) (D.view disks.new) }
-    ensures counts { CountsMore (D.view disks.old) (D.view disks.new) (disk_err result) first story.old story.new }
+    ensures counts { CountsMore line.now (D.view disks.old) (D.view disks.new) (disk_err result) first story.old story.new }
 {
     let mut next = first;
     while let Some(event) = next {
@@ -68,7 +69,7 @@ fn finish<E: Stepping, D: Disks, F: Fn(PlaceKind, &Key, u32) -> u32>(
     ensures refused { (refusal : Refusal) (p : Point) → IsSoundPoint p → IsAt (E.sees (D.view disks.old)) line.now engine.old first p →
         p.state.units.to_go ≡ [] → first ≡ Some (Refused refusal) → disks.new ≡ disks.old }
     ensures within { StaysWithin (E.asked engine.old) (E.asked engine.new) (D.view disks.old) (D.view disks.new) }
-    ensures counts { CountsMore (D.view disks.old) (D.view disks.new) (disk_err result) first story.old story.new }
+    ensures counts { CountsMore line.now (D.view disks.old) (D.view disks.new) (disk_err result) first story.old story.new }
 {
     settle(engine, disks, place, line, story, first)?;
     while let Some(base) = engine.next_turn(disks) {
@@ -96,7 +97,7 @@ pub fn step<E: Stepping, D: Disks, F: Fn(PlaceKind, &Key, u32) -> u32>(
     ensures broken_off { IfErr result (λ halt. BreaksOff (E.sees (D.view disks.old)) (E.lies (D.view disks.new) engine.new 0) (E.left (D.view disks.new) engine.new None 0) (E.fills (D.view disks.new) engine.new) (E.flight engine.new) halt engine.old story.old (Tree line.now) story.new) }
     ensures refused { (refusal : Refusal) → story.new ≡ story.old ++ Refused refusal ∷ [] → disks.new ≡ disks.old }
     ensures within { StaysWithin (E.asked engine.old) (E.asked engine.new) (D.view disks.old) (D.view disks.new) }
-    ensures counts { CountsMore (D.view disks.old) (D.view disks.new) (disk_err result) None story.old story.new }
+    ensures counts { CountsMore line.now (D.view disks.old) (D.view disks.new) (disk_err result) None story.old story.new }
 {
     let first = engine.ask(disks, place, line)?;
     finish(engine, disks, place, line, story, first)
@@ -117,7 +118,7 @@ pub fn refuse<E: Stepping, D: Disks, F: Fn(PlaceKind, &Key, u32) -> u32>(
     ensures broken_off { IfErr result (λ halt. BreaksOff (E.sees (D.view disks.old)) (E.lies (D.view disks.new) engine.new 0) (E.left (D.view disks.new) engine.new None 0) (E.fills (D.view disks.new) engine.new) (E.flight engine.new) halt engine.old story.old (Rejected refusal) story.new) }
     ensures unwritten { disks.new ≡ disks.old }
     ensures within { StaysWithin (E.asked engine.old) (E.asked engine.new) (D.view disks.old) (D.view disks.new) }
-    ensures counts { CountsMore (D.view disks.old) (D.view disks.new) (disk_err result) None story.old story.new }
+    ensures counts { CountsMore Nothing (D.view disks.old) (D.view disks.new) (disk_err result) None story.old story.new }
 {
     let first = engine.ask_rejected(disks, refusal)?;
     if let Some(event) = first {

@@ -1,3 +1,4 @@
+use Rattle.salt_ast.specs.declared.lines.Line.TheVariants.{Nothing}
 use Rattle.salt_driver.proofs.Advancing.{broken-by, none-of, sound-on}
 use Rattle.salt_driver.proofs.Counted.{not-faulted, not-told, opening-join, opening-none, opening-said, opening-stop}
 use Rattle.salt_driver.proofs.Draining.{Drains, drains-breaks, drains-counted, drains-most, drains-none, drains-on, drains-short, units-behind}
@@ -48,7 +49,7 @@ loop-next-preserved g c =
           c.go_on.new.steps m.0 m.1 m.2 c.in_ok-next.ensures.tells c.in_ok-next.ensures.ticks,
       opening-join (view c.args.disks.now) (view c.loop-next.disks) (view c.go_on.new.disks) None story c.loop-next.story c.go_on.new.story known.1
           (opening-said (view c.loop-next.disks) (view c.go_on.new.disks) None c.loop-next.story c.go_on.new.story e c.in_ok-next.ensures.counts
-          (subst (λ o. armed_at o ≡ []) c.in-Some.is known.2) (not-told e moved.1.1) (not-faulted e moved.1.1) c.in_ok-next.ensures.tells),
+          (subst (λ o. armed_at Nothing o ≡ []) c.in-Some.is known.2) (not-told e moved.1.1) (not-faulted e moved.1.1) c.in_ok-next.ensures.tells),
       c.in_ok-next.ensures.unarmed,
       stays-behind known.3 c.in_ok-next.ensures.within,
     )
@@ -122,7 +123,7 @@ returns-in_err-next-clause-counts g c =
     let broken = c.in_err-next.ensures.halts d.on.point (sound-on d.on.moves r.0 d.on.point r.1 d.on.inside d.on.runs) d.on.stands in
     let q = err_from_is_err_and c.from_residual.result c.from_residual.ensures.1 in
     rw (q.1, q.2) (opening-stop (view c.args.disks.now) (view c.loop-next.disks) (view c.go_on.new.disks) _ story c.loop-next.story c.go_on.new.story c.in-Some.event known.1 c.in_err-next.ensures.counts
-    (subst (λ o. armed_at o ≡ []) c.in-Some.is known.2) (broken-by _ _ _ _ _ d.on.point c.in-Some.event c.loop-next.story c.go_on.new.story broken))
+    (subst (λ o. armed_at Nothing o ≡ []) c.in-Some.is known.2) (broken-by _ _ _ _ _ d.on.point c.in-Some.event c.loop-next.story c.go_on.new.story broken))
 
 pub returns-clause-within : goal.returns-clause-within
 returns-clause-within g c = c.loop-next.invariant.3

@@ -1,3 +1,4 @@
+use Rattle.salt_ast.specs.declared.lines.Line.TheVariants.{Nothing}
 use Rattle.law_states.specs.Points.{Point}
 use Rattle.salt_driver.proofs.Draining.{Drains}
 use Rattle.salt_driver.proofs.opening.drain.Given as goal
@@ -11,7 +12,7 @@ invariant-loop-next g l =
     ((p : Point) → IsSoundPoint p → IsOpeningAt (g.E.Stepping.sees (g.D.Disks.view l.fn.disks)) l.fn.database (Some l.fn.first) p →
     Drains (g.E.Stepping.sees (g.D.Disks.view l.disks)) p l.fn.first l.fn.story l.database l.next l.story l.fn.steps l.steps)
     × CountsOpening (g.D.Disks.view l.fn.disks) (g.D.Disks.view l.disks) None l.fn.story l.story
-    × (armed_at l.next ≡ [])
+    × (armed_at Nothing l.next ≡ [])
     × StaysWithin (g.E.Stepping.asked l.fn.database) (g.E.Stepping.asked l.database) (g.D.Disks.view l.fn.disks) (g.D.Disks.view l.disks)
 
 abbrev pub decreases-loop-next : goal.decreases-loop-next

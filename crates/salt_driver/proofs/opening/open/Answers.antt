@@ -1,11 +1,21 @@
-use Rattle.salt_driver.proofs.Counted.{opening-join}
-use Rattle.salt_driver.proofs.Falling.{breaks-behind, falls-behind, reopens-behind}
+use Rattle.salt_driver.proofs.Counted.{opening-join, opening-none}
+use Rattle.salt_driver.proofs.Falling.{breaks-behind, falls-behind, not-fallen, reopens-behind}
 use Rattle.salt_driver.proofs.opening.open.Goals as goal
 use Rattle.salt_driver.specs.Reopening.{OpensOrFalls}
-use Rattle.salt_storage.proofs.Staying.{stays-behind}
+use Rattle.salt_storage.proofs.Staying.{stays-behind, stays-same}
 use Rattle.std.proofs.Common.{ap, subst}
 use Rattle.std.proofs.lemmas.Result.{err_from_is_err_and}
 use Rattle.std.specs.Prelude.{Bool, Ok}
+
+pub stops-init : goal.stops-init
+stops-init g c =
+    let view = g.D.Disks.view c.args.disks.now in
+    let story = c.args.story.now in (
+      c.requires.settled,
+      (λ start trace down. not-fallen (g.E.Stepping.lies view c.args.database.now) (g.E.Stepping.flight c.args.database.now) start trace story down),
+      opening-none view story,
+      stays-same (g.E.Stepping.asked c.args.database.now) view,
+    )
 
 pub try_open-requires-clause-down : goal.try_open-requires-clause-down
 try_open-requires-clause-down g c =

@@ -14,7 +14,7 @@ settle-requires-clause-stands g c = c.requires.stands
 pub loop-base-init : goal.loop-base-init
 loop-base-init g c = (
   c.in_ok-settle.ensures.ok,
-  count-so-far (g.D.Disks.view c.args.disks.now) (g.D.Disks.view c.settle.new.disks) c.args.first c.args.story.now c.settle.new.story c.in_ok-settle.ensures.counts,
+  count-so-far _ (g.D.Disks.view c.args.disks.now) (g.D.Disks.view c.settle.new.disks) c.args.first c.args.story.now c.settle.new.story c.in_ok-settle.ensures.counts,
   c.in_ok-settle.ensures.within,
   λ r p sound at none is. c.in_ok-settle.ensures.refused r is,
 )
@@ -46,9 +46,9 @@ loop-base-preserved g c =
           let r = c.in_ok-next.ensures.moves here.point sound here.stands (sym (c.next_turn.ensures here.point sound here.stands.state) ∙ c.in-Some.is) in
           turn-on (g.E.Stepping.sees (view c.settle-in-Some.new.disks)) c.args.line.now (g.E.Stepping.sees (view c.loop-base.disks)) c.in-Some.base p r.0 c.args.story.now c.loop-base.story c.settle-in-Some.new.story c.loop-base.engine c.settle-in-Some.new.engine here r.1
           (c.in_ok-settle-2.ensures.ok r.0 (sound-moved (Turn c.in-Some.base) here.point r.0 tt sound r.1) r.2),
-      count-so-far (view c.args.disks.now) (view c.settle-in-Some.new.disks) c.args.first c.args.story.now c.settle-in-Some.new.story
-          (count-join (view c.args.disks.now) (view c.turn.new.disks) (view c.settle-in-Some.new.disks) None c.args.first c.in_ok-next.next c.args.story.now c.loop-base.story c.settle-in-Some.new.story
-          (count-turn (view c.args.disks.now) (view c.loop-base.disks) (view c.turn.new.disks) c.args.first c.args.story.now c.loop-base.story c.in_ok-next.next known.1 c.in_ok-next.ensures.counts)
+      count-so-far _ (view c.args.disks.now) (view c.settle-in-Some.new.disks) c.args.first c.args.story.now c.settle-in-Some.new.story
+          (count-join _ (view c.args.disks.now) (view c.turn.new.disks) (view c.settle-in-Some.new.disks) None c.args.first c.in_ok-next.next c.args.story.now c.loop-base.story c.settle-in-Some.new.story
+          (count-turn _ (view c.args.disks.now) (view c.loop-base.disks) (view c.turn.new.disks) c.args.first c.args.story.now c.loop-base.story c.in_ok-next.next known.1 c.in_ok-next.ensures.counts)
           c.in_ok-settle-2.ensures.counts),
       stays-behind (stays-behind known.2 c.in_ok-next.ensures.within) c.in_ok-settle-2.ensures.within,
       λ r p starts at none is.
@@ -67,7 +67,7 @@ returns-clause-ok g c = λ p starts at.
 pub returns-clause-counts : goal.returns-clause-counts
 returns-clause-counts g c =
     let view = g.D.Disks.view in
-    count-all (view c.args.disks.now) (view c.loop-base.disks) c.args.first c.args.story.now c.loop-base.story c.loop-base.invariant.1
+    count-all _ (view c.args.disks.now) (view c.loop-base.disks) c.args.first c.args.story.now c.loop-base.story c.loop-base.invariant.1
 
 pub returns-clause-refused : goal.returns-clause-refused
 returns-clause-refused g c = c.loop-base.invariant.3
@@ -110,7 +110,7 @@ pub returns-in_err-next-clause-counts : goal.returns-in_err-next-clause-counts
 returns-in_err-next-clause-counts g c =
     let view = g.D.Disks.view in
     let p = err_from_is_err_and c.from_residual-in_err-next.result c.from_residual-in_err-next.ensures.1 in
-    rw (p.1, p.2) (count-short (view c.args.disks.now) (view c.loop-base.disks) (view c.turn.new.disks) _ c.args.first c.args.story.now c.loop-base.story c.loop-base.invariant.1 c.in_err-next.ensures.counts)
+    rw (p.1, p.2) (count-short _ (view c.args.disks.now) (view c.loop-base.disks) (view c.turn.new.disks) _ c.args.first c.args.story.now c.loop-base.story c.loop-base.invariant.1 c.in_err-next.ensures.counts)
 
 pub returns-in_err-settle-2-clause-err : goal.returns-in_err-settle-2-clause-err
 returns-in_err-settle-2-clause-err g c =
@@ -126,8 +126,8 @@ pub returns-in_err-settle-2-clause-counts : goal.returns-in_err-settle-2-clause-
 returns-in_err-settle-2-clause-counts g c =
     let view = g.D.Disks.view in
     let p = err_from_is_err_and c.from_residual-in_err-settle-2.result c.from_residual-in_err-settle-2.ensures.1 in
-    rw (p.1, p.2) (count-join (view c.args.disks.now) (view c.turn.new.disks) (view c.settle-in-Some.new.disks) _ c.args.first c.in_ok-next.next c.args.story.now c.loop-base.story c.settle-in-Some.new.story
-    (count-turn (view c.args.disks.now) (view c.loop-base.disks) (view c.turn.new.disks) c.args.first c.args.story.now c.loop-base.story c.in_ok-next.next c.loop-base.invariant.1 c.in_ok-next.ensures.counts)
+    rw (p.1, p.2) (count-join _ (view c.args.disks.now) (view c.turn.new.disks) (view c.settle-in-Some.new.disks) _ c.args.first c.in_ok-next.next c.args.story.now c.loop-base.story c.settle-in-Some.new.story
+    (count-turn _ (view c.args.disks.now) (view c.loop-base.disks) (view c.turn.new.disks) c.args.first c.args.story.now c.loop-base.story c.in_ok-next.next c.loop-base.invariant.1 c.in_ok-next.ensures.counts)
     c.in_err-settle-2.ensures.counts)
 
 pub returns-clause-within : goal.returns-clause-within

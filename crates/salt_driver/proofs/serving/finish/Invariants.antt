@@ -11,7 +11,7 @@ abbrev pub invariant-loop-base : goal.invariant-loop-base
 invariant-loop-base g l =
     ((p : Point) → IsSoundPoint p → IsAt (g.E.Stepping.sees (g.D.Disks.view l.fn.disks)) l.line l.fn.engine l.fn.first p →
     Advances (g.E.Stepping.sees (g.D.Disks.view l.disks)) l.line p l.fn.story l.engine None l.story)
-    × CountsSoFar (g.D.Disks.view l.fn.disks) (g.D.Disks.view l.disks) l.fn.first l.fn.story l.story None
+    × CountsSoFar l.line (g.D.Disks.view l.fn.disks) (g.D.Disks.view l.disks) l.fn.first l.fn.story l.story None
     × StaysWithin (g.E.Stepping.asked l.fn.engine) (g.E.Stepping.asked l.engine) (g.D.Disks.view l.fn.disks) (g.D.Disks.view l.disks)
     × ((r : Refusal) (p : Point) → IsSoundPoint p → IsAt (g.E.Stepping.sees (g.D.Disks.view l.fn.disks)) l.line l.fn.engine l.fn.first p → p.state.units.to_go ≡ [] →
     l.fn.first ≡ Some (Refused r) → l.disks ≡ l.fn.disks)

@@ -30,7 +30,7 @@ returns-in_err-first-clause-counts g c =
     let view = g.D.Disks.view in
     let story = c.args.story.now in
     let p = err_from_is_err_and c.from_residual.result c.from_residual.ensures.1 in
-    rw (p.1, p.2) (count-short (view c.args.disks.now) (view c.args.disks.now) (view c.ask_rejected.new.disks) _ None story story (count-none (view c.args.disks.now) None story) c.in_err-first.ensures.counts)
+    rw (p.1, p.2) (count-short _ (view c.args.disks.now) (view c.args.disks.now) (view c.ask_rejected.new.disks) _ None story story (count-none _ (view c.args.disks.now) None story) c.in_err-first.ensures.counts)
 
 pub say-requires-clause-stands : goal.say-requires-clause-stands
 say-requires-clause-stands g c =
@@ -98,11 +98,11 @@ returns-in_ok-say-clause-counts g c =
     let at = subst (λ (o : Option Event). IsAt (g.E.Stepping.sees (view c.ask_rejected.new.disks)) Nothing c.ask_rejected.new.self o r.0) c.in-Some.is r.2 in
     let moved = c.in_ok-say.ensures.moves r.0 (sound-asked (Rejected c.args.refusal) s.point r.0 tt sound r.1) at in
     let idle = refused-done c.args.refusal c.in-Some.event s.point r.0 moved.0 sound r.1 at.comes moved.1 in
-    count-all (view c.args.disks.now) (view c.say.new.disks) None story c.say.new.story
-    (subst (λ (o : Option Event). CountsSoFar (view c.args.disks.now) (view c.say.new.disks) None story c.say.new.story o) (sym moved.2.comes ∙ idle.next)
-    (count-on (view c.args.disks.now) (view c.ask_rejected.new.disks) (view c.say.new.disks) None story story c.say.new.story c.in-Some.event c.in_ok-say.field-0
-    (subst (λ (o : Option Event). CountsSoFar (view c.args.disks.now) (view c.ask_rejected.new.disks) None story story o) c.in-Some.is
-    (count-turn (view c.args.disks.now) (view c.args.disks.now) (view c.ask_rejected.new.disks) None story story c.in_ok-first.first (count-none (view c.args.disks.now) None story) c.in_ok-first.ensures.counts))
+    count-all _ (view c.args.disks.now) (view c.say.new.disks) None story c.say.new.story
+    (subst (λ (o : Option Event). CountsSoFar Nothing (view c.args.disks.now) (view c.say.new.disks) None story c.say.new.story o) (sym moved.2.comes ∙ idle.next)
+    (count-on _ (view c.args.disks.now) (view c.ask_rejected.new.disks) (view c.say.new.disks) None story story c.say.new.story c.in-Some.event c.in_ok-say.field-0
+    (subst (λ (o : Option Event). CountsSoFar Nothing (view c.args.disks.now) (view c.ask_rejected.new.disks) None story story o) c.in-Some.is
+    (count-turn _ (view c.args.disks.now) (view c.args.disks.now) (view c.ask_rejected.new.disks) None story story c.in_ok-first.first (count-none _ (view c.args.disks.now) None story) c.in_ok-first.ensures.counts))
     c.in_ok-say.ensures.counts moved.1.1 c.in_ok-say.ensures.tells))
 
 pub returns-in_err-say-clause-counts : goal.returns-in_err-say-clause-counts
@@ -116,7 +116,7 @@ returns-in_err-say-clause-counts g c =
     let at = subst (λ (o : Option Event). IsAt (g.E.Stepping.sees (view c.ask_rejected.new.disks)) Nothing c.ask_rejected.new.self o r.0) c.in-Some.is r.2 in
     let broken = c.in_err-say.ensures.halts r.0 (sound-asked (Rejected c.args.refusal) s.point r.0 tt sound r.1) at in
     let p = err_from_is_err_and c.from_residual-in_err-say.result c.from_residual-in_err-say.ensures.1 in
-    rw (p.1, p.2) (count-stop (view c.args.disks.now) (view c.ask_rejected.new.disks) (view c.say.new.disks) _ None story story c.say.new.story c.in-Some.event
-    (subst (λ (o : Option Event). CountsSoFar (view c.args.disks.now) (view c.ask_rejected.new.disks) None story story o) c.in-Some.is
-    (count-turn (view c.args.disks.now) (view c.args.disks.now) (view c.ask_rejected.new.disks) None story story c.in_ok-first.first (count-none (view c.args.disks.now) None story) c.in_ok-first.ensures.counts))
+    rw (p.1, p.2) (count-stop _ (view c.args.disks.now) (view c.ask_rejected.new.disks) (view c.say.new.disks) _ None story story c.say.new.story c.in-Some.event
+    (subst (λ (o : Option Event). CountsSoFar Nothing (view c.args.disks.now) (view c.ask_rejected.new.disks) None story story o) c.in-Some.is
+    (count-turn _ (view c.args.disks.now) (view c.args.disks.now) (view c.ask_rejected.new.disks) None story story c.in_ok-first.first (count-none _ (view c.args.disks.now) None story) c.in_ok-first.ensures.counts))
     c.in_err-say.ensures.counts (broken-by _ _ _ _ _ r.0 c.in-Some.event story c.say.new.story broken))

@@ -15,7 +15,7 @@ use Rattle.std.specs.Prelude.{Some, refl, ◌<◌}
 pub loop-next-init : goal.loop-next-init
 loop-next-init g c = (
   λ p sound at. advance-none (g.E.Stepping.sees (g.D.Disks.view c.args.disks.now)) c.args.line.now p c.args.story.now c.args.engine.now c.args.first at,
-  count-none (g.D.Disks.view c.args.disks.now) c.args.first c.args.story.now,
+  count-none _ (g.D.Disks.view c.args.disks.now) c.args.first c.args.story.now,
   omega arith,
   stays-same (g.E.Stepping.asked c.args.engine.now) (g.D.Disks.view c.args.disks.now),
   λ r is. (inl refl, refl),
@@ -48,8 +48,8 @@ loop-next-preserved g c =
           let r = c.in_ok-next.ensures.moves here.point (sound-on here.moves p here.point sound here.inside here.runs) here.stands in
           advance-on (g.E.Stepping.sees (view c.say.new.disks)) line (g.E.Stepping.sees (view c.loop-next.disks)) p c.args.story.now c.loop-next.story c.say.new.story c.loop-next.engine c.say.new.self (Some c.in-Some.event) c.in_ok-next.next here
           (advance-once (g.E.Stepping.sees (view c.say.new.disks)) line (Say c.in-Some.event) tt here.point r.0 c.loop-next.story c.say.new.story c.say.new.self c.in_ok-next.next r.1 r.2 c.in_ok-next.ensures.tells),
-      count-on (view c.args.disks.now) (view c.loop-next.disks) (view c.say.new.disks) c.args.first c.args.story.now c.loop-next.story c.say.new.story c.in-Some.event c.in_ok-next.next
-          (subst (λ o. CountsSoFar (view c.args.disks.now) (view c.loop-next.disks) c.args.first c.args.story.now c.loop-next.story o) c.in-Some.is known.1)
+      count-on _ (view c.args.disks.now) (view c.loop-next.disks) (view c.say.new.disks) c.args.first c.args.story.now c.loop-next.story c.say.new.story c.in-Some.event c.in_ok-next.next
+          (subst (λ o. CountsSoFar c.args.line.now (view c.args.disks.now) (view c.loop-next.disks) c.args.first c.args.story.now c.loop-next.story o) c.in-Some.is known.1)
           c.in_ok-next.ensures.counts moved.1.1 c.in_ok-next.ensures.tells,
       (let now = c.in_ok-next.ensures.turns in let was = known.2 in omega arith),
       stays-behind known.3 c.in_ok-next.ensures.within,
@@ -80,8 +80,8 @@ returns-in_err-next-clause-refused g c = λ r is.
 pub returns-clause-counts : goal.returns-clause-counts
 returns-clause-counts g c =
     let view = g.D.Disks.view in
-    count-all (view c.args.disks.now) (view c.loop-next.disks) c.args.first c.args.story.now c.loop-next.story
-    (subst (λ o. CountsSoFar (view c.args.disks.now) (view c.loop-next.disks) c.args.first c.args.story.now c.loop-next.story o)
+    count-all _ (view c.args.disks.now) (view c.loop-next.disks) c.args.first c.args.story.now c.loop-next.story
+    (subst (λ o. CountsSoFar c.args.line.now (view c.args.disks.now) (view c.loop-next.disks) c.args.first c.args.story.now c.loop-next.story o)
     (none-of c.loop-next.next c.in_default.not-Some) c.loop-next.invariant.1)
 
 pub returns-in_err-next-clause-err : goal.returns-in_err-next-clause-err
@@ -104,8 +104,8 @@ returns-in_err-next-clause-counts g c =
     let at = subst (λ o. IsAt (g.E.Stepping.sees (view c.loop-next.disks)) line c.loop-next.engine o here.point) c.in-Some.is here.stands in
     let broken = c.in_err-next.ensures.halts here.point (sound-on here.moves c.requires.stands.0 here.point c.requires.stands.1 here.inside here.runs) at in
     let p = err_from_is_err_and c.from_residual.result c.from_residual.ensures.1 in
-    rw (p.1, p.2) (count-stop (view c.args.disks.now) (view c.loop-next.disks) (view c.say.new.disks) _ c.args.first c.args.story.now c.loop-next.story c.say.new.story c.in-Some.event
-    (subst (λ o. CountsSoFar (view c.args.disks.now) (view c.loop-next.disks) c.args.first c.args.story.now c.loop-next.story o) c.in-Some.is known.1)
+    rw (p.1, p.2) (count-stop _ (view c.args.disks.now) (view c.loop-next.disks) (view c.say.new.disks) _ c.args.first c.args.story.now c.loop-next.story c.say.new.story c.in-Some.event
+    (subst (λ o. CountsSoFar c.args.line.now (view c.args.disks.now) (view c.loop-next.disks) c.args.first c.args.story.now c.loop-next.story o) c.in-Some.is known.1)
     c.in_err-next.ensures.counts (broken-by _ _ _ _ _ here.point c.in-Some.event c.loop-next.story c.say.new.story broken))
 
 pub returns-in_err-next-clause-within : goal.returns-in_err-next-clause-within

@@ -11,7 +11,7 @@ abbrev pub invariant-loop-next : goal.invariant-loop-next
 invariant-loop-next g l =
     ((p : Point) → IsSoundPoint p → IsAt (g.E.Stepping.sees (g.D.Disks.view l.initial.disks)) l.line l.initial.engine l.initial.next p →
     Advances (g.E.Stepping.sees (g.D.Disks.view l.disks)) l.line p l.initial.story l.engine l.next l.story)
-    × CountsSoFar (g.D.Disks.view l.initial.disks) (g.D.Disks.view l.disks) l.initial.next l.initial.story l.story l.next
+    × CountsSoFar l.line (g.D.Disks.view l.initial.disks) (g.D.Disks.view l.disks) l.initial.next l.initial.story l.story l.next
     × (g.E.Stepping.turns l.engine ≤ g.E.Stepping.turns l.initial.engine)
     × StaysWithin (g.E.Stepping.asked l.initial.engine) (g.E.Stepping.asked l.engine) (g.D.Disks.view l.initial.disks) (g.D.Disks.view l.disks)
     × ((r : Refusal) → l.initial.next ≡ Some (Refused r) → ((l.next ≡ l.initial.next) ⊎ (l.next ≡ None)) × (l.disks ≡ l.initial.disks))

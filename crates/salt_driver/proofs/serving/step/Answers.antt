@@ -72,9 +72,9 @@ pub returns-clause-counts : goal.returns-clause-counts
 returns-clause-counts g c =
     let view = g.D.Disks.view in
     let story = c.args.story.now in
-    count-join (view c.args.disks.now) (view c.ask.new.disks) (view c.finish.new.disks) _ None c.in_ok-first.first story story c.finish.new.story
-    (count-turn (view c.args.disks.now) (view c.args.disks.now) (view c.ask.new.disks) None story story c.in_ok-first.first
-    (count-none (view c.args.disks.now) None story) c.in_ok-first.ensures.counts)
+    count-join _ (view c.args.disks.now) (view c.ask.new.disks) (view c.finish.new.disks) _ None c.in_ok-first.first story story c.finish.new.story
+    (count-turn _ (view c.args.disks.now) (view c.args.disks.now) (view c.ask.new.disks) None story story c.in_ok-first.first
+    (count-none _ (view c.args.disks.now) None story) c.in_ok-first.ensures.counts)
     c.finish.ensures.counts
 
 pub returns-in_err-first-clause-broken_off : goal.returns-in_err-first-clause-broken_off
@@ -90,4 +90,4 @@ returns-in_err-first-clause-counts g c =
     let view = g.D.Disks.view in
     let story = c.args.story.now in
     let p = err_from_is_err_and c.from_residual.result c.from_residual.ensures.1 in
-    rw (p.1, p.2) (count-short (view c.args.disks.now) (view c.args.disks.now) (view c.ask.new.disks) _ None story story (count-none (view c.args.disks.now) None story) c.in_err-first.ensures.counts)
+    rw (p.1, p.2) (count-short _ (view c.args.disks.now) (view c.args.disks.now) (view c.ask.new.disks) _ None story story (count-none _ (view c.args.disks.now) None story) c.in_err-first.ensures.counts)
