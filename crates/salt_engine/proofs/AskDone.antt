@@ -29,7 +29,6 @@ use Rattle.salt_scheduler.proofs.Counting.{programs-apart}
 use Rattle.salt_scheduler.specs.Standing.{books_of}
 use Rattle.salt_scheduler.specs.declared.scheduler.Scheduler.{Scheduler}
 use Rattle.law_decisions.specs.Spelled.{IsSpelledLine}
-use Rattle.salt_driver.specs.Opening.{IsOffNet}
 use Rattle.salt_driver.specs.Standing.{HaltsAt, IsAt, IsSoundPoint}
 use Rattle.salt_storage.specs.Storing.{IsSoundKept}
 use Rattle.salt_storage.specs.Writing.{ToWrite}
@@ -72,7 +71,6 @@ to-ask holds is_new stoppable (at.Going x) single in_flight line p sound idle se
   stored = sees.seen.1;
   served = served;
   can_stop = sees.can_stop;
-  off_net = sees.off_net;
 }
 to-ask holds is_new stoppable (at.Down books) single in_flight line p sound idle served keys sees = absurd sees.seen
 to-ask holds is_new stoppable at.Lost single in_flight line p sound idle served keys sees = absurd sees.seen
@@ -86,14 +84,14 @@ asked-there sees e asked p sound idle r given state told = (
 )
 
 module _ (holds : Kept → Type 0) (leaves : Kept → Kept → Type 0) (fills : ToWrite → ℕ → Type 0) (halt : Halt) (old stoppable : Bool) (stage : Stage Scheduler) (single : Bool)
-    (in_flight : Option InFlight) (p : Point) (sound : IsSoundPoint p) (can : p.state.can_stop ≡ old) (plain : IsOffNet p.state) (same : stoppable ≡ old) (kept : IsSoundKept p.state.units.kept) where
+    (in_flight : Option InFlight) (p : Point) (sound : IsSoundPoint p) (can : p.state.can_stop ≡ old) (same : stoppable ≡ old) (kept : IsSoundKept p.state.units.kept) where
   pub asked-halts : (asked : Asked) (idle : IsIdle p) (r : WatchReading p.state.watch) → BreaksOff leaves fills halt stage in_flight (asked_next p.state r asked) (asked_of asked p.state).units →
       single ≡ is_statement_line (line_asked asked) →
       (q : Point) × Moves (Ask asked) p q × HaltsAt (λ p. CanReopenAt holds leaves stoppable None (serving_books stage) single in_flight 0 p) (λ p. LeavesOnDevices holds leaves (IsSome in_flight) None 0 p × ⊤) fills (flight_of in_flight) halt q
   asked-halts asked idle r b line = (
     asked_to asked p sound idle r,
     asked-moves asked p sound idle r,
-    halts books_of holds leaves fills halt stoppable None refl stage single in_flight (asked_to asked p sound idle r) b refl (can ∙ sym same) plain line kept,
+    halts books_of holds leaves fills halt stoppable None refl stage single in_flight (asked_to asked p sound idle r) b refl (can ∙ sym same) line kept,
   )
 
   pub turned-halts : (b : Id) (serves : p.state.units.phase ≡ Serving) (none : p.next ≡ None) (turn : next_turn_of p.state ≡ Some b) (r : WatchReading p.state.watch) →
@@ -102,7 +100,7 @@ module _ (holds : Kept → Type 0) (leaves : Kept → Kept → Type 0) (fills : 
   turned-halts b serves none turn r broken line = (
     turned_at b p sound serves none turn r,
     turned-moves b p sound serves none turn r,
-    halts books_of holds leaves fills halt stoppable None refl stage single in_flight (turned_at b p sound serves none turn r) broken refl (can ∙ sym same) plain line kept,
+    halts books_of holds leaves fills halt stoppable None refl stage single in_flight (turned_at b p sound serves none turn r) broken refl (can ∙ sym same) line kept,
   )
 
 -- A TURN
@@ -127,12 +125,11 @@ turned-there sees e line b p sound serves none turn r given served state told = 
 )
 
 pub turned-sees : (holds : Kept → Type 0) (is_new : Id → Type 0) (old now was single : Bool) (stage : Stage Scheduler) (in_flight : Option InFlight) (meant given : Option Event) (b : Id) (s : State) →
-    Performs (StandsAtEventIn holds is_new stage) in_flight meant given (turned_to b s) → s.can_stop ≡ old → IsOffNet s → now ≡ old → was ≡ is_statement_line s.units.line → single ≡ was →
+    Performs (StandsAtEventIn holds is_new stage) in_flight meant given (turned_to b s) → s.can_stop ≡ old → now ≡ old → was ≡ is_statement_line s.units.line → single ≡ was →
     AgreesWithState (StandsAtEventIn holds is_new stage) now single in_flight given (turned_to b s)
-turned-sees holds is_new old now was single stage in_flight meant given b s h can plain same line kept = record {
+turned-sees holds is_new old now was single stage in_flight meant given b s h can same line kept = record {
   seen = h.sees;
   can_stop = can ∙ sym same;
-  off_net = plain;
   line = kept ∙ line;
   flies = h.flies;
 }

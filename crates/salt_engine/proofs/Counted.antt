@@ -1,4 +1,5 @@
 -- Stops and faults, as a call of the storage counts them.
+use Rattle.salt_ast.specs.declared.lines.Line.{Line}
 use Rattle.salt_disk.proofs.Coming.{none_come}
 use Rattle.salt_disk.specs.Disks.{HasCause, View}
 use Rattle.salt_disk.specs.declared.disks.DiskErr.TheVariants.{Memory}
@@ -20,10 +21,10 @@ pub cause-lost : (old new : View) → HasCause old new None → HasCause old new
 cause-lost old new h = record { later = h.later; failed = λ f. cc; stops = h.stops }
 
 -- a call of the storage was broken off
-pub counts-broken : (old new : View) (result : Result (Option Event) Halt) (halt : Halt) → IsErrAnd result (λ told. told ≡ halt) → HasCause old new (Some (disk_err_of halt)) →
-    CountsStops old new (disk_err result) (armed_by result) 0
-counts-broken old new (Ok e) halt never h = absurd never
-counts-broken old new (Err told) halt is h =
+pub counts-broken : (line : Line) (old new : View) (result : Result (Option Event) Halt) (halt : Halt) → IsErrAnd result (λ told. told ≡ halt) → HasCause old new (Some (disk_err_of halt)) →
+    CountsStops old new (disk_err result) (armed_by line result) 0
+counts-broken line old new (Ok e) halt never h = absurd never
+counts-broken line old new (Err told) halt is h =
     counts-cause old new (Some (disk_err_of told)) [] refl (subst (λ (t : Halt). HasCause old new (Some (disk_err_of t))) (sym is) h)
 
 pub cause-told : (old new : View) (halt told : Halt) → told ≡ halt → HasCause old new (Some (disk_err_of halt)) → HasCause old new (Some (disk_err_of told))

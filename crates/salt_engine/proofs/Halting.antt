@@ -18,7 +18,6 @@ use Rattle.salt_model.specs.Next.{decision_in}
 use Rattle.salt_model.specs.Turns.{is_statement_line}
 use Rattle.salt_model.specs.declared.events.Event.{Event}
 use Rattle.salt_model.specs.declared.events.Flight.TheVariants as flight
-use Rattle.salt_driver.specs.Opening.{IsOffNet}
 use Rattle.salt_driver.specs.Standing.{HaltsAt}
 use Rattle.salt_driver.specs.Writing.{IsWrittenBy}
 use Rattle.salt_storage.specs.Storing.{IsSoundKept}
@@ -89,9 +88,9 @@ module _ {H : Type 0} (books_of : H → Books) (holds : Kept → Type 0) (leaves
         by (inl none) = inl (memory, ap flight_of none)
         by (inr flies) = inr (told flies)
 
-    down : q.state.can_stop ≡ stoppable → IsOffNet q.state → single ≡ is_statement_line q.state.units.line → IsSoundKept q.state.units.kept →
+    down : q.state.can_stop ≡ stoppable → single ≡ is_statement_line q.state.units.line → IsSoundKept q.state.units.kept →
         IsHalted fills halt stage in_flight q.next q.state.units → Halts
-    down stops plain line kept h =
+    down stops line kept h =
         let flies : IsInFlight in_flight q.flight q.state.units = subst (λ (f : Option Event). IsInFlight in_flight f q.state.units) (sym flight) h.flies in
         record {
           reason = inr (h.event, h.is, h.devices);
@@ -102,19 +101,18 @@ module _ {H : Type 0} (books_of : H → Books) (holds : Kept → Type 0) (leaves
             knows = (h.books, ap (books_in books_of) h.there, know-units h.books q.state.units h.are);
             sound = kept;
             can_stop = stops;
-            off_net = plain;
             line = line;
             flies = flies;
           };
           stays = (stays, tt);
         }
 
-    pub halts : q.state.can_stop ≡ stoppable → IsOffNet q.state → single ≡ is_statement_line q.state.units.line → IsSoundKept q.state.units.kept → Halts
-    halts stops plain line kept = by b.how
+    pub halts : q.state.can_stop ≡ stoppable → single ≡ is_statement_line q.state.units.line → IsSoundKept q.state.units.kept → Halts
+    halts stops line kept = by b.how
       where
         by : ((halt ≡ Memory) × IsLost stage in_flight q.next q.state.units) ⊎ IsHalted fills halt stage in_flight q.next q.state.units → Halts
         by (inl l) = lost l.0 l.1
-        by (inr h) = down stops plain line kept h
+        by (inr h) = down stops line kept h
 
 -- memory ran out here, where this is left
 pub memory-at : {H : Type 0} (books_of : H → Books) (holds : Kept → Type 0) (leaves : Kept → Kept → Type 0) (fills : ToWrite → ℕ → Type 0) (stoppable : Bool)

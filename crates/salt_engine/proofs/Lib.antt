@@ -22,6 +22,7 @@ pub mod LineDefines
 pub mod Outcome
 pub mod SayDone
 pub mod Providing
+pub mod Netted
 pub mod Resumed
 pub mod TakenUp
 pub mod Stages

@@ -53,9 +53,9 @@ plain-line (Crash pairs) no_table no_program no_crash no_net = absurd (no_crash 
 plain-line (Net pairs) no_table no_program no_crash no_net = absurd (no_net pairs refl)
 plain-line line no_table no_program no_crash no_net = refl
 
-pub armed-none : {H : Type 0} (r : Result (Option Event) H) → IfOk r (λ e. armed_at e ≡ []) → armed_by r ≡ []
-armed-none (Ok e) h = h
-armed-none (Err e) h = refl
+pub armed-none : {H : Type 0} (line : Line) (r : Result (Option Event) H) → IfOk r (λ e. armed_at line e ≡ []) → armed_by line r ≡ []
+armed-none line (Ok e) h = h
+armed-none line (Err e) h = refl
 
 -- NOT REFUSED
 
@@ -94,7 +94,6 @@ module _ (holds : Kept → Type 0) (is_new : Id → Type 0) (stoppable : Bool) (
     stored = record { holding = h.stored.holding; new = h.stored.new };
     served = h.served;
     can_stop = h.can_stop;
-    off_net = h.off_net;
   }
 
   -- OR IT IS
@@ -111,8 +110,8 @@ module _ (holds : Kept → Type 0) (is_new : Id → Type 0) (stoppable : Bool) (
         (stored-plain holds is_new (Refused refusal) (asked_next s r (Tree line)) now (h.played r) (is-refused r) refl refl
         (record { holding = h.stored.holding; new = h.stored.new }))
 
-    pub refused-unarmed : (e : Event) (y z : Scheduler) → scheduling.DoesNext (λ s r. Some (Refused refusal)) line y z e → scheduling.StandsForState y now → (r : WatchReading s.watch) → armed_at (Some e) ≡ []
-    refused-unarmed e y z does stands r = ap armed_at (does now r stands h.serves).told
+    pub refused-unarmed : (e : Event) (y z : Scheduler) → scheduling.DoesNext (λ s r. Some (Refused refusal)) line y z e → scheduling.StandsForState y now → (r : WatchReading s.watch) → armed_at line (Some e) ≡ []
+    refused-unarmed e y z does stands r = ap (armed_at line) (does now r stands h.serves).told
 
 -- A TEXT that is refused
 
@@ -127,8 +126,8 @@ module _ (holds : Kept → Type 0) (is_new : Id → Type 0) (refusal : Refusal) 
       serves-by holds is_new (at.Going y) in_flight (asked_next p.state r (Rejected refusal)) rejected y (Refused refusal) e (none-flies in_flight None rejected.units none refl) refl refl (f p.state r stands serves) serves.phase
       (stored-plain holds is_new (Refused refusal) (asked_next p.state r (Rejected refusal)) rejected played refl refl refl (record { holding = stored.holding; new = stored.new }))
 
-  pub rejected-unarmed : (e : Event) (r : WatchReading p.state.watch) → Rejects refusal x y e → scheduling.StandsForState x p.state → scheduling.ServesLine Nothing rejected → armed_at (Some e) ≡ []
-  rejected-unarmed e r f stands serves = ap armed_at (f p.state r stands serves).told
+  pub rejected-unarmed : (e : Event) (r : WatchReading p.state.watch) → Rejects refusal x y e → scheduling.StandsForState x p.state → scheduling.ServesLine Nothing rejected → armed_at Nothing (Some e) ≡ []
+  rejected-unarmed e r f stands serves = ap (armed_at Nothing) (f p.state r stands serves).told
 
 -- no call of the storage was made
 pub counts-same : (d : View) (armed : List (ℕ × ℕ)) → armed ≡ [] → CountsStops d d None armed 0

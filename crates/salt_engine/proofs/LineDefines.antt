@@ -125,8 +125,8 @@ module _ (holds : Kept → Type 0) (is_new : Id → Type 0) (stoppable : Bool) (
       (subst (λ (m : Option Event). scheduling.AnswersWith s m y (Some e)) (d.meant r) g) h.allowed.serves.phase (defined-stored now new_now r holding stays)
 
   -- it arms nothing
-  pub defined-unarmed : (y : Scheduler) (e : Event) (r : WatchReading s.watch) → scheduling.AnswersWith s (line_in s.units (clash_by s) (items_by s r) line) y (Some e) → armed_at (Some e) ≡ []
-  defined-unarmed y e r g = ap armed_at (g.told ∙ d.meant r)
+  pub defined-unarmed : (y : Scheduler) (e : Event) (r : WatchReading s.watch) → scheduling.AnswersWith s (line_in s.units (clash_by s) (items_by s r) line) y (Some e) → armed_at line (Some e) ≡ []
+  defined-unarmed y e r g = ap (armed_at line) (g.told ∙ d.meant r)
 
   module _ (leaves : Kept → Kept → Type 0) (fills : ToWrite → ℕ → Type 0) (stage : Stage Scheduler) (r : WatchReading s.watch) where
     -- memory ran out behind it

@@ -19,7 +19,6 @@ use Rattle.salt_model.specs.Turns.{is_statement_line}
 use Rattle.salt_model.specs.Words.{Every}
 use Rattle.salt_model.specs.declared.events.Event.{Event}
 use Rattle.salt_scheduler.specs.Standing.{ServesLine}
-use Rattle.salt_driver.specs.Opening.{IsOffNet}
 use Rattle.salt_driver.specs.Standing.{IsSoundPoint}
 use Rattle.law_types.specs.Played.{HasKey}
 use Rattle.salt_values.specs.declared.id.Id.{Id}
@@ -66,12 +65,11 @@ module _ (asked : Asked) (p : Point) (sound : IsSoundPoint p) (idle : IsIdle p) 
   asked-moves r = record { idle = idle; state = refl; read = r; next = refl; flight = refl }
 
   pub asked-at : (holds : Kept → Type 0) (is_new : Id → Type 0) (old now single : Bool) (stage : Stage Scheduler) (in_flight : Option InFlight) (given : Option Event) (r : WatchReading p.state.watch) →
-      Performs (StandsAtEventIn holds is_new stage) in_flight (asked_next p.state r asked) given (asked_of asked p.state) → p.state.can_stop ≡ old → IsOffNet p.state → now ≡ old →
+      Performs (StandsAtEventIn holds is_new stage) in_flight (asked_next p.state r asked) given (asked_of asked p.state) → p.state.can_stop ≡ old → now ≡ old →
       single ≡ is_statement_line (line_asked asked) → AgreesWithState (StandsAtEventIn holds is_new stage) now single in_flight given (asked_of asked p.state)
-  asked-at holds is_new old now single stage in_flight given r h can plain same line = record {
+  asked-at holds is_new old now single stage in_flight given r h can same line = record {
     seen = h.sees;
     can_stop = can ∙ sym same;
-    off_net = plain;
     line = line;
     flies = h.flies;
   }

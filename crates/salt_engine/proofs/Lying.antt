@@ -40,7 +40,6 @@ idle-lies holds is_new leaves stoppable stage single in_flight p sound sees idle
       knows = knows.0;
       sound = may k knows.1;
       can_stop = sees.can_stop;
-      off_net = sees.off_net;
       line = sees.line;
       flies =
           subst (λ (f : Option Event). IsInFlight in_flight f p.state.units) (sym (flight-next p sound.trace sound.keeps (up p idle.serves) ∙ ap decision_in idle.next))

@@ -1,5 +1,6 @@
 -- How what was meant comes out: as a call has answered, and in other words.
 use Rattle.salt_disk.specs.Disks.{View}
+use Rattle.salt_ast.specs.declared.lines.Line.{Line}
 use Rattle.salt_engine.proofs.Broken.{breaks-before}
 use Rattle.salt_engine.proofs.Plain.{plain-unarmed}
 use Rattle.salt_engine.specs.Performing.{BreaksOff, ComesOut, IsLost, Stays, is_prepared}
@@ -13,7 +14,7 @@ use Rattle.salt_storage.proofs.Staying as within
 use Rattle.salt_storage.specs.Writing.{ToWrite}
 use Rattle.salt_storage.specs.declared.halt.Halt.TheVariants.{Memory}
 use Rattle.salt_storage.specs.declared.halt.Halt.{Halt}
-use Rattle.salt_place.specs.declared.placement.Shape.{Shape}
+use Rattle.salt_storage.specs.Staying.{Setup}
 use Rattle.std.proofs.Common.{ap, subst, sym, ◌∙◌}
 use Rattle.std.specs.Prelude.{Err, IfErr, IfOk, Ok, Option, Result, [], false, refl, ℕ, ◌≡◌}
 use Rattle.std.specs.Result.{IsErrAnd, MatchResult}
@@ -36,10 +37,10 @@ module _ {H T : Type 0} (given : T → Option Event) (seen : Option Event → St
   comes-same meant other s result same comes = subst (λ (m : Option Event). ComesOut given seen leaves fills stage in_flight m s result) same comes
 
   -- what is no preparation arms nothing
-  pub comes-unarmed : (meant : Option Event) (s : State) (result : Result T Halt) → is_prepared meant ≡ false → ComesOut given seen leaves fills stage in_flight meant s result →
-      IfOk result (λ x. armed_at (given x) ≡ [])
-  comes-unarmed meant s (Ok x) plain p = ap armed_at p.told ∙ plain-unarmed meant plain
-  comes-unarmed meant s (Err halt) plain b = tt
+  pub comes-unarmed : (line : Line) (meant : Option Event) (s : State) (result : Result T Halt) → is_prepared meant ≡ false → ComesOut given seen leaves fills stage in_flight meant s result →
+      IfOk result (λ x. armed_at line (given x) ≡ [])
+  comes-unarmed line meant s (Ok x) plain p = ap (armed_at line) p.told ∙ plain-unarmed line meant plain
+  comes-unarmed line meant s (Err halt) plain b = tt
 
 -- where it is done
 
@@ -63,5 +64,13 @@ by-err P (Err told) e is h = subst P (sym is) h
 
 -- nothing was called
 
-pub stays-same : {A : Type 0} (noted : A) (asked : Shape) (d : View) → Stays noted noted asked asked d d
+pub stays-same : {A : Type 0} (noted : A) (asked : Setup) (d : View) → Stays noted noted asked asked d d
 stays-same noted asked d = record { noted = refl; within = within.stays-same asked d }
+
+pub stays-as : {A : Type 0} (noted : A) (was is : Setup) (d : View) → is ≡ was → Stays noted noted was is d d
+stays-as noted was is d same = record { noted = refl; within = record { asked = same; shape = (within.stays-same was d).shape; others = (within.stays-same was d).others } }
+
+-- of what is done where it is done
+pub on-ok : {T E : Type 0} (r : Result T E) (P Q : Type 0) → (P → Q) → OnOk r P → OnOk r Q
+on-ok (Ok x) P Q f h = f h
+on-ok (Err e) P Q f h = tt

@@ -104,11 +104,11 @@ first-plain s clash items ShowBases h = refl
 first-plain s clash items (Crash pairs) h = cc
 first-plain s clash items (Net pairs) h = cc
 
-pub plain-unarmed : (e : Option Event) → is_prepared e ≡ false → armed_at e ≡ []
-plain-unarmed None h = refl
-plain-unarmed (Some e) h = by e h
+pub plain-unarmed : (line : Line) (e : Option Event) → is_prepared e ≡ false → armed_at line e ≡ []
+plain-unarmed line None h = refl
+plain-unarmed line (Some e) h = by e h
   where
-    by : (e : Event) → is_prepared (Some e) ≡ false → armed_at (Some e) ≡ []
+    by : (e : Event) → is_prepared (Some e) ≡ false → armed_at line (Some e) ≡ []
     by (Refused refusal) h = cc
     by (Armed pairs) h = cc
     by (Defined n text) h = cc

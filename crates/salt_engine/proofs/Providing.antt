@@ -94,7 +94,7 @@ module _ (holds : Kept → Type 0) (is_new : Id → Type 0) (x : Books) (a : Ask
   abbrev pub act-event : Event
   act-event = does_in s.units act-unit a.statement
 
-  act-meant : event_meant s.units (coming.Act a) ≡ Some act-event
+  pub act-meant : event_meant s.units (coming.Act a) ≡ Some act-event
   act-meant = acts-meant s.units a act-unit act-asked
 
   pub act-before : IsBefore holds is_new x act-event s.units
@@ -134,7 +134,7 @@ module _ (holds : Kept → Type 0) (is_new : Id → Type 0) (x : Books) (u : Id)
   abbrev pub commit-event : Event
   commit-event = commits_in s.units commit-unit
 
-  commit-meant : event_meant s.units (coming.Commit u) ≡ Some commit-event
+  pub commit-meant : event_meant s.units (coming.Commit u) ≡ Some commit-event
   commit-meant = commits-meant s.units u commit-unit commit-named
 
   pub commit-before : IsBefore holds is_new x commit-event s.units

@@ -1,5 +1,9 @@
 -- An event of a line is said: what was performed behind it is a move of the engine's point, or it broke off there.
 use Rattle.salt_ast.specs.declared.lines.Line.{Line}
+use Rattle.salt_engine.proofs.Netted.{other-sent}
+use Rattle.salt_engine.specs.Netted.{net_after}
+use Rattle.salt_net.specs.Turns.{Turning}
+use Rattle.salt_storage.specs.Staying.{Setup}
 use Rattle.salt_engine.proofs.Broken.{noted}
 use Rattle.salt_engine.proofs.Flying.{flight-next, kept-decided}
 use Rattle.salt_engine.proofs.Going.{flight-decides}
@@ -31,7 +35,6 @@ use Rattle.salt_scheduler.specs.Standing.{HasDoneEvent, behind_in, books_of}
 use Rattle.salt_scheduler.specs.declared.scheduler.Scheduler.{Scheduler}
 use Rattle.salt_driver.proofs.Advancing.{sound-moved}
 use Rattle.salt_driver.proofs.Refusing.{refused-rests}
-use Rattle.salt_driver.specs.Opening.{IsOffNet}
 use Rattle.salt_driver.specs.Standing.{BreaksAt, IsAt, IsSoundPoint, left_to_come}
 use Rattle.salt_storage.specs.Storing.{IsSoundKept}
 use Rattle.salt_storage.specs.Writing.{ToWrite}
@@ -79,6 +82,11 @@ module _ (line : Line) (x : Scheduler) (e : Event) (p : Point) (sound : IsSoundP
       Performs (StandsAtEventIn holds is_new later) in_flight wanted given t
   said-performs holds is_new stage later in_flight given there h = record { told = h.told ∙ behind-as stage there; sees = h.sees; flies = h.flies }
 
+  -- what was sent of it
+  pub said-sent : (setup : Setup) (old new : Option Turning) (stage : Stage Scheduler) → stage ≡ at.Going x →
+      new ≡ net_after setup (behind_in t (read line x e p sound t d comes phase served) (follow_in stage)) t.units old → new ≡ net_after setup wanted t.units old
+  said-sent setup old new stage there sent = other-sent setup old new (behind_in t (read line x e p sound t d comes phase served) (follow_in stage)) wanted t (behind-as stage there) sent
+
   pub said-breaks : (leaves : Kept → Kept → Type 0) (fills : ToWrite → ℕ → Type 0) (halt told : Halt) (stage later now : Stage Scheduler) (in_flight : Option InFlight) → stage ≡ at.Going x →
       told ≡ halt → now ≡ broken_by halt later →
       BreaksOff leaves fills halt (broken_by halt later) in_flight (behind_in t (read line x e p sound t d comes phase served) (follow_in stage)) t.units →
@@ -88,10 +96,10 @@ module _ (line : Line) (x : Scheduler) (e : Event) (p : Point) (sound : IsSoundP
       (broken-out leaves fills halt told later now in_flight (behind_in t (read line x e p sound t d comes phase served) (follow_in stage)) t.units same broken b)
 
   pub said-sees : (holds : Kept → Type 0) (is_new : Id → Type 0) (old stoppable : Bool) (was single : Bool) (stage : Stage Scheduler) (in_flight : Option InFlight) (given : Option Event) →
-      Performs (StandsAtEventIn holds is_new stage) in_flight wanted given t → p.state.can_stop ≡ old → IsOffNet p.state → stoppable ≡ old → was ≡ is_statement_line p.state.units.line → single ≡ was →
+      Performs (StandsAtEventIn holds is_new stage) in_flight wanted given t → p.state.can_stop ≡ old → stoppable ≡ old → was ≡ is_statement_line p.state.units.line → single ≡ was →
       AgreesWithState (StandsAtEventIn holds is_new stage) stoppable single in_flight given t
-  said-sees holds is_new old stoppable was single stage in_flight given h can began same lined kept =
-      serves-on line x e p sound t d comes phase served holds is_new old stoppable was single stage in_flight given h can began same lined kept
+  said-sees holds is_new old stoppable was single stage in_flight given h can same lined kept =
+      serves-on line x e p sound t d comes phase served holds is_new old stoppable was single stage in_flight given h can same lined kept
 
   -- it broke off behind the event
 
@@ -104,12 +112,12 @@ module _ (line : Line) (x : Scheduler) (e : Event) (p : Point) (sound : IsSoundP
       kept ∙ lined ∙ ap is_statement_line (served ∙ sym s.line)
 
   pub said-halts : (holds : Kept → Type 0) (leaves : Kept → Kept → Type 0) (fills : ToWrite → ℕ → Type 0) (halt : Halt) (old stoppable : Bool) (was single : Bool) (stage : Stage Scheduler)
-      (in_flight : Option InFlight) (story told : List Event) → BreaksOff leaves fills halt stage in_flight wanted t.units → p.state.can_stop ≡ old → IsOffNet p.state → stoppable ≡ old →
+      (in_flight : Option InFlight) (story told : List Event) → BreaksOff leaves fills halt stage in_flight wanted t.units → p.state.can_stop ≡ old → stoppable ≡ old →
       was ≡ is_statement_line p.state.units.line → single ≡ was → IsSoundKept t.units.kept → told ≡ story ++ e ∷ [] →
       BreaksAt (λ p. CanReopenAt holds leaves stoppable None (serving_books stage) single in_flight 0 p) (λ p. LeavesOnDevices holds leaves (IsSome in_flight) None 0 p × ⊤) fills (flight_of in_flight) halt p e story told
-  said-halts holds leaves fills halt old stoppable was single stage in_flight story told b can began same lined kept may tells = inr (
+  said-halts holds leaves fills halt old stoppable was single stage in_flight story told b can same lined kept may tells = inr (
     tells,
-    (now, moves line x e p sound t d comes phase served, halts books_of holds leaves fills halt stoppable None refl stage single in_flight now b now-flies (d.after.can_stop ∙ can ∙ sym same) (d.after.over_net ∙ began) (line-now was single lined kept) may),
+    (now, moves line x e p sound t d comes phase served, halts books_of holds leaves fills halt stoppable None refl stage single in_flight now b now-flies (d.after.can_stop ∙ can ∙ sym same) (line-now was single lined kept) may),
   )
 
   -- or before it was told

@@ -23,7 +23,6 @@ use Rattle.salt_scheduler.proofs.Following.{goes-on, not-of-run}
 use Rattle.salt_scheduler.specs.Serving.{is_served}
 use Rattle.salt_scheduler.specs.Standing.{HasDoneEvent, ServesLine, behind_in, follow_of}
 use Rattle.salt_scheduler.specs.declared.scheduler.Scheduler.{Scheduler}
-use Rattle.salt_driver.specs.Opening.{IsOffNet}
 use Rattle.salt_driver.specs.Standing.{IsSoundPoint}
 use Rattle.salt_values.specs.declared.id.Id.{Id}
 use Rattle.std.proofs.Common.{ap, sym, ◌∙◌}
@@ -73,12 +72,11 @@ module _ (line : Line) (x : Scheduler) (e : Event) (p : Point) (sound : IsSoundP
 
   -- where it stands behind it
   pub serves-on : (holds : Kept → Type 0) (is_new : Id → Type 0) (old now : Bool) (was single : Bool) (stage : Stage Scheduler) (in_flight : Option InFlight) (given : Option Event) →
-      Performs (StandsAtEventIn holds is_new stage) in_flight (meant read) given t → p.state.can_stop ≡ old → IsOffNet p.state → now ≡ old → was ≡ is_statement_line p.state.units.line → single ≡ was →
+      Performs (StandsAtEventIn holds is_new stage) in_flight (meant read) given t → p.state.can_stop ≡ old → now ≡ old → was ≡ is_statement_line p.state.units.line → single ≡ was →
       AgreesWithState (StandsAtEventIn holds is_new stage) now single in_flight given t
-  serves-on holds is_new old now was single stage in_flight given h can began same line kept = record {
+  serves-on holds is_new old now was single stage in_flight given h can same line kept = record {
     seen = h.sees;
     can_stop = d.after.can_stop ∙ can ∙ sym same;
-    off_net = d.after.over_net ∙ began;
     line = kept ∙ line ∙ ap is_statement_line (sym (onwards-line p sound e t plain comes d.after));
     flies = h.flies;
   }

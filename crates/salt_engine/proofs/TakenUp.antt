@@ -119,7 +119,7 @@ sound-state meant s p = record { trace = p.trace; keeps = p.keeps; sound = p.sou
 module _ (holds : Kept → Type 0) (is_new : Id → Type 0) (x : Scheduler) (c : Coming) (s : State) (h : IsToServe holds is_new x c s) where
   -- by its books
   pub serves-asks : (y : Books) → y ≡ books_of x → AsksFor holds is_new y c s
-  serves-asks y same = record { played = h.played; stored = h.stored; can = by c h.ready }
+  serves-asks y same = record { played = h.played; plain = h.plain; stored = h.stored; can = by c h.ready }
     where
       books : StandsForState x s → AreBooks y s.units
       books stands = subst (λ (z : Books). AreBooks z s.units) (sym same) stands.books

@@ -6,6 +6,7 @@ use Rattle.salt_books.specs.declared.asking.Asking.{Asking}
 use Rattle.salt_books.specs.declared.books.Books.{Books}
 use Rattle.salt_bytes.specs.declared.moves.Move.{Move}
 use Rattle.salt_disk.specs.Disks.{View}
+use Rattle.salt_engine.specs.Netted.{net_after}
 use Rattle.salt_engine.specs.Stored.{LeavesEither, Stored}
 use Rattle.law_states.specs.Keeps.{KeepsUnits}
 use Rattle.law_states.specs.Laws.{IsSound}
@@ -22,15 +23,17 @@ use Rattle.salt_model.specs.declared.events.Cause.{Cause}
 use Rattle.salt_model.specs.declared.events.End.TheVariants.{Branched}
 use Rattle.salt_model.specs.declared.events.Event.TheVariants.{Ended}
 use Rattle.salt_model.specs.declared.events.Event.{Event}
+use Rattle.salt_net.specs.Turns.{Turning}
 use Rattle.salt_stands.specs.OpenConts.{make_move}
 use Rattle.salt_driver.specs.Writing.{IsWrittenBy}
+use Rattle.salt_storage.specs.Staying.{Setup}
 use Rattle.salt_storage.specs.Writing.{ToWrite}
 use Rattle.salt_storage.specs.declared.halt.Halt.TheVariants.{DeviceFull, Memory}
 use Rattle.salt_storage.specs.declared.halt.Halt.{Halt}
 use Rattle.law_types.specs.Played.{HasKey}
 use Rattle.law_types.specs.Typed.{IsTyped}
 use Rattle.salt_values.specs.declared.id.Id.{Id}
-use Rattle.std.specs.Prelude.{Some, false, true, ℕ, ⊤, ◌≡◌, ◌⊎◌}
+use Rattle.std.specs.Prelude.{Option, Some, false, true, ℕ, ⊤, ◌≡◌, ◌⊎◌}
 
 -- the units of a played trace, of a typed start and over lines whose tables have keys, where this comes next; and not as a decision
 -- that was in flight
@@ -69,7 +72,7 @@ pub record Undone (leaves : Kept → Kept → Type 0) (fills : ToWrite → ℕ �
   pub reason : (halt ≡ Memory) ⊎ (at_devices_in s e ≡ true)
   pub full : (dev : ℕ) → halt ≡ DeviceFull dev → (w : ToWrite) × IsWrittenBy s (Some e) w × fills w dev
 
--- OVER A STORAGE and its devices: `holds`, `is_new`, `leaves` and `fills` are those of the storage
+-- OVER A STORAGE and its devices: `holds`, `is_new`, `leaves`, `fills`, `asked` and `net` are those of the storage
 
 module _ {S : Type 0} (holds : View → S → Kept → Type 0) (is_new : View → S → Id → Type 0) where
   -- what it holds stays what the state keeps
@@ -112,3 +115,13 @@ module _ {S : Type 0} (holds : View → S → Kept → Type 0) (is_new : View �
     abbrev pub LeavesUnbranched : (d e : View) (x y : S) → Books → Id → Halt → Type 0
     LeavesUnbranched d e x y books u halt = (s : UnitState) (b : Id) (cause : Cause) → IsBefore (holds d x) (is_new d x) books (branches_in s u cause) s → IsLaterUnit s u b →
         Undone (leaves e y) (fills e y) halt s (branches_in s u cause)
+
+  -- what is sent of a commit, and of a branch
+  module _ (asked : S → Setup) (net : S → Option Turning) where
+    abbrev pub SendsCommit : View → (x y : S) → Books → Id → Type 0
+    SendsCommit d x y books u = (s : UnitState) (o : OpenUnit) → IsBefore (holds d x) (is_new d x) books (commits_in s o) s → unit_named u s.units ≡ Some o →
+        net y ≡ net_after (asked x) (Some (commits_in s o)) s (net x)
+
+    abbrev pub SendsBranch : View → (x y : S) → Books → Id → Type 0
+    SendsBranch d x y books u = (s : UnitState) (b : Id) (cause : Cause) → IsBefore (holds d x) (is_new d x) books (branches_in s u cause) s → IsLaterUnit s u b →
+        net y ≡ net_after (asked x) (Some (branches_in s u cause)) s (net x)

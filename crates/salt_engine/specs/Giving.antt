@@ -10,7 +10,8 @@ use Rattle.salt_books.specs.declared.coming.Coming.{Coming}
 use Rattle.salt_disk.specs.Disks.{View}
 use Rattle.salt_engine.specs.Deciding.{Undone}
 use Rattle.salt_engine.specs.Flights.{IsInFlight}
-use Rattle.salt_engine.specs.Performing.{IsPlayedBefore, StoredAt}
+use Rattle.salt_engine.specs.Netted.{net_after}
+use Rattle.salt_engine.specs.Performing.{IsPlayedBefore, StoredAt, is_prepared}
 use Rattle.salt_engine.specs.Stored.{Stored, kept_behind}
 use Rattle.salt_engine.specs.declared.flights.InFlight.{InFlight}
 use Rattle.salt_engine.specs.declared.given.Given.TheVariants.{Branched, Committed, Nothing, Rows, Told}
@@ -26,8 +27,10 @@ use Rattle.salt_model.specs.Kept.{Kept, conts_branched, conts_committed, schema_
 use Rattle.salt_model.specs.Next.{decision_in}
 use Rattle.salt_model.specs.Tables.{Tables}
 use Rattle.salt_model.specs.declared.events.Event.{Event}
+use Rattle.salt_net.specs.Turns.{Turning}
 use Rattle.salt_scheduler.specs.Standing as scheduling
 use Rattle.salt_scheduler.specs.declared.scheduler.Scheduler.{Scheduler}
+use Rattle.salt_storage.specs.Staying.{Setup}
 use Rattle.salt_storage.specs.Writing.{ToWrite}
 use Rattle.salt_storage.specs.declared.halt.Halt.{Halt}
 use Rattle.salt_units.specs.Acting.{leaves_keys}
@@ -45,6 +48,7 @@ CanBeAsked x c s = AreBooks x s.units × CanCome c s.units
 -- books and a storage before what is to come
 pub record AsksFor (holds : Kept → Type 0) (is_new : Id → Type 0) (x : Books) (c : Coming) (s : State) : Type 0 where
   pub played : IsPlayedBefore (event_meant s.units c) s
+  pub plain : is_prepared (event_meant s.units c) ≡ false
   pub stored : StoredAt holds is_new c s
   pub can : CanBeAsked x c s
 
@@ -100,7 +104,7 @@ pub record CanTakeUp (x : Scheduler) (g : Given) (s : State) : Type 0 where
   pub fits : FitsUnits g s.units
   pub sound : IsSoundState s
 
--- OVER A STORAGE and its devices: `holds`, `is_new`, `leaves` and `fills` are those of the storage
+-- OVER A STORAGE and its devices: `holds`, `is_new`, `leaves`, `fills`, `asked` and `net` are those of the storage
 
 module _ {S : Type 0} (holds : View → S → Kept → Type 0) (is_new : View → S → Id → Type 0) where
   abbrev pub AsksForOver : View → S → Books → Coming → State → Type 0
@@ -114,3 +118,7 @@ module _ {S : Type 0} (holds : View → S → Kept → Type 0) (is_new : View �
   abbrev pub LeavesUngiven : (leaves : View → S → Kept → Kept → Type 0) (fills : View → S → ToWrite → ℕ → Type 0) → (d e : View) (x y : S) → Books → Option InFlight → Coming → Halt → Type 0
   LeavesUngiven leaves fills d e x y books in_flight coming halt = (s : State) → AsksFor (holds d x) (is_new d x) books coming s →
       IsUndone (leaves e y) (fills e y) halt books in_flight (event_meant s.units coming) s.units
+
+  -- what is sent then
+  abbrev pub SendsGiven : (asked : S → Setup) (net : S → Option Turning) → View → (x y : S) → Books → Coming → Type 0
+  SendsGiven asked net d x y books coming = (s : State) → AsksFor (holds d x) (is_new d x) books coming s → net y ≡ net_after (asked x) (event_meant s.units coming) s.units (net x)

@@ -7,3 +7,4 @@ pub mod Giving
 pub mod Serving
 pub mod Engines
 pub mod Resuming
+pub mod Netted

@@ -34,16 +34,14 @@ use Rattle.salt_scheduler.specs.Standing as scheduling
 use Rattle.salt_scheduler.specs.Standing.{ServesAllowed, ServesLine, behind_in}
 use Rattle.salt_scheduler.specs.declared.scheduler.Scheduler.{Scheduler}
 use Rattle.law_decisions.specs.Spelled.{IsSpelledLine}
-use Rattle.salt_driver.specs.Opening.{IsOffNet}
 use Rattle.salt_driver.specs.Writing.{IsWrittenBy}
-use Rattle.salt_storage.specs.Staying.{StaysWithin}
+use Rattle.salt_storage.specs.Staying.{Setup, StaysWithin}
 use Rattle.salt_storage.specs.Writing.{ToWrite}
 use Rattle.salt_storage.specs.declared.halt.Halt.TheVariants.{DeviceFull, Memory}
 use Rattle.salt_storage.specs.declared.halt.Halt.{Halt}
 use Rattle.law_types.specs.Played.{HasKey}
 use Rattle.law_types.specs.Typed.{IsTyped}
 use Rattle.salt_values.specs.declared.id.Id.{Id}
-use Rattle.salt_place.specs.declared.placement.Shape.{Shape}
 use Rattle.std.specs.Result.{MatchResult}
 use Rattle.std.specs.Prelude.{Bool, Err, IsSome, None, Ok, Option, Result, Some, false, true, ℕ, ◌≡◌, ◌≤◌, ◌⊎◌}
 
@@ -124,7 +122,6 @@ pub record AsksLine (holds : Kept → Type 0) (is_new : Id → Type 0) (stoppabl
   pub stored : Stored holds is_new s.units
   pub served : IsServed line
   pub can_stop : s.can_stop ≡ stoppable
-  pub off_net : IsOffNet s
 
 abbrev pub AsksLineIn : (holds : Kept → Type 0) (is_new : Id → Type 0) → Bool → Line → Stage Scheduler → State → Type 0
 AsksLineIn holds is_new stoppable line stage s = GoesWith (λ (x : Scheduler). AsksLine holds is_new stoppable line x s) stage
@@ -138,7 +135,6 @@ pub record IsToAsk (holds : Kept → Type 0) (is_new : Id → Type 0) (stoppable
   pub stored : Stored holds is_new s.units
   pub served : IsServed line
   pub can_stop : s.can_stop ≡ stoppable
-  pub off_net : IsOffNet s
 
 abbrev pub IsToAskIn : (holds : Kept → Type 0) (is_new : Id → Type 0) → Bool → Line → Stage Scheduler → State → Type 0
 IsToAskIn holds is_new stoppable line stage s = GoesWith (λ (x : Scheduler). IsToAsk holds is_new stoppable line x s) stage
@@ -196,7 +192,7 @@ ComesOut given seen leaves fills stage in_flight meant s result =
     MatchResult result (λ x. Performs seen in_flight meant (given x) s) (λ halt. BreaksOff leaves fills halt stage in_flight meant s.units)
 
 -- No call changes these: what is noted beside the stage, the shape that the storage is asked for, and devices that are not of it.
-pub record Stays {A : Type 0} (before now : A) (was is : Shape) (old new : View) : Type 0 where
+pub record Stays {A : Type 0} (before now : A) (was is : Setup) (old new : View) : Type 0 where
   pub noted : now ≡ before
   pub within : StaysWithin was is old new
 

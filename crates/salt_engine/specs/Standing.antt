@@ -21,7 +21,6 @@ use Rattle.salt_scheduler.specs.Standing as scheduling
 use Rattle.salt_scheduler.specs.declared.follow.Follow.TheVariants.{Nothing}
 use Rattle.salt_scheduler.specs.declared.follow.Follow.{Follow}
 use Rattle.salt_scheduler.specs.declared.scheduler.Scheduler.{Scheduler}
-use Rattle.salt_driver.specs.Opening.{IsOffNet}
 use Rattle.salt_storage.specs.Storing.{IsSoundKept}
 use Rattle.salt_storage.specs.declared.found.Numbers.{Numbers}
 use Rattle.salt_values.specs.declared.id.Id.{Id}
@@ -40,7 +39,6 @@ StandsAtEventIn holds is_new stage next s = ⊥
 pub record AgreesWithState (sees : Option Event → State → Type 0) (stoppable single : Bool) (in_flight : Option InFlight) (next : Option Event) (s : State) : Type 0 where
   pub seen : sees next s
   pub can_stop : s.can_stop ≡ stoppable
-  pub off_net : IsOffNet s
   pub line : single ≡ is_statement_line s.units.line
   pub flies : IsInFlight in_flight (decision_in next) s.units
 
@@ -116,7 +114,6 @@ pub record CanReopenAt (holds : Kept → Type 0) (leaves : Kept → Kept → Typ
   pub knows : KnowsUnits books p.state.units
   pub sound : IsSoundKept p.state.units.kept
   pub can_stop : p.state.can_stop ≡ stoppable
-  pub off_net : IsOffNet p.state
   pub line : single ≡ is_statement_line p.state.units.line
   pub flies : IsInFlight in_flight p.flight p.state.units
 

@@ -2,7 +2,7 @@
 
 ghost use Rattle.salt_books.specs.Books.{AreBooks};
 ghost use Rattle.salt_disk.specs.Disks.{HasCause};
-ghost use Rattle.salt_engine.specs.Deciding.{AreAsked, DecidesBranch, CanBranch, CanCommit, CanLoad, DecidesCommit, LeavesUnbranched, LeavesUncommitted, LeavesUndone, StaysStored};
+ghost use Rattle.salt_engine.specs.Deciding.{AreAsked, CanBranch, CanCommit, CanLoad, DecidesBranch, DecidesCommit, LeavesUnbranched, LeavesUncommitted, LeavesUndone, SendsBranch, SendsCommit, StaysStored};
 ghost use Rattle.salt_eval.specs.Scans.{IsKeyed};
 ghost use Rattle.salt_eval.specs.Views.{tables_of};
 ghost use Rattle.law_states.specs.OpenUnits.{OpenUnit, UnitState, unit_named};
@@ -40,6 +40,7 @@ pub(crate) fn load<S: Storage, D: Disks, F: Fn(PlaceKind, &Key, u32) -> u32>(
     ensures keyed { IfOk result (λ rows. IsKeyed (tables_of rows.entries)) }
     ensures stored { OnOk result (StaysStored S.holds S.is_new (D.view disks.old) (D.view disks.new) storage.old storage.new) }
     ensures undone { IfErr result (LeavesUndone S.holds S.is_new S.leaves S.fills (D.view disks.old) (D.view disks.new) storage.old storage.new books.now asking.now) }
+    ensures sent { OnOk result (S.net storage.new ≡ S.net storage.old) }
     ensures within { StaysWithin (S.asked storage.old) (S.asked storage.new) (D.view disks.old) (D.view disks.new) }
     ensures cause { HasCause (D.view disks.old) (D.view disks.new) (disk_err result) }
 {
@@ -83,6 +84,7 @@ pub(crate) fn decide_commit<S: Storage, D: Disks, F: Fn(PlaceKind, &Key, u32) ->
     requires ready { CanCommit S.holds S.is_new (D.view disks.old) storage.old books.now unit }
     ensures committed { IfOk result (DecidesCommit S.holds S.is_new (D.view disks.old) (D.view disks.new) storage.old storage.new books.now unit) }
     ensures undone { IfErr result (LeavesUncommitted S.holds S.is_new S.leaves S.fills (D.view disks.old) (D.view disks.new) storage.old storage.new books.now unit) }
+    ensures sent { OnOk result (SendsCommit S.holds S.is_new S.asked S.net (D.view disks.old) storage.old storage.new books.now unit) }
     ensures within { StaysWithin (S.asked storage.old) (S.asked storage.new) (D.view disks.old) (D.view disks.new) }
     ensures cause { HasCause (D.view disks.old) (D.view disks.new) (disk_err result) }
 {
@@ -107,6 +109,7 @@ pub(crate) fn decide_branch<S: Storage, D: Disks, F: Fn(PlaceKind, &Key, u32) ->
     requires ready { CanBranch S.holds S.is_new (D.view disks.old) storage.old books.now unit }
     ensures branched { IfOk result (DecidesBranch S.holds S.is_new (D.view disks.old) (D.view disks.new) storage.old storage.new books.now unit) }
     ensures undone { IfErr result (LeavesUnbranched S.holds S.is_new S.leaves S.fills (D.view disks.old) (D.view disks.new) storage.old storage.new books.now unit) }
+    ensures sent { OnOk result (SendsBranch S.holds S.is_new S.asked S.net (D.view disks.old) storage.old storage.new books.now unit) }
     ensures within { StaysWithin (S.asked storage.old) (S.asked storage.new) (D.view disks.old) (D.view disks.new) }
     ensures cause { HasCause (D.view disks.old) (D.view disks.new) (disk_err result) }
 {

@@ -2,12 +2,12 @@
 
 ghost use Rattle.salt_books.specs.declared.coming.Coming.TheVariants.{Nothing};
 ghost use Rattle.salt_disk.specs.Disks.{HasCause};
-ghost use Rattle.salt_engine.specs.Giving.{AsksForOver, LeavesUngiven, Provides};
+ghost use Rattle.salt_engine.specs.Giving.{AsksForOver, LeavesUngiven, Provides, SendsGiven};
 ghost use Rattle.law_states.specs.States.{State};
 ghost use Rattle.salt_storage.specs.Answers.{disk_err};
 ghost use Rattle.salt_storage.specs.Staying.{StaysWithin};
 ghost use Rattle.salt_place.specs.Placement.{GivesPlaceOf, TakesEachKey};
-ghost use Rattle.std.specs.Prelude.{IfErr, IfOk, None, ◌≡◌};
+ghost use Rattle.std.specs.Prelude.{IfErr, IfOk, None, OnOk, ◌≡◌};
 
 use crate::deciding::{decide_branch, decide_commit, load};
 use crate::flights::InFlight;
@@ -63,6 +63,7 @@ pub fn provide<S: Storage, D: Disks, F: Fn(PlaceKind, &Key, u32) -> u32>(
     requires ready { (s : State) × AsksForOver S.holds S.is_new (D.view disks.old) storage.old books.now coming s }
     ensures given { IfOk result (Provides S.holds S.is_new (D.view disks.old) (D.view disks.new) storage.old storage.new books.now in_flight.new coming) }
     ensures undone { IfErr result (LeavesUngiven S.holds S.is_new S.leaves S.fills (D.view disks.old) (D.view disks.new) storage.old storage.new books.now in_flight.new coming) }
+    ensures sent { OnOk result (SendsGiven S.holds S.is_new S.asked S.net (D.view disks.old) storage.old storage.new books.now coming) }
     ensures within { StaysWithin (S.asked storage.old) (S.asked storage.new) (D.view disks.old) (D.view disks.new) }
     ensures cause { HasCause (D.view disks.old) (D.view disks.new) (disk_err result) }
     ensures still { coming ≡ Nothing → disks.new ≡ disks.old }

@@ -69,17 +69,18 @@ fn defined(scheduler: &mut Scheduler, line: &Line) -> Result<Event, AllocError>
     }
 }
 
-/// A line is asked: what is refused of it. No commit goes over messages.
+/// A line is asked: what is refused of it.
 fn ask(
     scheduler: &mut Scheduler,
     line: &Line,
     can_stop: bool,
+    over_net: bool,
 ) -> Result<Option<Refusal>, AllocError>
     requires { HasFewParts line.now }
-    ensures { IfOk result (λ refusal. (s : State) → StandsForState scheduler.old s → s.can_stop ≡ can_stop → s.over_net ≡ false → AreDistinct s.watch.programs
+    ensures { IfOk result (λ refusal. (s : State) → StandsForState scheduler.old s → s.can_stop ≡ can_stop → s.over_net ≡ over_net → AreDistinct s.watch.programs
         → (refusal ≡ refusal_of s (Tree line.now)) × StandsForState scheduler.new (asked_of (Tree line.now) s)) }
 {
-    let refusal = scheduler.refusal(line, can_stop, false)?;
+    let refusal = scheduler.refusal(line, can_stop, over_net)?;
     scheduler.ask(line)?;
     Ok(refusal)
 }
@@ -103,6 +104,7 @@ fn arm_each<S: Storage, D: Disks>(
     ensures stored { StaysStored S.holds S.is_new (D.view disks.old) (D.view disks.new) storage.old storage.new }
     ensures ok { OnOk result ((D.view disks.new).armed ≡ (D.view disks.old).armed ++ pairs.now) }
     ensures faults { (D.view disks.new).faults ≡ (D.view disks.old).faults }
+    ensures net { S.net storage.new ≡ S.net storage.old }
     ensures within { StaysWithin (S.asked storage.old) (S.asked storage.new) (D.view disks.old) (D.view disks.new) }
 {
     for pair in pairs {
@@ -112,7 +114,7 @@ fn arm_each<S: Storage, D: Disks>(
 }
 
 impl<S: Storage> Engine<S> {
-    ghost use Rattle.salt_engine.specs.Serving.{AsksLineOver, AsksOut, BeginsOut, IsToAskOver, StaysServing};
+    ghost use Rattle.salt_engine.specs.Serving.{AsksLineOver, AsksOut, BeginsOut, IsToAskOver, SendsAsked, SendsBegun, StaysServing};
 
     /// The table or the program of a line is defined.
     fn define<D: Disks, F: Fn(PlaceKind, &Key, u32) -> u32>(
@@ -127,8 +129,9 @@ impl<S: Storage> Engine<S> {
         requires none { self.old.in_flight ≡ None }
         requires ready { (s : State) × AsksLineOver S.holds S.is_new (D.view disks.old) self.old line.now s }
         ensures comes { BeginsOut S.holds S.is_new S.leaves S.fills (D.view disks.old) (D.view disks.new) line.now self.old self.new result }
+        ensures sent { OnOk result (SendsBegun S.holds S.is_new S.asked S.net (D.view disks.old) line.now self.old self.new) }
         ensures stays { StaysServing S.asked (D.view disks.old) (D.view disks.new) self.old self.new }
-        ensures counts { CountsStops (D.view disks.old) (D.view disks.new) (disk_err result) (armed_by result) 0 }
+        ensures counts { CountsStops (D.view disks.old) (D.view disks.new) (disk_err result) (armed_by line.now result) 0 }
     {
         definitions_may_be_kept();
         self.storage.stands(disks);
@@ -161,8 +164,9 @@ impl<S: Storage> Engine<S> {
         requires none { self.old.in_flight ≡ None }
         requires ready { (s : State) × AsksLineOver S.holds S.is_new (D.view disks.old) self.old line.now s }
         ensures comes { BeginsOut S.holds S.is_new S.leaves S.fills (D.view disks.old) (D.view disks.new) line.now self.old self.new result }
+        ensures sent { OnOk result (SendsBegun S.holds S.is_new S.asked S.net (D.view disks.old) line.now self.old self.new) }
         ensures stays { StaysServing S.asked (D.view disks.old) (D.view disks.new) self.old self.new }
-        ensures counts { CountsStops (D.view disks.old) (D.view disks.new) (disk_err result) (armed_by result) 0 }
+        ensures counts { CountsStops (D.view disks.old) (D.view disks.new) (disk_err result) (armed_by line.now result) 0 }
     {
         self.storage.stands(disks);
         let Stage::Going(scheduler) = &mut self.stage else {
@@ -170,6 +174,38 @@ impl<S: Storage> Engine<S> {
         };
         let told = Items::from_slice(self.alloc, pairs.as_slice())?;
         match arm_each(&mut self.storage, disks, pairs.as_slice()) {
+            Ok(()) => {
+                let event = scheduler.armed(line, told);
+                Ok(Some(event))
+            }
+            Err(_) => {
+                self.storage.stands(disks);
+                Err(Halt::Memory)
+            }
+        }
+    }
+
+    /// The pairs of messages of a line are armed.
+    fn arm_net<D: Disks>(
+        &mut self,
+        disks: &mut D,
+        line: &Line,
+        pairs: &Pairs,
+    ) -> Result<Option<Event>, Halt>
+        requires line { line.now ≡ line_of.Net pairs.now }
+        requires none { self.old.in_flight ≡ None }
+        requires ready { (s : State) × AsksLineOver S.holds S.is_new (D.view disks.old) self.old line.now s }
+        ensures comes { BeginsOut S.holds S.is_new S.leaves S.fills (D.view disks.old) (D.view disks.new) line.now self.old self.new result }
+        ensures sent { OnOk result (SendsBegun S.holds S.is_new S.asked S.net (D.view disks.old) line.now self.old self.new) }
+        ensures stays { StaysServing S.asked (D.view disks.old) (D.view disks.new) self.old self.new }
+        ensures counts { CountsStops (D.view disks.old) (D.view disks.new) (disk_err result) (armed_by line.now result) 0 }
+    {
+        self.storage.stands(disks);
+        let Stage::Going(scheduler) = &mut self.stage else {
+            unreachable!()
+        };
+        let told = Items::from_slice(self.alloc, pairs.as_slice())?;
+        match self.storage.arm_net(disks, pairs.as_slice()) {
             Ok(()) => {
                 let event = scheduler.armed(line, told);
                 Ok(Some(event))
@@ -194,8 +230,9 @@ impl<S: Storage> Engine<S> {
         requires none { self.old.in_flight ≡ None }
         requires ready { (s : State) × AsksLineOver S.holds S.is_new (D.view disks.old) self.old line.now s }
         ensures comes { BeginsOut S.holds S.is_new S.leaves S.fills (D.view disks.old) (D.view disks.new) line.now self.old self.new result }
+        ensures sent { OnOk result (SendsBegun S.holds S.is_new S.asked S.net (D.view disks.old) line.now self.old self.new) }
         ensures stays { StaysServing S.asked (D.view disks.old) (D.view disks.new) self.old self.new }
-        ensures counts { CountsStops (D.view disks.old) (D.view disks.new) (disk_err result) (armed_by result) 0 }
+        ensures counts { CountsStops (D.view disks.old) (D.view disks.new) (disk_err result) (armed_by line.now result) 0 }
     {
         self.storage.stands(disks);
         let Stage::Going(scheduler) = &mut self.stage else {
@@ -217,13 +254,15 @@ impl<S: Storage> Engine<S> {
         requires none { self.old.in_flight ≡ None }
         requires ready { (s : State) × AsksLineOver S.holds S.is_new (D.view disks.old) self.old line.now s }
         ensures comes { BeginsOut S.holds S.is_new S.leaves S.fills (D.view disks.old) (D.view disks.new) line.now self.old self.new result }
+        ensures sent { OnOk result (SendsBegun S.holds S.is_new S.asked S.net (D.view disks.old) line.now self.old self.new) }
         ensures stays { StaysServing S.asked (D.view disks.old) (D.view disks.new) self.old self.new }
-        ensures counts { CountsStops (D.view disks.old) (D.view disks.new) (disk_err result) (armed_by result) 0 }
+        ensures counts { CountsStops (D.view disks.old) (D.view disks.new) (disk_err result) (armed_by line.now result) 0 }
     {
         match line {
             Line::Table(_def) => self.define(disks, place, line),
             Line::Program(_def) => self.define(disks, place, line),
             Line::Crash(pairs) => self.arm(disks, line, pairs),
+            Line::Net(pairs) => self.arm_net(disks, line, pairs),
             _ => self.follow_line(disks, place, line),
         }
     }
@@ -238,17 +277,18 @@ impl<S: Storage> Engine<S> {
         requires callable { TakesEachKey (F.pre place.now.place) }
         requires answers { GivesPlaceOf (F.post place.now.place) }
         requires none { self.old.in_flight ≡ None }
-        requires ready { (s : State) × IsToAskOver S.holds S.is_new (D.view disks.old) self.old line.now s }
-        ensures comes { AsksOut S.holds S.is_new S.leaves S.fills (D.view disks.old) (D.view disks.new) line.now self.old self.new result }
+        requires ready { (s : State) × IsToAskOver S.holds S.is_new (D.view disks.old) self.old line.now s × (s.over_net ≡ (S.asked self.old.storage).over_net) }
+        ensures comes { AsksOut S.holds S.is_new S.leaves S.fills S.asked (D.view disks.old) (D.view disks.new) line.now self.old self.new result }
+        ensures sent { OnOk result (SendsAsked S.holds S.is_new S.asked S.net (D.view disks.old) line.now self.old self.new) }
         ensures stays { StaysServing S.asked (D.view disks.old) (D.view disks.new) self.old self.new }
         ensures refused { (refusal : Refusal) → result ≡ Ok (Some (Refused refusal)) → disks.new ≡ disks.old }
-        ensures counts { CountsStops (D.view disks.old) (D.view disks.new) (disk_err result) (armed_by result) 0 }
+        ensures counts { CountsStops (D.view disks.old) (D.view disks.new) (disk_err result) (armed_by line.now result) 0 }
     {
         self.storage.stands(disks);
         let Stage::Going(scheduler) = &mut self.stage else {
             unreachable!()
         };
-        let refusal = ask(scheduler, line, disks.can_stop())?;
+        let refusal = ask(scheduler, line, disks.can_stop(), self.storage.over_net())?;
         match refusal {
             Some(refusal) => Ok(Some(scheduler.refuse(line, refusal))),
             None => self.begin_line(disks, place, line),

@@ -13,7 +13,7 @@ ghost use Rattle.salt_scheduler.specs.Standing.{AnswersWith, AnswersWithComing, 
 ghost use Rattle.salt_driver.specs.Counting.{armed_at};
 ghost use Rattle.salt_storage.specs.Answers.{disk_err};
 ghost use Rattle.salt_place.specs.Placement.{GivesPlaceOf, TakesEachKey};
-ghost use Rattle.std.specs.Prelude.{IfOk, None, [], ◌≡◌};
+ghost use Rattle.std.specs.Prelude.{IfOk, None, OnOk, [], ◌≡◌};
 
 use crate::engine::Engine;
 use crate::given::{Given, provide};
@@ -67,7 +67,7 @@ fn take_up(scheduler: &mut Scheduler, given: Given) -> Result<Option<Event>, All
 }
 
 impl<S: Storage> Engine<S> {
-    ghost use Rattle.salt_engine.specs.Serving.{GoesOnOut, GoesOnOver, IsToServeOver, PerformsOut, StaysServing, TurnsOut, TurnsOver};
+    ghost use Rattle.salt_engine.specs.Serving.{GoesOnOut, GoesOnOver, IsToServeOver, PerformsOut, SendsBehind, SendsPerformed, SendsTurn, StaysServing, TurnsOut, TurnsOver};
 
     /// What is to come in a line, behind its preparations.
     pub(crate) fn perform<D: Disks, F: Fn(PlaceKind, &Key, u32) -> u32>(
@@ -81,6 +81,7 @@ impl<S: Storage> Engine<S> {
         requires none { self.old.in_flight ≡ None }
         requires ready { (s : State) × IsToServeOver S.holds S.is_new (D.view disks.old) self.old coming s }
         ensures comes { PerformsOut S.holds S.is_new S.leaves S.fills (D.view disks.old) (D.view disks.new) coming self.old self.new result }
+        ensures sent { OnOk result (SendsPerformed S.holds S.is_new S.asked S.net (D.view disks.old) coming self.old self.new) }
         ensures stays { StaysServing S.asked (D.view disks.old) (D.view disks.new) self.old self.new }
         ensures cause { HasCause (D.view disks.old) (D.view disks.new) (disk_err result) }
         ensures still { coming ≡ Nothing → disks.new ≡ disks.old }
@@ -114,9 +115,10 @@ impl<S: Storage> Engine<S> {
         requires none { self.old.in_flight ≡ None }
         requires ready { (s : State) × GoesOnOver S.holds S.is_new (D.view disks.old) self.old line.now s }
         ensures comes { GoesOnOut S.holds S.is_new S.leaves S.fills (D.view disks.old) (D.view disks.new) line.now self.old self.new result }
+        ensures sent { OnOk result (SendsBehind S.holds S.is_new S.asked S.net (D.view disks.old) line.now self.old self.new) }
         ensures stays { StaysServing S.asked (D.view disks.old) (D.view disks.new) self.old self.new }
         ensures cause { HasCause (D.view disks.old) (D.view disks.new) (disk_err result) }
-        ensures unarmed { IfOk result (λ next. armed_at next ≡ []) }
+        ensures unarmed { IfOk result (λ next. armed_at line.now next ≡ []) }
         ensures still { (s : State) (r : WatchReading s.watch) → GoesOnOver S.holds S.is_new (D.view disks.old) self.old line.now s
             → behind_in s r (follow_in self.old.stage) ≡ None → disks.new ≡ disks.old }
     {
@@ -141,9 +143,10 @@ impl<S: Storage> Engine<S> {
         requires none { self.old.in_flight ≡ None }
         requires ready { (s : State) × TurnsOver S.holds S.is_new (D.view disks.old) self.old line.now base s }
         ensures comes { TurnsOut S.holds S.is_new S.leaves S.fills (D.view disks.old) (D.view disks.new) line.now base self.old self.new result }
+        ensures sent { OnOk result (SendsTurn S.holds S.is_new S.asked S.net (D.view disks.old) line.now base self.old self.new) }
         ensures stays { StaysServing S.asked (D.view disks.old) (D.view disks.new) self.old self.new }
         ensures cause { HasCause (D.view disks.old) (D.view disks.new) (disk_err result) }
-        ensures unarmed { IfOk result (λ next. armed_at next ≡ []) }
+        ensures unarmed { IfOk result (λ next. armed_at line.now next ≡ []) }
     {
         self.storage.stands(disks);
         let Stage::Going(scheduler) = &mut self.stage else {

@@ -8,11 +8,13 @@ ghost use Rattle.salt_model.specs.declared.events.Event.TheVariants.{Refused};
 ghost use Rattle.salt_model.specs.declared.events.Refusal.{Refusal};
 ghost use Rattle.salt_driver.specs.Counting.{CountsMore};
 ghost use Rattle.salt_driver.specs.Serving.{BreaksOff, GoesOn, Serves};
+ghost use Rattle.law_states.specs.States.{State};
+ghost use Rattle.salt_storage.specs.Netted.{net_told};
 ghost use Rattle.salt_storage.specs.Answers.{disk_err};
 ghost use Rattle.law_types.specs.Played.{HasKey};
 ghost use Rattle.salt_storage.specs.Staying.{StaysWithin};
 ghost use Rattle.salt_place.specs.Placement.{GivesPlaceOf, TakesEachKey};
-ghost use Rattle.std.specs.Prelude.{IfErr, None, OnOk, [], ◌++◌, ◌∷◌, ◌≡◌};
+ghost use Rattle.std.specs.Prelude.{IfErr, None, OnOk, option_map, [], ◌++◌, ◌∷◌, ◌≡◌};
 
 use crate::engine::Engine;
 use crate::lines::reject;
@@ -22,6 +24,7 @@ use salt_ast::Line;
 use salt_disk::Disks;
 use salt_driver::Stepping;
 use salt_model::{Event, Refusal, Story};
+use salt_net::Net;
 use salt_place::{PlaceKind, Placement};
 use salt_scheduler::is_statement_line;
 use salt_storage::{Halt, Storage};
@@ -29,10 +32,11 @@ use salt_values::{Id, Key};
 
 impl<S: Storage + Drop> Stepping for Engine<S> {
     ghost use Rattle.salt_engine.specs.Engines.{engine_left, engine_lies, engine_sees};
+    ghost use Rattle.salt_engine.specs.Netted.{LiesNet, SeesNet};
 
-    ghost sees = { λ d e next s. engine_sees (S.holds d) (S.is_new d) d.can_stop e next s };
+    ghost sees = { λ d e next s. engine_sees (S.holds d) (S.is_new d) d.can_stop e next s × SeesNet (S.asked e.storage) (S.net e.storage) next s };
 
-    ghost lies = { λ d e room p. engine_lies (S.holds d) (S.leaves d) d.can_stop e room p };
+    ghost lies = { λ d e room p. engine_lies (S.holds d) (S.leaves d) d.can_stop e room p × LiesNet (S.asked e.storage) (S.net e.storage) None p.state };
 
     ghost left = { λ d e numbers room p. engine_left (S.holds d) (S.leaves d) (S.rests d) e numbers room p };
 
@@ -127,6 +131,16 @@ impl<S: Storage + Drop> Stepping for Engine<S> {
 }
 
 impl<S: Storage + Drop> Engine<S> {
+    /// It is given up where nothing is missing of the last line: the net that its commits have gone over since the last opening, where
+    /// they go over messages.
+    pub fn into_net<D: Disks>(self, disks: &D) -> Option<Net>
+        requires { (s : State) × ⟦<Engine<S> as Stepping>⟧.sees (D.view disks.now) self None s }
+        ensures { (s : State) → ⟦<Engine<S> as Stepping>⟧.sees (D.view disks.now) self None s → result ≡ option_map (λ t. t.events) (net_told (S.asked self.storage) s.net) }
+    {
+        let Engine { storage, .. } = self;
+        storage.into_net(disks)
+    }
+
     /// Does a line: the trace of the engine and the story goes on by it and its whole segment. An error leaves a story that has gained
     /// a front of this segment, and an engine that is to be given up. Where the line is refused, no device is called.
     pub fn step<D: Disks, F: Fn(PlaceKind, &Key, u32) -> u32>(
@@ -146,7 +160,7 @@ impl<S: Storage + Drop> Engine<S> {
             (⟦<Engine<S> as Stepping>⟧.left (D.view disks.new) self.new None 0) (⟦<Engine<S> as Stepping>⟧.fills (D.view disks.new) self.new) (flight_of self.new.in_flight) halt self.old story.old (Tree line.now) story.new) }
         ensures refused { (refusal : Refusal) → story.new ≡ story.old ++ Refused refusal ∷ [] → disks.new ≡ disks.old }
         ensures within { StaysWithin (S.asked self.old.storage) (S.asked self.new.storage) (D.view disks.old) (D.view disks.new) }
-        ensures counts { CountsMore (D.view disks.old) (D.view disks.new) (disk_err result) None story.old story.new }
+        ensures counts { CountsMore line.now (D.view disks.old) (D.view disks.new) (disk_err result) None story.old story.new }
     {
         salt_driver::step(self, disks, place, line, story)
     }

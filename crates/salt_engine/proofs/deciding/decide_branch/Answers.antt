@@ -1,4 +1,5 @@
 use Rattle.salt_engine.proofs.Counted.{cause-broken, cause-lost, same-cause}
+use Rattle.salt_engine.proofs.Netted.{branch-sent}
 use Rattle.salt_engine.proofs.Outcome.{by-err, not-ok}
 use Rattle.salt_engine.proofs.Committing.{branch-done, branch-may, branch-moves, branch-new, branch-undone, own-branch, own-undone}
 use Rattle.salt_engine.proofs.Decided.{undone-before}
@@ -107,3 +108,16 @@ commit-requires-clause-callable g c = c.requires.callable
 
 pub commit-requires-clause-answers : goal.commit-requires-clause-answers
 commit-requires-clause-answers g c = c.requires.answers
+
+pub returns-clause-sent : goal.returns-clause-sent
+returns-clause-sent g c = λ s base cause b0 later.
+    let view = g.D.Disks.view c.args.disks.now in
+    let holds = g.S.Storage.holds view c.args.storage.now in
+    let is_new = g.S.Storage.is_new view c.args.storage.now in
+    branch-sent holds is_new c.args.books.now s later.unit c.args.unit later.named (g.S.Storage.asked c.args.storage.now) _ _ cause (own-branch holds is_new c.args.books.now s c.args.unit base cause b0 later) c.in_ok-_number.ensures.net
+
+pub returns-in_err-made-clause-sent : goal.returns-in_err-made-clause-sent
+returns-in_err-made-clause-sent g c = not-ok _ _ c.from_residual.result c.from_residual.ensures.1
+
+pub returns-in_err-_number-clause-sent : goal.returns-in_err-_number-clause-sent
+returns-in_err-_number-clause-sent g c = not-ok _ _ c.from_residual-in_err-_number.result c.from_residual-in_err-_number.ensures.1

@@ -1,4 +1,5 @@
 use Rattle.salt_engine.proofs.Counted.{cause-broken, cause-lost, same-cause}
+use Rattle.salt_engine.proofs.Netted.{commit-sent}
 use Rattle.salt_engine.proofs.Outcome.{by-err, not-ok}
 use Rattle.salt_engine.proofs.Committing.{commit-done, commit-may, commit-moves, commit-new, commit-undone}
 use Rattle.salt_engine.proofs.Decided.{undone-before}
@@ -121,3 +122,18 @@ commit-requires-clause-callable g c = c.requires.callable
 
 pub commit-requires-clause-answers : goal.commit-requires-clause-answers
 commit-requires-clause-answers g c = c.requires.answers
+
+pub returns-clause-sent : goal.returns-clause-sent
+returns-clause-sent g c = λ s o b named.
+    let view = g.D.Disks.view c.args.disks.now in
+    commit-sent (g.S.Storage.holds view c.args.storage.now) (g.S.Storage.is_new view c.args.storage.now) c.args.books.now s o c.args.unit named (g.S.Storage.asked c.args.storage.now) _ _ b c.as_slice.result.now
+    (c.as_slice.ensures.value ∙ c.in_ok-changes.ensures s o b.books named) c.in_ok-_number.ensures.net
+
+pub returns-in_err-made-clause-sent : goal.returns-in_err-made-clause-sent
+returns-in_err-made-clause-sent g c = not-ok _ _ c.from_residual.result c.from_residual.ensures.1
+
+pub returns-in_err-changes-clause-sent : goal.returns-in_err-changes-clause-sent
+returns-in_err-changes-clause-sent g c = not-ok _ _ c.from_residual-in_err-changes.result c.from_residual-in_err-changes.ensures.1
+
+pub returns-in_err-_number-clause-sent : goal.returns-in_err-_number-clause-sent
+returns-in_err-_number-clause-sent g c = not-ok _ _ c.from_residual-in_err-_number.result c.from_residual-in_err-_number.ensures.1

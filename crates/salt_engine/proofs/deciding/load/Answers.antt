@@ -71,3 +71,6 @@ load-requires-clause-callable g c = c.requires.callable
 
 pub load-requires-clause-answers : goal.load-requires-clause-answers
 load-requires-clause-answers g c = c.requires.answers
+
+pub returns-in_err-rows-in-Some-clause-sent : goal.returns-in_err-rows-in-Some-clause-sent
+returns-in_err-rows-in-Some-clause-sent g c = not-ok _ _ c.from_residual.result c.from_residual.ensures.1

@@ -1,7 +1,8 @@
 use Rattle.salt_books.specs.declared.coming.Coming.TheVariants.{Act, Branch, Commit, Nothing, Told}
 use Rattle.salt_engine.proofs.Counted.{cause-broken, same-cause}
 use Rattle.salt_engine.proofs.Outcome.{by-err, not-ok}
-use Rattle.salt_engine.proofs.Providing.{act-asked, act-before, act-given, act-undone, act-unit, asks-as, branch-before, branch-given, branch-undone, branch-unit, commit-before, commit-given, commit-named, commit-undone, commit-unit, given-as, nothing-given, told-given, undone-as}
+use Rattle.salt_engine.proofs.Netted.{meant-sent, plain-sent, sent-as}
+use Rattle.salt_engine.proofs.Providing.{act-asked, act-before, act-event, act-given, act-meant, act-undone, act-unit, asks-as, branch-before, branch-given, branch-undone, branch-unit, commit-before, commit-event, commit-given, commit-meant, commit-named, commit-undone, commit-unit, given-as, nothing-given, told-given, undone-as}
 use Rattle.salt_engine.proofs.given.provide.Goals as goal
 use Rattle.salt_engine.specs.declared.given.Given.TheVariants as given
 use Rattle.salt_storage.proofs.Staying.{stays-same}
@@ -211,3 +212,49 @@ returns-in_err-made-in-Branch-clause-cause g c =
 
 pub returns-in_err-made-in-Branch-clause-still : goal.returns-in_err-made-in-Branch-clause-still
 returns-in_err-made-in-Branch-clause-still g c = λ is. let no = sym is ∙ c.in-Branch.is in cc
+
+-- WHAT WAS SENT
+
+pub returns-in-Nothing-clause-sent : goal.returns-in-Nothing-clause-sent
+returns-in-Nothing-clause-sent g c = λ s h. sent-as _ _ _ c.args.coming Nothing s c.in-Nothing.is refl
+
+pub returns-in-Told-clause-sent : goal.returns-in-Told-clause-sent
+returns-in-Told-clause-sent g c = λ s k.
+    let e = c.in-Told.event in
+    let h = asks-as _ _ c.args.books.now c.args.coming (Told e) s c.in-Told.is k in
+    sent-as _ _ _ c.args.coming (Told e) s c.in-Told.is (plain-sent _ e s.units _ h.can.0 h.can.1 h.plain)
+
+pub returns-in_ok-rows-in-Act-clause-sent : goal.returns-in_ok-rows-in-Act-clause-sent
+returns-in_ok-rows-in-Act-clause-sent g c = λ s k.
+    let x = c.args.books.now in
+    let a = c.in-Act.asking in
+    let h = asks-as _ _ x c.args.coming (Act a) s c.in-Act.is k in
+    sent-as _ _ _ c.args.coming (Act a) s c.in-Act.is (meant-sent _ _ _ (act-event _ _ x a s h) s (act-meant _ _ x a s h)
+    (c.in_ok-rows-in-Act.ensures.sent ∙ plain-sent _ (act-event _ _ x a s h) s.units _ refl refl refl))
+
+pub returns-in_err-rows-in-Act-clause-sent : goal.returns-in_err-rows-in-Act-clause-sent
+returns-in_err-rows-in-Act-clause-sent g c = not-ok _ _ c.from_residual.result c.from_residual.ensures.1
+
+pub returns-in_ok-made-in-Commit-clause-sent : goal.returns-in_ok-made-in-Commit-clause-sent
+returns-in_ok-made-in-Commit-clause-sent g c = λ s k.
+    let x = c.args.books.now in
+    let u = c.in-Commit.unit in
+    let h = asks-as _ _ x c.args.coming (Commit u) s c.in-Commit.is k in
+    sent-as _ _ _ c.args.coming (Commit u) s c.in-Commit.is (meant-sent _ _ _ (commit-event _ _ x u s h) s (commit-meant _ _ x u s h)
+    (c.in_ok-made-in-Commit.ensures.sent s.units (commit-unit _ _ x u s h) (commit-before _ _ x u s h) (commit-named _ _ x u s h)))
+
+pub returns-in_err-made-in-Commit-clause-sent : goal.returns-in_err-made-in-Commit-clause-sent
+returns-in_err-made-in-Commit-clause-sent g c = not-ok _ _ c.from_residual-in_err-made-in-Commit.result c.from_residual-in_err-made-in-Commit.ensures.1
+
+pub returns-in_ok-made-in-Branch-clause-sent : goal.returns-in_ok-made-in-Branch-clause-sent
+returns-in_ok-made-in-Branch-clause-sent g c = λ s k.
+    let x = c.args.books.now in
+    let arm = c.in-Branch in
+    let u = arm.unit in
+    let b = arm.base in
+    let cause = arm.cause in
+    let h = asks-as _ _ x c.args.coming (Branch u b cause) s arm.is k in
+    sent-as _ _ _ c.args.coming (Branch u b cause) s arm.is (c.in_ok-made-in-Branch.ensures.sent s.units b cause (branch-before _ _ x u b cause s h) (branch-unit _ _ x u b cause s h))
+
+pub returns-in_err-made-in-Branch-clause-sent : goal.returns-in_err-made-in-Branch-clause-sent
+returns-in_err-made-in-Branch-clause-sent g c = not-ok _ _ c.from_residual-in_err-made-in-Branch.result c.from_residual-in_err-made-in-Branch.ensures.1

@@ -11,6 +11,7 @@ loop-pair-init g c = record {
   stored = λ s h. h;
   stops = sym (append-nil (g.D.Disks.view c.args.disks.now).armed);
   faults = refl;
+  net = refl;
   within = stays-same _ _;
 }
 
@@ -27,6 +28,7 @@ loop-pair-preserved g c =
       stored = λ s h. stored-still _ _ _ _ s (i.stored s h) c.arm.ensures.holds c.arm.ensures.is_new;
       stops = armed-on _ _ _ c.args.pairs.now c.loop-pair.pair-index (0, 0) c.loop-pair-test.true i.stops c.in_ok-arm.ensures.ok;
       faults = c.arm.ensures.faults ∙ i.faults;
+      net = c.arm.ensures.net ∙ i.net;
       within = stays-behind i.within c.arm.ensures.within;
     }
 
@@ -37,3 +39,6 @@ returns-clause-ok g c =
 
 pub returns-in_err-arm-clause-within : goal.returns-in_err-arm-clause-within
 returns-in_err-arm-clause-within g c = stays-behind c.loop-pair.invariant.within c.arm.ensures.within
+
+pub returns-in_err-arm-clause-net : goal.returns-in_err-arm-clause-net
+returns-in_err-arm-clause-net g c = c.arm.ensures.net ∙ c.loop-pair.invariant.net

@@ -1,7 +1,10 @@
+use Rattle.std.specs.Prelude.{Some}
+use Rattle.salt_model.specs.declared.events.Event.TheVariants.{Refused}
+use Rattle.salt_engine.proofs.Netted.{other-sent, refused-sent}
 use Rattle.salt_engine.proofs.Counted.{cause-lost, counts-broken, same-cause}
 use Rattle.salt_engine.proofs.InStage.{behind-lost, never-else, stands-there}
-use Rattle.salt_engine.proofs.LineAsked.{asks-line, begun-unrefused, counts-same, err-unrefused, few-of, refused-performs, refused-unarmed, unrefused}
-use Rattle.salt_engine.proofs.Outcome.{comes-lost, comes-same, stays-same}
+use Rattle.salt_engine.proofs.LineAsked.{asks-line, begun-unrefused, counts-same, err-unrefused, few-of, is-refused, refused-performs, refused-unarmed, unrefused}
+use Rattle.salt_engine.proofs.Outcome.{comes-lost, comes-same, not-ok, on-ok, stays-same}
 use Rattle.salt_engine.proofs.engine.Engine.ask_line.Goals as goal
 use Rattle.law_states.specs.States.{asked_of}
 use Rattle.salt_model.specs.Trace.{Tree}
@@ -28,13 +31,13 @@ begin_line-requires-clause-ready g c =
     let s = c.requires.ready.0 in
     let h = stands-there _ _ c.in-Going.scheduler c.in-Going.is c.requires.ready.1 in (
       asked_of (Tree c.args.line.now) s,
-      asks-line _ _ _ c.args.line.now _ s h _ (sym (c.in_ok-refusal.ensures s h.stands (h.can_stop ∙ sym c.can_stop.ensures) h.off_net h.distinct).0 ∙ c.in-None.is) (c.in_ok-refusal.ensures s h.stands (h.can_stop ∙ sym c.can_stop.ensures) h.off_net h.distinct).1,
+      asks-line _ _ _ c.args.line.now _ s h _ (sym (c.in_ok-refusal.ensures s h.stands (h.can_stop ∙ sym c.can_stop.ensures) (c.requires.ready.2 ∙ sym c.over_net.ensures) h.distinct).0 ∙ c.in-None.is) (c.in_ok-refusal.ensures s h.stands (h.can_stop ∙ sym c.can_stop.ensures) (c.requires.ready.2 ∙ sym c.over_net.ensures) h.distinct).1,
     )
 
 pub returns-in-Some-clause-comes : goal.returns-in-Some-clause-comes
-returns-in-Some-clause-comes g c = λ s r k.
+returns-in-Some-clause-comes g c = λ s r k over.
     let h = stands-there _ _ c.in-Going.scheduler c.in-Going.is k in
-    let asks = c.in_ok-refusal.ensures s h.stands (h.can_stop ∙ sym c.can_stop.ensures) h.off_net h.distinct in
+    let asks = c.in_ok-refusal.ensures s h.stands (h.can_stop ∙ sym c.can_stop.ensures) (over ∙ sym c.over_net.ensures) h.distinct in
     refused-performs _ _ _ c.args.line.now _ s h c.in-Some.refusal (sym asks.0 ∙ c.in-Some.is) _ _ _ _ c.refuse.new.self refl c.refuse.ensures asks.1 c.requires.none r
 
 pub returns-in-Some-clause-stays : goal.returns-in-Some-clause-stays
@@ -44,16 +47,16 @@ pub returns-in-Some-clause-counts : goal.returns-in-Some-clause-counts
 returns-in-Some-clause-counts g c =
     let s = c.requires.ready.0 in
     let h = stands-there _ _ c.in-Going.scheduler c.in-Going.is c.requires.ready.1 in
-    let asks = c.in_ok-refusal.ensures s h.stands (h.can_stop ∙ sym c.can_stop.ensures) h.off_net h.distinct in
+    let asks = c.in_ok-refusal.ensures s h.stands (h.can_stop ∙ sym c.can_stop.ensures) (c.requires.ready.2 ∙ sym c.over_net.ensures) h.distinct in
     counts-same _ _
     (refused-unarmed _ _ _ c.args.line.now _ s h c.in-Some.refusal (sym asks.0 ∙ c.in-Some.is) _ _ c.refuse.new.self c.refuse.ensures asks.1 (reads (asked_of (Tree c.args.line.now) s) h.serves.sound))
 
 pub returns-in-None-clause-comes : goal.returns-in-None-clause-comes
-returns-in-None-clause-comes g c = λ s r k.
+returns-in-None-clause-comes g c = λ s r k over.
     let h = stands-there _ _ c.in-Going.scheduler c.in-Going.is k in
-    let none = sym (c.in_ok-refusal.ensures s h.stands (h.can_stop ∙ sym c.can_stop.ensures) h.off_net h.distinct).0 ∙ c.in-None.is in
+    let none = sym (c.in_ok-refusal.ensures s h.stands (h.can_stop ∙ sym c.can_stop.ensures) (over ∙ sym c.over_net.ensures) h.distinct).0 ∙ c.in-None.is in
     comes-same _ _ _ _ _ _ _ _ (asked_of (Tree c.args.line.now) s) c.begin_line.result (sym (unrefused _ _ _ c.args.line.now _ s h none r))
-    (c.begin_line.ensures.comes (asked_of (Tree c.args.line.now) s) r (asks-line _ _ _ c.args.line.now _ s h _ none (c.in_ok-refusal.ensures s h.stands (h.can_stop ∙ sym c.can_stop.ensures) h.off_net h.distinct).1))
+    (c.begin_line.ensures.comes (asked_of (Tree c.args.line.now) s) r (asks-line _ _ _ c.args.line.now _ s h _ none (c.in_ok-refusal.ensures s h.stands (h.can_stop ∙ sym c.can_stop.ensures) (over ∙ sym c.over_net.ensures) h.distinct).1))
 
 pub returns-in-None-clause-stays : goal.returns-in-None-clause-stays
 returns-in-None-clause-stays g c = c.begin_line.ensures.stays
@@ -62,7 +65,7 @@ pub returns-in-None-clause-counts : goal.returns-in-None-clause-counts
 returns-in-None-clause-counts g c = c.begin_line.ensures.counts
 
 pub returns-in_err-refusal-clause-comes : goal.returns-in_err-refusal-clause-comes
-returns-in_err-refusal-clause-comes g c = λ s r k.
+returns-in_err-refusal-clause-comes g c = λ s r k over.
     let h = stands-there _ _ c.in-Going.scheduler c.in-Going.is k in
     comes-lost _ _ _ _ _ _ _ (asked_of (Tree c.args.line.now) s) c.from_residual.result c.from_residual.ensures.1 (c.stands.ensures.stays s.units.kept h.stored.holding)
     (record { there = behind-lost c.from_residual.result _ c.from_residual.ensures.1; flies = inl c.requires.none })
@@ -71,16 +74,34 @@ pub returns-in_err-refusal-clause-stays : goal.returns-in_err-refusal-clause-sta
 returns-in_err-refusal-clause-stays g c = stays-same _ _ _
 
 pub returns-in_err-refusal-clause-counts : goal.returns-in_err-refusal-clause-counts
-returns-in_err-refusal-clause-counts g c = counts-broken _ _ c.from_residual.result _ c.from_residual.ensures.1 (cause-lost _ _ (same-cause (g.D.Disks.view c.args.disks.now)))
+returns-in_err-refusal-clause-counts g c = counts-broken _ _ _ c.from_residual.result _ c.from_residual.ensures.1 (cause-lost _ _ (same-cause (g.D.Disks.view c.args.disks.now)))
 
 pub returns-in-None-clause-refused : goal.returns-in-None-clause-refused
 returns-in-None-clause-refused g c = λ refusal is.
     let s = c.requires.ready.0 in
     let h = stands-there _ _ c.in-Going.scheduler c.in-Going.is c.requires.ready.1 in
     let t = asked_of (Tree c.args.line.now) s in
-    let asks = c.in_ok-refusal.ensures s h.stands (h.can_stop ∙ sym c.can_stop.ensures) h.off_net h.distinct in
+    let asks = c.in_ok-refusal.ensures s h.stands (h.can_stop ∙ sym c.can_stop.ensures) (c.requires.ready.2 ∙ sym c.over_net.ensures) h.distinct in
     let r = reads t h.serves.sound in
     absurd (begun-unrefused _ _ _ _ _ t r c.args.line.now c.begin_line.result (c.begin_line.ensures.comes t r (asks-line _ _ _ c.args.line.now _ s h _ (sym asks.0 ∙ c.in-None.is) asks.1)) refusal is)
 
 pub returns-in_err-refusal-clause-refused : goal.returns-in_err-refusal-clause-refused
 returns-in_err-refusal-clause-refused g c = λ refusal is. err-unrefused _ _ c.from_residual.result c.from_residual.ensures.1 refusal is
+
+pub returns-in-Some-clause-sent : goal.returns-in-Some-clause-sent
+returns-in-Some-clause-sent g c = λ s r k over.
+    let h = stands-there _ _ c.in-Going.scheduler c.in-Going.is k in
+    let t = asked_of (Tree c.args.line.now) s in
+    let asks = c.in_ok-refusal.ensures s h.stands (h.can_stop ∙ sym c.can_stop.ensures) (over ∙ sym c.over_net.ensures) h.distinct in
+    other-sent _ _ _ (Some (Refused c.in-Some.refusal)) _ t (sym (is-refused _ _ _ c.args.line.now _ s h c.in-Some.refusal (sym asks.0 ∙ c.in-Some.is) r)) (refused-sent _ c.in-Some.refusal t.units _)
+
+pub returns-in-None-clause-sent : goal.returns-in-None-clause-sent
+returns-in-None-clause-sent g c = on-ok c.begin_line.result _ _ (λ sent s r k over.
+    let h = stands-there _ _ c.in-Going.scheduler c.in-Going.is k in
+    let t = asked_of (Tree c.args.line.now) s in
+    let asks = c.in_ok-refusal.ensures s h.stands (h.can_stop ∙ sym c.can_stop.ensures) (over ∙ sym c.over_net.ensures) h.distinct in
+    let none = sym asks.0 ∙ c.in-None.is in
+    other-sent _ _ _ _ _ t (sym (unrefused _ _ _ c.args.line.now _ s h none r)) (sent t r (asks-line _ _ _ c.args.line.now _ s h _ none asks.1))) c.begin_line.ensures.sent
+
+pub returns-in_err-refusal-clause-sent : goal.returns-in_err-refusal-clause-sent
+returns-in_err-refusal-clause-sent g c = not-ok _ _ c.from_residual.result c.from_residual.ensures.1

@@ -4,7 +4,9 @@ use Rattle.salt_engine.proofs.Counted.{cause-lost, counts-broken, same-cause}
 use Rattle.salt_engine.proofs.InStage.{behind-lost, broken-there, never-else, stands-there}
 use Rattle.salt_engine.proofs.LineAsked.{few-of}
 use Rattle.salt_engine.proofs.LineDefines.{defined-breaks, defined-lost, defined-performs, defined-unarmed, defines, reads-there}
-use Rattle.salt_engine.proofs.Outcome.{comes-broken, comes-lost, stays-same}
+use Rattle.salt_engine.proofs.Netted.{definition-sent}
+use Rattle.law_states.specs.Readings.{clash_by, items_by}
+use Rattle.salt_engine.proofs.Outcome.{comes-broken, comes-lost, not-ok, stays-same}
 use Rattle.salt_engine.proofs.engine.Engine.define.Goals as goal
 use Rattle.salt_driver.proofs.Counted.{counts-cause}
 use Rattle.salt_storage.specs.Writing.{OfDefinition}
@@ -62,7 +64,7 @@ returns-in_err-event-in-Ok-clause-stays g c = record { noted = refl; within = c.
 
 pub returns-in_err-event-in-Ok-clause-counts : goal.returns-in_err-event-in-Ok-clause-counts
 returns-in_err-event-in-Ok-clause-counts g c =
-    counts-broken _ _ c.from_residual-in_err-event-in-Ok.result _ c.from_residual-in_err-event-in-Ok.ensures.1 (cause-lost _ _ c.in-Ok.ensures.cause)
+    counts-broken _ _ _ c.from_residual-in_err-event-in-Ok.result _ c.from_residual-in_err-event-in-Ok.ensures.1 (cause-lost _ _ c.in-Ok.ensures.cause)
 
 pub returns-in-Err-clause-comes : goal.returns-in-Err-clause-comes
 returns-in-Err-clause-comes g c = λ s r k.
@@ -77,7 +79,7 @@ pub returns-in-Err-clause-stays : goal.returns-in-Err-clause-stays
 returns-in-Err-clause-stays g c = record { noted = refl; within = c.define.ensures.within }
 
 pub returns-in-Err-clause-counts : goal.returns-in-Err-clause-counts
-returns-in-Err-clause-counts g c = counts-broken _ _ (Err c.in-Err.halt) c.in-Err.halt refl c.in-Err.ensures.cause
+returns-in-Err-clause-counts g c = counts-broken _ _ _ (Err c.in-Err.halt) c.in-Err.halt refl c.in-Err.ensures.cause
 
 pub returns-in_err-asked-clause-comes : goal.returns-in_err-asked-clause-comes
 returns-in_err-asked-clause-comes g c = λ s r k.
@@ -89,4 +91,13 @@ pub returns-in_err-asked-clause-stays : goal.returns-in_err-asked-clause-stays
 returns-in_err-asked-clause-stays g c = stays-same _ _ _
 
 pub returns-in_err-asked-clause-counts : goal.returns-in_err-asked-clause-counts
-returns-in_err-asked-clause-counts g c = counts-broken _ _ c.from_residual.result _ c.from_residual.ensures.1 (cause-lost _ _ (same-cause (g.D.Disks.view c.args.disks.now)))
+returns-in_err-asked-clause-counts g c = counts-broken _ _ _ c.from_residual.result _ c.from_residual.ensures.1 (cause-lost _ _ (same-cause (g.D.Disks.view c.args.disks.now)))
+
+pub returns-in_ok-event-in-Ok-clause-sent : goal.returns-in_ok-event-in-Ok-clause-sent
+returns-in_ok-event-in-Ok-clause-sent g c = λ s r k. c.in-Ok.ensures.net ∙ definition-sent _ c.args.line.now s (clash_by s) (items_by s r) _ c.requires.definition
+
+pub returns-in_err-event-in-Ok-clause-sent : goal.returns-in_err-event-in-Ok-clause-sent
+returns-in_err-event-in-Ok-clause-sent g c = not-ok _ _ c.from_residual-in_err-event-in-Ok.result c.from_residual-in_err-event-in-Ok.ensures.1
+
+pub returns-in_err-asked-clause-sent : goal.returns-in_err-asked-clause-sent
+returns-in_err-asked-clause-sent g c = not-ok _ _ c.from_residual.result c.from_residual.ensures.1

@@ -1,8 +1,9 @@
+use Rattle.salt_engine.proofs.Netted.{other-sent}
 use Rattle.salt_engine.proofs.Counted.{cause-lost, counts-broken, same-cause}
 use Rattle.salt_engine.proofs.InStage.{behind-lost, never-else, stands-there}
 use Rattle.salt_engine.proofs.LineAsked.{armed-none}
 use Rattle.salt_engine.proofs.LineChosen.{to-serve}
-use Rattle.salt_engine.proofs.Outcome.{comes-lost, comes-same, comes-unarmed, stays-same}
+use Rattle.salt_engine.proofs.Outcome.{comes-lost, comes-same, comes-unarmed, not-ok, on-ok, stays-same}
 use Rattle.salt_engine.proofs.Plain.{first-plain}
 use Rattle.salt_engine.proofs.engine.Engine.follow_line.Goals as goal
 use Rattle.law_states.specs.Readings.{clash_by, items_by}
@@ -56,7 +57,7 @@ returns-clause-counts g c =
     let plain = first-plain s.units (clash_by s) (items_by s r) c.args.line.now c.requires.plain in
     let b = c.in_ok-coming.ensures s r h.stands h.allowed in
     counts-cause _ _ _ _
-    (armed-none c.perform.result (comes-unarmed _ _ _ _ _ _ _ s c.perform.result plain
+    (armed-none _ c.perform.result (comes-unarmed _ _ _ _ _ _ _ _ s c.perform.result plain
     (comes-same _ _ _ _ _ _ _ _ s c.perform.result b.meant (c.perform.ensures.comes s (to-serve _ _ _ _ _ s (h.played r) h.allowed.serves.phase plain b h.stored)))))
     c.perform.ensures.cause
 
@@ -70,4 +71,14 @@ pub returns-in_err-coming-clause-stays : goal.returns-in_err-coming-clause-stays
 returns-in_err-coming-clause-stays g c = stays-same _ _ _
 
 pub returns-in_err-coming-clause-counts : goal.returns-in_err-coming-clause-counts
-returns-in_err-coming-clause-counts g c = counts-broken _ _ c.from_residual.result _ c.from_residual.ensures.1 (cause-lost _ _ (same-cause (g.D.Disks.view c.args.disks.now)))
+returns-in_err-coming-clause-counts g c = counts-broken _ _ _ c.from_residual.result _ c.from_residual.ensures.1 (cause-lost _ _ (same-cause (g.D.Disks.view c.args.disks.now)))
+
+pub returns-clause-sent : goal.returns-clause-sent
+returns-clause-sent g c = on-ok c.perform.result _ _ (λ sent s r k.
+    let h = stands-there _ _ c.in-Going.scheduler c.in-Going.is k in
+    let b = c.in_ok-coming.ensures s r h.stands h.allowed in
+    other-sent _ _ _ _ _ s b.meant
+    (sent s (to-serve _ _ _ _ _ s (h.played r) h.allowed.serves.phase (first-plain s.units (clash_by s) (items_by s r) c.args.line.now c.requires.plain) b h.stored))) c.perform.ensures.sent
+
+pub returns-in_err-coming-clause-sent : goal.returns-in_err-coming-clause-sent
+returns-in_err-coming-clause-sent g c = not-ok _ _ c.from_residual.result c.from_residual.ensures.1

@@ -1,7 +1,8 @@
+use Rattle.salt_engine.proofs.Netted.{other-sent}
 use Rattle.salt_engine.proofs.Counted.{cause-broken, cause-lost, same-cause}
 use Rattle.salt_engine.proofs.InStage.{behind-lost, followed, never-else, stands-there}
 use Rattle.salt_engine.proofs.LineChosen.{nothing-comes, to-serve}
-use Rattle.salt_engine.proofs.Outcome.{comes-lost, comes-same, comes-unarmed, not-ok, stays-same}
+use Rattle.salt_engine.proofs.Outcome.{comes-lost, comes-same, comes-unarmed, not-ok, on-ok, stays-same}
 use Rattle.salt_engine.proofs.Plain.{line-plain}
 use Rattle.salt_engine.proofs.engine.Engine.go_on_in_line.Goals as goal
 use Rattle.salt_scheduler.specs.Standing.{follow_of}
@@ -49,7 +50,7 @@ returns-clause-unarmed g c =
     let h = stands-there _ _ c.in-Going.scheduler c.in-Going.is c.requires.ready.1 in
     let r = reads s h.serves.sound in
     let b = c.in_ok-coming.ensures s r h.stands h.serves in
-    comes-unarmed _ _ _ _ _ _ _ s c.perform.result (line-plain s r (follow_of c.in-Going.scheduler))
+    comes-unarmed _ _ _ _ _ _ _ _ s c.perform.result (line-plain s r (follow_of c.in-Going.scheduler))
     (comes-same _ _ _ _ _ _ _ _ s c.perform.result b.meant (c.perform.ensures.comes s (to-serve _ _ _ _ _ s (h.played r) h.serves.phase (line-plain s r (follow_of c.in-Going.scheduler)) b h.stored)))
 
 pub returns-in_err-coming-clause-comes : goal.returns-in_err-coming-clause-comes
@@ -71,3 +72,13 @@ pub returns-clause-still : goal.returns-clause-still
 returns-clause-still g c = λ s r k none.
     let h = stands-there _ _ c.in-Going.scheduler c.in-Going.is k in
     c.perform.ensures.still (nothing-comes s _ _ _ (c.in_ok-coming.ensures s r h.stands h.serves) (followed s r _ c.in-Going.scheduler c.in-Going.is ∙ none))
+
+pub returns-clause-sent : goal.returns-clause-sent
+returns-clause-sent g c = on-ok c.perform.result _ _ (λ sent s r k.
+    let h = stands-there _ _ c.in-Going.scheduler c.in-Going.is k in
+    let b = c.in_ok-coming.ensures s r h.stands h.serves in
+    other-sent _ _ _ _ _ s (b.meant ∙ followed s r _ c.in-Going.scheduler c.in-Going.is)
+    (sent s (to-serve _ _ _ _ _ s (h.played r) h.serves.phase (line-plain s r (follow_of c.in-Going.scheduler)) b h.stored))) c.perform.ensures.sent
+
+pub returns-in_err-coming-clause-sent : goal.returns-in_err-coming-clause-sent
+returns-in_err-coming-clause-sent g c = not-ok _ _ c.from_residual.result c.from_residual.ensures.1

@@ -1,7 +1,7 @@
 use Rattle.salt_scheduler.specs.Standing.{books_of}
 use Rattle.salt_engine.proofs.Counted.{cause-broken, cause-lost}
 use Rattle.salt_engine.proofs.InStage.{behind-broken, behind-lost, never-else, stands-there}
-use Rattle.salt_engine.proofs.Outcome.{comes-broken}
+use Rattle.salt_engine.proofs.Outcome.{comes-broken, not-ok}
 use Rattle.salt_engine.proofs.Providing.{breaks-given, breaks-undone}
 use Rattle.salt_engine.proofs.TakenUp.{serves-asks, serves-takes, taken-performs}
 use Rattle.salt_engine.proofs.engine.Engine.perform.Goals as goal
@@ -84,3 +84,14 @@ returns-in_err-next-clause-cause g c =
 
 pub returns-in_err-next-clause-still : goal.returns-in_err-next-clause-still
 returns-in_err-next-clause-still g c = c.provide.ensures.still
+
+pub returns-clause-sent : goal.returns-clause-sent
+returns-clause-sent g c = λ s k.
+    let x = c.in-Going.scheduler in
+    c.in_ok-given.ensures.sent s (serves-asks _ _ x c.args.coming s (stands-there _ _ x c.in-Going.is k) c.books.result.now c.books.ensures)
+
+pub returns-in_err-given-clause-sent : goal.returns-in_err-given-clause-sent
+returns-in_err-given-clause-sent g c = not-ok _ _ c.from_residual.result c.from_residual.ensures.1
+
+pub returns-in_err-next-clause-sent : goal.returns-in_err-next-clause-sent
+returns-in_err-next-clause-sent g c = not-ok _ _ c.from_residual-in_err-next.result c.from_residual-in_err-next.ensures.1

@@ -1,7 +1,8 @@
+use Rattle.salt_engine.proofs.Netted.{other-sent}
 use Rattle.salt_engine.proofs.Counted.{cause-broken, cause-lost, same-cause}
 use Rattle.salt_engine.proofs.InStage.{behind-lost, never-else, stands-there}
 use Rattle.salt_engine.proofs.LineChosen.{to-serve}
-use Rattle.salt_engine.proofs.Outcome.{comes-lost, comes-same, comes-unarmed, not-ok, stays-same}
+use Rattle.salt_engine.proofs.Outcome.{comes-lost, comes-same, comes-unarmed, not-ok, on-ok, stays-same}
 use Rattle.salt_engine.proofs.Plain.{go-plain}
 use Rattle.salt_engine.proofs.engine.Engine.turn_in_line.Goals as goal
 use Rattle.law_states.specs.Readings.{clash_by}
@@ -56,7 +57,7 @@ returns-clause-unarmed g c =
     let t = turned_to c.args.base s in
     let r = reads t h.turns.serves.sound in
     let b = c.in_ok-coming.ensures s r h.turns in
-    comes-unarmed _ _ _ _ _ _ _ t c.perform.result (go-plain t.units (clash_by t) c.args.base)
+    comes-unarmed _ _ _ _ _ _ _ _ t c.perform.result (go-plain t.units (clash_by t) c.args.base)
     (comes-same _ _ _ _ _ _ _ _ t c.perform.result b.meant
     (c.perform.ensures.comes t (to-serve _ _ _ _ _ t (h.played r) h.turns.serves.phase (go-plain t.units (clash_by t) c.args.base) b (record { holding = h.stored.holding; new = h.stored.new }))))
 
@@ -74,3 +75,14 @@ returns-in_err-coming-clause-cause g c = cause-broken _ _ c.from_residual.result
 
 pub returns-in_err-coming-clause-unarmed : goal.returns-in_err-coming-clause-unarmed
 returns-in_err-coming-clause-unarmed g c = not-ok _ _ c.from_residual.result c.from_residual.ensures.1
+
+pub returns-clause-sent : goal.returns-clause-sent
+returns-clause-sent g c = on-ok c.perform.result _ _ (λ sent s r k.
+    let h = stands-there _ _ c.in-Going.scheduler c.in-Going.is k in
+    let t = turned_to c.args.base s in
+    let b = c.in_ok-coming.ensures s r h.turns in
+    other-sent _ _ _ _ _ t b.meant
+    (sent t (to-serve _ _ _ _ _ t (h.played r) h.turns.serves.phase (go-plain t.units (clash_by t) c.args.base) b (record { holding = h.stored.holding; new = h.stored.new })))) c.perform.ensures.sent
+
+pub returns-in_err-coming-clause-sent : goal.returns-in_err-coming-clause-sent
+returns-in_err-coming-clause-sent g c = not-ok _ _ c.from_residual.result c.from_residual.ensures.1

@@ -1,3 +1,5 @@
+use Rattle.law_states.specs.States.{asked_of}
+use Rattle.salt_engine.proofs.Netted.{halts-net, lies-net, next-sent, refused-sent}
 use Rattle.salt_engine.proofs.AskDone.{asked-there, reads-here}
 use Rattle.salt_engine.proofs.Counted.{cause-lost, cause-told, same-cause}
 use Rattle.salt_engine.proofs.Flying.{flies-none, flight-next}
@@ -10,7 +12,6 @@ use Rattle.salt_engine.proofs.stepping.EngineStepping.ask_rejected.Goals as goal
 use Rattle.salt_engine.specs.declared.stage.Stage.TheVariants.{Going}
 use Rattle.salt_model.specs.Trace.{Rejected}
 use Rattle.salt_scheduler.specs.Standing.{books_of}
-use Rattle.salt_scheduler.specs.declared.scheduler.Scheduler.{Scheduler}
 use Rattle.salt_driver.proofs.Counted.{counts-cause}
 use Rattle.salt_storage.specs.declared.halt.Halt.TheVariants.{Memory}
 use Rattle.std.proofs.Common.{inl, refl}
@@ -18,7 +19,7 @@ use Rattle.std.specs.Prelude.{[]}
 
 pub unreachable-requires : goal.unreachable-requires
 unreachable-requires g c =
-    let s = serving-of c.args.self.now.stage (serves-now _ _ c.args.self.now.stage _ c.requires.0.state c.requires.2.state.seen) in
+    let s = serving-of c.args.self.now.stage (serves-now _ _ c.args.self.now.stage _ c.requires.0.state c.requires.2.state.0.seen) in
     c.in_default.not-Going s.0 s.1
 
 pub returns-in-Ok-clause-moves : goal.returns-in-Ok-clause-moves
@@ -28,10 +29,13 @@ returns-in-Ok-clause-moves g c = λ p sound at.
     let is_new = g.S.Storage.is_new view c.args.self.now.storage in
     let asked = Rejected c.args.refusal in
     let r = reads-here p sound in
-    let h = seen-at _ _ _ _ _ p.state c.in-Going.is at.state.seen in
+    let h = seen-at _ _ _ _ _ p.state c.in-Going.is at.state.0.seen in
     let d = rejected-performs holds is_new c.args.refusal c.in-Going.scheduler c.reject.new.scheduler p _ _ r c.in-Ok.ensures h.0 (asked-serves asked p sound at.idle) (asked-played asked p sound at.idle tt r) h.1
-    (flies-none c.args.self.now.in_flight p.state.units at.state.flies) in
-    asked-there _ _ asked p sound at.idle r _ (asked-at asked p sound at.idle holds is_new _ _ _ (Going c.reject.new.scheduler) _ _ r d at.state.can_stop at.state.off_net refl refl) d.told
+    (flies-none c.args.self.now.in_flight p.state.units at.state.0.flies) in
+    asked-there _ _ asked p sound at.idle r _ (
+      asked-at asked p sound at.idle holds is_new _ _ _ (Going c.reject.new.scheduler) _ _ r d at.state.0.can_stop refl refl,
+      next-sent _ _ _ _ _ _ p.state (asked_of asked p.state) refl refl refl d.told (refused-sent _ c.args.refusal (asked_of asked p.state).units _) at.state.1,
+    ) d.told
 
 pub returns-in-Ok-clause-counts : goal.returns-in-Ok-clause-counts
 returns-in-Ok-clause-counts g c =
@@ -39,7 +43,7 @@ returns-in-Ok-clause-counts g c =
     let sound = c.requires.1 in
     let at = c.requires.2 in
     let view = g.D.Disks.view in
-    let h = seen-at _ _ _ _ _ p.state c.in-Going.is at.state.seen in
+    let h = seen-at _ _ _ _ _ p.state c.in-Going.is at.state.0.seen in
     counts-same _ _
     (rejected-unarmed (g.S.Storage.holds (view c.args.disks.now) c.args.self.now.storage) (g.S.Storage.is_new (view c.args.disks.now) c.args.self.now.storage) c.args.refusal c.in-Going.scheduler c.reject.new.scheduler p _ (reads-here p sound)
     c.in-Ok.ensures h.0 (asked-serves (Rejected c.args.refusal) p sound at.idle))
@@ -47,9 +51,10 @@ returns-in-Ok-clause-counts g c =
 pub returns-in-Err-clause-halts : goal.returns-in-Err-clause-halts
 returns-in-Err-clause-halts g c = λ p sound at. inl (
   c.break_by.ensures.halt,
-  memory-as books_of _ _ _ _ _ _ _ c.break_by.result p p.state.units.kept c.break_by.ensures.halt (flight-next p sound.trace sound.keeps (never-fallen p at.idle.serves))
-      (c.stands.ensures.stays p.state.units.kept (held-now _ _ _ p.state at.state.seen)) (inl refl)
-      (record { there = c.break_by.ensures.broken; flies = inl (flies-none c.args.self.now.in_flight p.state.units at.state.flies) }),
+  halts-net _ _ _ _ _ _ p (lies-net _ _ _ at.state.1.over refl)
+      (memory-as books_of _ _ _ _ _ _ _ c.break_by.result p p.state.units.kept c.break_by.ensures.halt (flight-next p sound.trace sound.keeps (never-fallen p at.idle.serves))
+      (c.stands.ensures.stays p.state.units.kept (held-now _ _ _ p.state at.state.0.seen)) (inl refl)
+      (record { there = c.break_by.ensures.broken; flies = inl (flies-none c.args.self.now.in_flight p.state.units at.state.0.flies) })),
 )
 
 pub returns-in-Err-clause-counts : goal.returns-in-Err-clause-counts

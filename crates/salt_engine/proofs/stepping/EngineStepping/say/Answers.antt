@@ -1,6 +1,7 @@
+use Rattle.salt_engine.proofs.Netted.{breaks-there, lies-net, next-sent, said-over, told-sent}
 use Rattle.salt_engine.proofs.Counted.{cause-lost, cause-told, same-cause}
 use Rattle.salt_engine.proofs.InStage.{followed}
-use Rattle.salt_engine.proofs.SayDone.{said-breaks, said-goes, said-halts, said-less, said-lost, said-performs, said-rests, said-sees, said-there, said-turns}
+use Rattle.salt_engine.proofs.SayDone.{said-breaks, said-goes, said-halts, said-less, said-lost, said-performs, said-rests, said-sees, said-sent, said-there, said-turns}
 use Rattle.salt_engine.proofs.ServingGoes.{read}
 use Rattle.salt_engine.proofs.Stages.{done-in}
 use Rattle.salt_engine.proofs.stepping.EngineStepping.say.Goals as goal
@@ -24,7 +25,7 @@ go_on_in_line-requires-clause-ready g c =
     let at = c.requires.stands.2 in
     let line = c.args.line.now in
     let e = c.args.event in
-    let i = done-in _ _ c.args.self.now.stage e p.state at.state.seen in
+    let i = done-in _ _ c.args.self.now.stage e p.state at.state.0.seen in
     let x = i.scheduler in
     let t = i.behind in
     (t, said-goes line x e p sound t i.done at.comes at.serves at.line _ _ _ i.there i.stored)
@@ -33,12 +34,16 @@ pub returns-in-Ok-go_on_in_line-clause-moves : goal.returns-in-Ok-go_on_in_line-
 returns-in-Ok-go_on_in_line-clause-moves g c = λ p sound at.
     let line = c.args.line.now in
     let e = c.args.event in
-    let i = done-in _ _ c.args.self.now.stage e p.state at.state.seen in
+    let i = done-in _ _ c.args.self.now.stage e p.state at.state.0.seen in
     let x = i.scheduler in
     let t = i.behind in
     let d = said-performs line x e p sound t i.done at.comes at.serves at.line _ _ _ _ _ _ i.there (c.in-Ok-go_on_in_line.ensures.comes t (read line x e p sound t i.done at.comes at.serves at.line) (said-goes line x e p sound t i.done at.comes at.serves at.line _ _ _ i.there i.stored)) in
-    said-there line x e p sound t i.done at.comes at.serves at.line _ _ c.in-Ok-go_on_in_line.next
-    (said-sees line x e p sound t i.done at.comes at.serves at.line _ _ _ _ _ _ _ _ c.in-Ok-go_on_in_line.next d at.state.can_stop at.state.off_net c.go_on_in_line.ensures.stays.within.shape.can_stop at.state.line c.go_on_in_line.ensures.stays.noted) d.told
+    said-there line x e p sound t i.done at.comes at.serves at.line _ _ c.in-Ok-go_on_in_line.next (
+      said-sees line x e p sound t i.done at.comes at.serves at.line _ _ _ _ _ _ _ _ c.in-Ok-go_on_in_line.next d at.state.0.can_stop c.go_on_in_line.ensures.stays.within.shape.can_stop at.state.0.line c.go_on_in_line.ensures.stays.noted,
+      next-sent _ _ _ _ _ _ t t refl refl c.go_on_in_line.ensures.stays.within.asked d.told
+          (said-sent line x e p sound t i.done at.comes at.serves at.line _ _ _ _ i.there (c.in-Ok-go_on_in_line.ensures.sent t (read line x e p sound t i.done at.comes at.serves at.line) (said-goes line x e p sound t i.done at.comes at.serves at.line _ _ _ i.there i.stored)))
+          (told-sent _ _ e p.state t i.done.after at.state.1),
+    ) d.told
 
 pub returns-in-Ok-go_on_in_line-clause-tells : goal.returns-in-Ok-go_on_in_line-clause-tells
 returns-in-Ok-go_on_in_line-clause-tells g c = c.in-Ok.ensures.ok
@@ -50,11 +55,11 @@ returns-in-Ok-go_on_in_line-clause-less g c =
     let at = c.requires.stands.2 in
     let line = c.args.line.now in
     let e = c.args.event in
-    let i = done-in _ _ c.args.self.now.stage e p.state at.state.seen in
+    let i = done-in _ _ c.args.self.now.stage e p.state at.state.0.seen in
     let x = i.scheduler in
     let t = i.behind in
     let d = said-performs line x e p sound t i.done at.comes at.serves at.line _ _ _ _ _ _ i.there (c.in-Ok-go_on_in_line.ensures.comes t (read line x e p sound t i.done at.comes at.serves at.line) (said-goes line x e p sound t i.done at.comes at.serves at.line _ _ _ i.there i.stored)) in
-    said-less line x e p sound t i.done at.comes at.serves at.line _ _ _ _ _ _ c.in-Ok-go_on_in_line.next at.state.seen d.sees d.told
+    said-less line x e p sound t i.done at.comes at.serves at.line _ _ _ _ _ _ c.in-Ok-go_on_in_line.next at.state.0.seen d.sees d.told
 
 pub returns-in-Ok-go_on_in_line-clause-turns : goal.returns-in-Ok-go_on_in_line-clause-turns
 returns-in-Ok-go_on_in_line-clause-turns g c =
@@ -63,7 +68,7 @@ returns-in-Ok-go_on_in_line-clause-turns g c =
     let at = c.requires.stands.2 in
     let line = c.args.line.now in
     let e = c.args.event in
-    let i = done-in _ _ c.args.self.now.stage e p.state at.state.seen in
+    let i = done-in _ _ c.args.self.now.stage e p.state at.state.0.seen in
     let x = i.scheduler in
     let t = i.behind in
     let d = said-performs line x e p sound t i.done at.comes at.serves at.line _ _ _ _ _ _ i.there (c.in-Ok-go_on_in_line.ensures.comes t (read line x e p sound t i.done at.comes at.serves at.line) (said-goes line x e p sound t i.done at.comes at.serves at.line _ _ _ i.there i.stored)) in
@@ -82,7 +87,7 @@ returns-in-Ok-go_on_in_line-clause-refused g c = λ refusal is.
     let at = c.requires.stands.2 in
     let line = c.args.line.now in
     let e = c.args.event in
-    let i = done-in _ _ c.args.self.now.stage e p.state at.state.seen in
+    let i = done-in _ _ c.args.self.now.stage e p.state at.state.0.seen in
     let x = i.scheduler in
     let t = i.behind in
     c.go_on_in_line.ensures.still t (read line x e p sound t i.done at.comes at.serves at.line) (said-goes line x e p sound t i.done at.comes at.serves at.line _ _ _ i.there i.stored)
@@ -92,13 +97,14 @@ pub returns-in-Err-go_on_in_line-clause-halts : goal.returns-in-Err-go_on_in_lin
 returns-in-Err-go_on_in_line-clause-halts g c = λ p sound at.
     let line = c.args.line.now in
     let e = c.args.event in
-    let i = done-in _ _ c.args.self.now.stage e p.state at.state.seen in
+    let i = done-in _ _ c.args.self.now.stage e p.state at.state.0.seen in
     let x = i.scheduler in
     let t = i.behind in
     let b = said-breaks line x e p sound t i.done at.comes at.serves at.line _ _ c.in-Err-go_on_in_line.halt c.break_by.result _ _ _ _ i.there c.break_by.ensures.halt c.break_by.ensures.broken
     (c.in-Err-go_on_in_line.ensures.comes t (read line x e p sound t i.done at.comes at.serves at.line) (said-goes line x e p sound t i.done at.comes at.serves at.line _ _ _ i.there i.stored)) in
-    said-halts line x e p sound t i.done at.comes at.serves at.line _ _ _ c.break_by.result _ _ _ _ _ _ c.args.story.now c.push.new.self b at.state.can_stop at.state.off_net c.go_on_in_line.ensures.stays.within.shape.can_stop
-    at.state.line c.go_on_in_line.ensures.stays.noted (c.stands.ensures.sound t.units.kept i.stored.holding) c.in-Ok.ensures.ok
+    breaks-there _ _ _ _ _ p e _ _ (lies-net _ _ _ at.state.1.over c.go_on_in_line.ensures.stays.within.asked) (λ q moves. lies-net _ _ _ (said-over e p q moves ∙ at.state.1.over) c.go_on_in_line.ensures.stays.within.asked)
+    (said-halts line x e p sound t i.done at.comes at.serves at.line _ _ _ c.break_by.result _ _ _ _ _ _ c.args.story.now c.push.new.self b at.state.0.can_stop c.go_on_in_line.ensures.stays.within.shape.can_stop
+    at.state.0.line c.go_on_in_line.ensures.stays.noted (c.stands.ensures.sound t.units.kept i.stored.holding) c.in-Ok.ensures.ok)
 
 pub returns-in-Err-go_on_in_line-clause-counts : goal.returns-in-Err-go_on_in_line-clause-counts
 returns-in-Err-go_on_in_line-clause-counts g c = counts-cause _ _ _ [] refl (cause-told _ _ c.in-Err-go_on_in_line.halt c.break_by.result c.break_by.ensures.halt c.in-Err-go_on_in_line.ensures.cause)
@@ -113,7 +119,7 @@ returns-in-Err-go_on_in_line-clause-refused g c = λ refusal is.
     let at = c.requires.stands.2 in
     let line = c.args.line.now in
     let e = c.args.event in
-    let i = done-in _ _ c.args.self.now.stage e p.state at.state.seen in
+    let i = done-in _ _ c.args.self.now.stage e p.state at.state.0.seen in
     let x = i.scheduler in
     let t = i.behind in
     c.go_on_in_line.ensures.still t (read line x e p sound t i.done at.comes at.serves at.line) (said-goes line x e p sound t i.done at.comes at.serves at.line _ _ _ i.there i.stored)
@@ -123,11 +129,12 @@ pub returns-in-Err-clause-halts : goal.returns-in-Err-clause-halts
 returns-in-Err-clause-halts g c = λ p sound at.
     let line = c.args.line.now in
     let e = c.args.event in
-    let i = done-in _ _ c.args.self.now.stage e p.state at.state.seen in
+    let i = done-in _ _ c.args.self.now.stage e p.state at.state.0.seen in
     let x = i.scheduler in
     let t = i.behind in
-    said-lost line x e p sound t i.done at.comes at.serves at.line _ _ _ c.break_by-in-Err.result _ _ _ _ c.args.story.now c.push.new.self c.break_by-in-Err.ensures.halt
-    (c.stands.ensures.stays t.units.kept i.stored.holding) c.break_by-in-Err.ensures.broken at.state.flies c.in-Err.ensures.err
+    breaks-there _ _ _ _ _ p e _ _ (lies-net _ _ _ at.state.1.over refl) (λ q moves. lies-net _ _ _ (said-over e p q moves ∙ at.state.1.over) refl)
+    (said-lost line x e p sound t i.done at.comes at.serves at.line _ _ _ c.break_by-in-Err.result _ _ _ _ c.args.story.now c.push.new.self c.break_by-in-Err.ensures.halt
+    (c.stands.ensures.stays t.units.kept i.stored.holding) c.break_by-in-Err.ensures.broken at.state.0.flies c.in-Err.ensures.err)
 
 pub returns-in-Err-clause-counts : goal.returns-in-Err-clause-counts
 returns-in-Err-clause-counts g c =

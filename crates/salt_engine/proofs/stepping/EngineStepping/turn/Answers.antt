@@ -1,3 +1,5 @@
+use Rattle.law_states.specs.States.{turned_to}
+use Rattle.salt_engine.proofs.Netted.{halts-there, lies-net, next-sent, turned-over}
 use Rattle.salt_engine.proofs.AskDone.{reads-here, to-turn, turned-fewer, turned-halts, turned-sees, turned-there}
 use Rattle.salt_engine.proofs.Counted.{cause-told}
 use Rattle.salt_engine.proofs.Flying.{flies-none}
@@ -14,20 +16,23 @@ pub turn_in_line-requires-clause-answers : goal.turn_in_line-requires-clause-ans
 turn_in_line-requires-clause-answers g c = c.requires.answers
 
 pub turn_in_line-requires-clause-none : goal.turn_in_line-requires-clause-none
-turn_in_line-requires-clause-none g c = flies-none c.args.self.now.in_flight c.requires.stands.0.state.units c.requires.stands.2.state.flies
+turn_in_line-requires-clause-none g c = flies-none c.args.self.now.in_flight c.requires.stands.0.state.units c.requires.stands.2.state.0.flies
 
 pub turn_in_line-requires-clause-ready : goal.turn_in_line-requires-clause-ready
 turn_in_line-requires-clause-ready g c =
     let p = c.requires.stands.0 in
     let at = c.requires.stands.2 in
-    (p.state, to-turn _ _ c.args.self.now.stage c.args.line.now c.args.base p c.requires.stands.1 at.serves at.line at.comes c.requires.stands.3 at.state.seen)
+    (p.state, to-turn _ _ c.args.self.now.stage c.args.line.now c.args.base p c.requires.stands.1 at.serves at.line at.comes c.requires.stands.3 at.state.0.seen)
 
 pub returns-in-Ok-clause-moves : goal.returns-in-Ok-clause-moves
 returns-in-Ok-clause-moves g c = λ p sound at turn.
     let r = reads-here p sound in
-    let d = c.in-Ok.ensures.comes p.state r (to-turn _ _ c.args.self.now.stage c.args.line.now c.args.base p sound at.serves at.line at.comes turn at.state.seen) in
-    turned-there _ _ c.args.line.now c.args.base p sound at.serves at.comes turn r c.in-Ok.next at.line
-    (turned-sees _ _ _ _ _ _ _ _ _ c.in-Ok.next c.args.base p.state d at.state.can_stop at.state.off_net c.turn_in_line.ensures.stays.within.shape.can_stop at.state.line c.turn_in_line.ensures.stays.noted) d.told
+    let d = c.in-Ok.ensures.comes p.state r (to-turn _ _ c.args.self.now.stage c.args.line.now c.args.base p sound at.serves at.line at.comes turn at.state.0.seen) in
+    turned-there _ _ c.args.line.now c.args.base p sound at.serves at.comes turn r c.in-Ok.next at.line (
+      turned-sees _ _ _ _ _ _ _ _ _ c.in-Ok.next c.args.base p.state d at.state.0.can_stop c.turn_in_line.ensures.stays.within.shape.can_stop at.state.0.line c.turn_in_line.ensures.stays.noted,
+      next-sent _ _ _ _ _ _ p.state (turned_to c.args.base p.state) refl refl c.turn_in_line.ensures.stays.within.asked d.told
+          (c.in-Ok.ensures.sent p.state r (to-turn _ _ c.args.self.now.stage c.args.line.now c.args.base p sound at.serves at.line at.comes turn at.state.0.seen)) at.state.1,
+    ) d.told
 
 pub returns-in-Ok-clause-fewer : goal.returns-in-Ok-clause-fewer
 returns-in-Ok-clause-fewer g c =
@@ -36,8 +41,8 @@ returns-in-Ok-clause-fewer g c =
     let at = c.requires.stands.2 in
     let turn = c.requires.stands.3 in
     let r = reads-here p sound in
-    let d = c.in-Ok.ensures.comes p.state r (to-turn _ _ c.args.self.now.stage c.args.line.now c.args.base p sound at.serves at.line at.comes turn at.state.seen) in
-    turned-fewer _ _ _ _ _ _ c.args.base c.in-Ok.next p.state turn at.state.seen d.sees
+    let d = c.in-Ok.ensures.comes p.state r (to-turn _ _ c.args.self.now.stage c.args.line.now c.args.base p sound at.serves at.line at.comes turn at.state.0.seen) in
+    turned-fewer _ _ _ _ _ _ c.args.base c.in-Ok.next p.state turn at.state.0.seen d.sees
 
 pub returns-in-Ok-clause-counts : goal.returns-in-Ok-clause-counts
 returns-in-Ok-clause-counts g c = counts-cause _ _ _ _ c.in-Ok.ensures.unarmed c.in-Ok.ensures.cause
@@ -49,9 +54,9 @@ pub returns-in-Err-clause-halts : goal.returns-in-Err-clause-halts
 returns-in-Err-clause-halts g c = λ p sound at turn.
     let r = reads-here p sound in
     let b = broken-out _ _ c.in-Err.halt c.break_by.result _ _ _ _ _ c.break_by.ensures.halt c.break_by.ensures.broken
-    (c.in-Err.ensures.comes p.state r (to-turn _ _ c.args.self.now.stage c.args.line.now c.args.base p sound at.serves at.line at.comes turn at.state.seen)) in
-    let kept = c.stands.ensures.sound p.state.units.kept (held-now _ _ _ p.state at.state.seen) in
-    inr (turned-halts _ _ _ c.break_by.result _ _ _ _ _ p sound at.state.can_stop at.state.off_net c.turn_in_line.ensures.stays.within.shape.can_stop kept c.args.base at.serves at.comes turn r b (c.turn_in_line.ensures.stays.noted ∙ at.state.line))
+    (c.in-Err.ensures.comes p.state r (to-turn _ _ c.args.self.now.stage c.args.line.now c.args.base p sound at.serves at.line at.comes turn at.state.0.seen)) in
+    let kept = c.stands.ensures.sound p.state.units.kept (held-now _ _ _ p.state at.state.0.seen) in
+    inr (halts-there _ _ _ _ _ _ (λ q moves. lies-net _ _ _ (turned-over c.args.base p q moves ∙ at.state.1.over) c.turn_in_line.ensures.stays.within.asked) (turned-halts _ _ _ c.break_by.result _ _ _ _ _ p sound at.state.0.can_stop c.turn_in_line.ensures.stays.within.shape.can_stop kept c.args.base at.serves at.comes turn r b (c.turn_in_line.ensures.stays.noted ∙ at.state.0.line)))
 
 pub returns-in-Err-clause-counts : goal.returns-in-Err-clause-counts
 returns-in-Err-clause-counts g c = counts-cause _ _ _ [] refl (cause-told _ _ c.in-Err.halt c.break_by.result c.break_by.ensures.halt c.in-Err.ensures.cause)
