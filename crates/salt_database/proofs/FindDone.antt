@@ -76,7 +76,6 @@ module _ (holds now : Kept → Type 0) (leaves again : Kept → Kept → Type 0)
     knows = subst (λ (s : Stage Recovery). KnowsUnits (opening_books s) p.state.units) (sym stays) lies.knows;
     sound = lies.sound;
     can_stop = lies.can_stop ∙ sym same;
-    off_net = lies.off_net;
     line = line ∙ lies.line;
     flies = subst (λ (i : Option InFlight). IsInFlight i p.flight p.state.units) (sym flies) lies.flies;
   }

@@ -34,7 +34,6 @@ use Rattle.salt_model.specs.declared.events.Event.TheVariants.{Early, Ready}
 use Rattle.salt_drain.specs.Recovering.{HasDoneEvent, books_of}
 use Rattle.salt_drain.specs.declared.recovery.Recovery.{Recovery}
 use Rattle.salt_driver.specs.Draining.{MayTick}
-use Rattle.salt_driver.specs.Opening.{IsOffNet}
 use Rattle.salt_driver.specs.Standing.{BreaksAt, IsOpenedOn, IsSoundPoint}
 use Rattle.salt_scheduler.specs.Standing.{IsTurning, StandsForState}
 use Rattle.salt_scheduler.specs.declared.scheduler.Scheduler.{Scheduler}
@@ -86,15 +85,15 @@ module _ (x : Recovery) (e : Event) (p : Point) (sound : IsSoundPoint p) (t : St
   now-flies = flight-decides e p.flight wanted d.plain
 
   pub opens-halts : (holds : Kept → Type 0) (leaves : Kept → Kept → Type 0) (fills : ToWrite → ℕ → Type 0) (halt : Halt) (old stoppable : Bool) (found : Option Numbers) → found ≡ None →
-      (was single : Bool) (stage : Stage Recovery) (in_flight : Option InFlight) (story told : List Event) → BreaksOff leaves fills halt stage in_flight wanted t.units → p.state.can_stop ≡ old → IsOffNet p.state → stoppable ≡ old →
+      (was single : Bool) (stage : Stage Recovery) (in_flight : Option InFlight) (story told : List Event) → BreaksOff leaves fills halt stage in_flight wanted t.units → p.state.can_stop ≡ old → stoppable ≡ old →
       was ≡ is_statement_line p.state.units.line → single ≡ was → IsSoundKept t.units.kept → told ≡ story ++ e ∷ [] →
       BreaksAt (λ p. CanReopenAt holds leaves stoppable found (opening_books stage) single in_flight 0 p) (λ p. LeavesOnDevices holds leaves (IsSome in_flight) found 0 p × ⊤) fills (flight_of in_flight) halt p e story told
-  opens-halts holds leaves fills halt old stoppable found unfound was single stage in_flight story told b can began same lined kept may tells = inr (
+  opens-halts holds leaves fills halt old stoppable found unfound was single stage in_flight story told b can same lined kept may tells = inr (
     tells,
     (
       now,
       moves x e p sound t d comes going,
-      halts books_of holds leaves fills halt stoppable found unfound stage single in_flight now b now-flies (d.after.can_stop ∙ can ∙ sym same) (d.after.over_net ∙ began)
+      halts books_of holds leaves fills halt stoppable found unfound stage single in_flight now b now-flies (d.after.can_stop ∙ can ∙ sym same)
           (kept ∙ lined ∙ ap is_statement_line (sym (onwards-line p sound e t d.plain comes d.after))) may,
     ),
   )
@@ -120,9 +119,9 @@ ended x (Early bs) p sound t d comes opening goes ends serves = ends-early x bs 
 ended x e p sound t d comes opening goes ends serves = cc
 
 pub ended-at : {S : Type 0} (holds : S → Kept → Type 0) (is_new : S → Id → Type 0) (o : closed.Opening S) (y : Scheduler) (e : Event) (p : Point) (t : State) (old stoppable was : Bool) →
-    EndsAt e p t (λ s. StandsForState y s) → Stored (holds o.storage) (is_new o.storage) t.units → p.state.can_stop ≡ old → IsOffNet p.state → stoppable ≡ old →
+    EndsAt e p t (λ s. StandsForState y s) → Stored (holds o.storage) (is_new o.storage) t.units → p.state.can_stop ≡ old → stoppable ≡ old →
     was ≡ is_statement_line p.state.units.line → o.single ≡ was → o.in_flight ≡ None → (q : Point) × Moves (Say e) p q × IsOnward holds is_new stoppable o (Served y) q
-ended-at holds is_new o y e p t old stoppable was h stored can began same line kept none =
+ended-at holds is_new o y e p t old stoppable was h stored can same line kept none =
     let after = h.moves.0.after in (
       h.point,
       h.moves,
@@ -130,7 +129,6 @@ ended-at holds is_new o y e p t old stoppable was h stored can began same line k
         state = record {
           seen = (h.serves, subst (λ (u : UnitState). Stored (holds o.storage) (is_new o.storage) u) (sym h.units) stored);
           can_stop = after.can_stop ∙ can ∙ sym same;
-          off_net = after.over_net ∙ began;
           line = kept ∙ line ∙ ap is_statement_line (sym (ap (λ (u : UnitState). u.line) after.units ∙ line-stays e p.state.units h.moves.1));
           flies = none-flies o.in_flight None h.point.state.units none refl;
         };

@@ -1,14 +1,15 @@
 -- A database is as its opening is, or its engine; and goes from the one to the other.
 use Rattle.salt_ast.specs.declared.lines.Line.{Line}
 use Rattle.salt_books.specs.declared.books.Books.{Books}
-use Rattle.salt_database.specs.Halves.{IsBehind, IsLeftBy, by_half, database_lies, database_sees, opening_lies, opening_sees}
+use Rattle.salt_database.specs.Halves.{IsBehind, IsLeftBy, by_half, database_fresh, database_lies, database_net, database_sees, opening_lies, opening_sees}
 use Rattle.salt_database.specs.declared.database.Database.{Database}
 use Rattle.salt_database.specs.declared.database.Database.TheVariants.{Closed, Moving, Open}
 use Rattle.salt_database.specs.declared.opening.Opening.{Opening}
 use Rattle.salt_disk.specs.Disks.{View}
 use Rattle.salt_engine.proofs.Flying.{none-flies}
-use Rattle.salt_engine.specs.Engines.{engine_lies, engine_sees}
+use Rattle.salt_engine.specs.Engines.{engine_lies, engine_sees, engine_storage}
 use Rattle.salt_engine.specs.Flights.{IsInFlight}
+use Rattle.salt_engine.specs.Netted.{LiesNet, SeesNet}
 use Rattle.salt_engine.specs.Standing.{AgreesWithState, KnowsUnits, LeavesOnDevices, ServesFrom, StandsAtEventIn}
 use Rattle.salt_engine.specs.declared.engine.Engine.{Engine}
 use Rattle.salt_engine.specs.declared.flights.InFlight.{InFlight}
@@ -18,72 +19,91 @@ use Rattle.law_states.specs.Points.{Point}
 use Rattle.law_states.specs.States.{State}
 use Rattle.salt_model.specs.Kept.{Kept}
 use Rattle.salt_model.specs.declared.events.Event.{Event}
+use Rattle.salt_net.specs.Turns.{Turning}
 use Rattle.salt_scheduler.specs.Standing.{StandsForState}
 use Rattle.salt_scheduler.specs.declared.scheduler.Scheduler.{Scheduler}
 use Rattle.salt_driver.specs.Opening.{OpensAt}
 use Rattle.salt_driver.specs.Standing.{IsAt, IsIdleAt, IsOpeningAt}
-use Rattle.salt_storage.specs.Staying.{StaysWithin}
+use Rattle.salt_storage.specs.Staying.{Setup, StaysWithin}
 use Rattle.salt_storage.specs.declared.found.Numbers.{Numbers}
 use Rattle.salt_values.specs.declared.id.Id.{Id}
-use Rattle.salt_place.specs.declared.placement.Shape.{Shape}
 use Rattle.std.proofs.Common.{ap, refl, subst, sym, ◌∙◌}
 use Rattle.std.specs.Prelude.{Bool, IsSome, List, None, Option, Some, ℕ, ◌≡◌}
 
-module _ {S : Type 0} (holds : S → Kept → Type 0) (is_new : S → Id → Type 0) (stoppable : Bool) where
+module _ {S : Type 0} (asked : S → Setup) (net : S → Option Turning) (holds : S → Kept → Type 0) (is_new : S → Id → Type 0) (stoppable : Bool) where
   abbrev of_database : Database S → Option Event → State → Type 0
-  of_database x next s = database_sees holds is_new stoppable x next s
+  of_database x next s = database_sees holds is_new stoppable x next s × database_net asked net x next s
 
   abbrev of_engine : Engine S → Option Event → State → Type 0
-  of_engine e next s = engine_sees holds is_new stoppable e next s
+  of_engine e next s = engine_sees holds is_new stoppable e next s × SeesNet (asked (engine_storage e)) (net (engine_storage e)) next s
 
   abbrev of_opening : Opening S → Option Event → State → Type 0
   of_opening o next s = opening_sees holds is_new stoppable o next s
 
   -- IT IS OPEN
 
+  pub open-sees : (x : Database S) (e : Engine S) (next : Option Event) (s : State) → x ≡ Open e → of_database x next s → of_engine e next s
+  open-sees x e next s is h = subst (λ (y : Database S). of_database y next s) is h
+
   pub open-at : (x : Database S) (e : Engine S) (line : Line) (next : Option Event) (p : Point) → x ≡ Open e → IsAt of_database line x next p → IsAt of_engine line e next p
   open-at x e line next p is h =
-      record { state = subst (λ (y : Database S). of_database y next p.state) is h.state; comes = h.comes; serves = h.serves; line = h.line }
+      record { state = open-sees x e next p.state is h.state; comes = h.comes; serves = h.serves; line = h.line }
 
   pub at-open : (e : Engine S) (line : Line) (next : Option Event) (p : Point) → IsAt of_engine line e next p → IsAt of_database line (Open e) next p
   at-open e line next p h = record { state = h.state; comes = h.comes; serves = h.serves; line = h.line }
 
   pub open-idle : (x : Database S) (e : Engine S) (p : Point) → x ≡ Open e → IsIdleAt of_database x p → IsIdleAt of_engine e p
-  open-idle x e p is h = record { state = subst (λ (y : Database S). of_database y None p.state) is h.state; idle = h.idle }
+  open-idle x e p is h = record { state = open-sees x e None p.state is h.state; idle = h.idle }
+
+  pub never-open : (x : Database S) (s : State) → ((e : Engine S) → x ≡ Open e → ⊥) → of_database x None s → ⊥
+  never-open (Closed o) s never h = h.0
+  never-open (Open e) s never h = never e refl
+  never-open Moving s never h = h.0
 
   -- IT IS CLOSED
 
+  closed-sees : (x : Database S) (o : Opening S) (e : Event) (s : State) → x ≡ Closed o → of_database x (Some e) s → of_database (Closed o) (Some e) s
+  closed-sees x o e s is h = subst (λ (y : Database S). of_database y (Some e) s) is h
+
   pub closed-at : (x : Database S) (o : Opening S) (e : Event) (p : Point) → x ≡ Closed o → IsOpeningAt of_database x (Some e) p → IsOpeningAt of_opening o (Some e) p
-  closed-at x o e p is h =
-      record { state = subst (λ (y : Database S). of_database y (Some e) p.state) is h.state; comes = h.comes; opening = h.opening }
+  closed-at x o e p is h = record { state = (closed-sees x o e p.state is h.state).0; comes = h.comes; opening = h.opening }
 
-  pub at-closed : (o : Opening S) (e : Event) (p : Point) → IsOpeningAt of_opening o (Some e) p → IsOpeningAt of_database (Closed o) (Some e) p
-  at-closed o e p h = record { state = h.state; comes = h.comes; opening = h.opening }
+  pub closed-net : (x : Database S) (o : Opening S) (e : Event) (p : Point) → x ≡ Closed o → IsOpeningAt of_database x (Some e) p → SeesNet (asked o.storage) (net o.storage) (Some e) p.state
+  closed-net x o e p is h = (closed-sees x o e p.state is h.state).1
 
-  pub opens-at : (o : Opening S) (room : ℕ) (p : Point) (story told : List Event) (next : Event) → OpensAt of_opening room p story o next told → OpensAt of_database room p story (Closed o) next told
-  opens-at o room p story told next h = record { has = h.has; stands = at-closed o next h.has.point h.stands; tells = h.tells }
+  pub at-closed : (o : Opening S) (e : Event) (p : Point) → IsOpeningAt of_opening o (Some e) p → SeesNet (asked o.storage) (net o.storage) (Some e) p.state → IsOpeningAt of_database (Closed o) (Some e) p
+  at-closed o e p h sent = record { state = (h.state, sent); comes = h.comes; opening = h.opening }
+
+  pub opens-at : (o : Opening S) (room : ℕ) (p : Point) (story told : List Event) (next : Event) (h : OpensAt of_opening room p story o next told) →
+      SeesNet (asked o.storage) (net o.storage) (Some next) h.has.point.state → OpensAt of_database room p story (Closed o) next told
+  opens-at o room p story told next h sent = record { has = h.has; stands = at-closed o next h.has.point h.stands sent; tells = h.tells }
 
   -- IT IS OPENED: an engine is made of its opening.
 
   pub engine-sees : (o : Opening S) (x : Scheduler) (e : Engine S) (s : State) → e.storage ≡ o.storage → ((s : State) → StandsForState x s → ServesFrom e.stage s) → e.single ≡ o.single →
-      e.in_flight ≡ None → AgreesWithState (StandsAtEventIn (holds o.storage) (is_new o.storage) (at.Going x)) stoppable o.single o.in_flight None s → of_engine e None s
-  engine-sees o x e s stored serves single none h =
-      let f = serves s h.seen.0 in
-      record {
-        seen =
-            subst (λ (t : S). StandsAtEventIn (holds t) (is_new t) e.stage None s) (sym stored)
-            (subst (λ (k : Stage Scheduler). StandsAtEventIn (holds o.storage) (is_new o.storage) k None s) (sym f.1) (f.2, h.seen.1));
-        can_stop = h.can_stop;
-        off_net = h.off_net;
-        line = single ∙ h.line;
-        flies = none-flies e.in_flight None s.units none refl;
-      }
+      e.in_flight ≡ None → AgreesWithState (StandsAtEventIn (holds o.storage) (is_new o.storage) (at.Going x)) stoppable o.single o.in_flight None s →
+      SeesNet (asked o.storage) (net o.storage) None s → of_engine e None s
+  engine-sees o x e s stored serves single none h sent =
+      let f = serves s h.seen.0 in (
+        record {
+          seen =
+              subst (λ (t : S). StandsAtEventIn (holds t) (is_new t) e.stage None s) (sym stored)
+              (subst (λ (k : Stage Scheduler). StandsAtEventIn (holds o.storage) (is_new o.storage) k None s) (sym f.1) (f.2, h.seen.1));
+          can_stop = h.can_stop;
+          line = single ∙ h.line;
+          flies = none-flies e.in_flight None s.units none refl;
+        },
+        subst (λ (t : S). SeesNet (asked t) (net t) None s) (sym stored) sent,
+      )
 
 -- WHAT CAN BE OPENED
 
-module _ {S : Type 0} (holds : S → Kept → Type 0) (leaves : S → Kept → Kept → Type 0) (stoppable : Bool) (room : ℕ) (p : Point) where
-  pub closed-lies : (x : Database S) (o : Opening S) → x ≡ Closed o → database_lies holds leaves stoppable x room p → opening_lies holds leaves stoppable o room p
-  closed-lies x o is h = subst (λ (y : Database S). database_lies holds leaves stoppable y room p) is h
+module _ {S : Type 0} (asked : S → Setup) (net : S → Option Turning) (holds : S → Kept → Type 0) (leaves : S → Kept → Kept → Type 0) (stoppable : Bool) (room : ℕ) (p : Point) where
+  abbrev lies : Database S → Type 0
+  lies x = database_lies holds leaves stoppable x room p × database_fresh asked net x p.state
+
+  pub closed-lies : (x : Database S) (o : Opening S) → x ≡ Closed o → lies x → opening_lies holds leaves stoppable o room p × LiesNet (asked o.storage) (net o.storage) o.found p.state
+  closed-lies x o is h = subst lies is h
 
   behind-lies : (e : Engine S) (o : Opening S) → IsBehind e o → engine_lies holds leaves stoppable e room p → opening_lies holds leaves stoppable o room p
   behind-lies e o b h = record {
@@ -94,15 +114,15 @@ module _ {S : Type 0} (holds : S → Kept → Type 0) (leaves : S → Kept → K
     knows = subst (λ (books : Option Books). KnowsUnits books p.state.units) (sym b.books) h.knows;
     sound = h.sound;
     can_stop = h.can_stop;
-    off_net = h.off_net;
     line = b.single ∙ h.line;
     flies = subst (λ (i : Option InFlight). IsInFlight i p.flight p.state.units) (sym b.flies) h.flies;
   }
 
-  pub left-by : (x : Database S) (o : Opening S) → IsLeftBy x o → database_lies holds leaves stoppable x room p → opening_lies holds leaves stoppable o room p
-  left-by (Closed was) o is h = subst (λ (y : Opening S). opening_lies holds leaves stoppable y room p) (sym is) h
-  left-by (Open e) o b h = behind-lies e o b h
-  left-by Moving o b h = absurd h
+  pub left-by : (x : Database S) (o : Opening S) → IsLeftBy x o → lies x → opening_lies holds leaves stoppable o room p × (p.state.over_net ≡ (asked o.storage).over_net)
+  left-by (Closed was) o is h =
+      (subst (λ (y : Opening S). opening_lies holds leaves stoppable y room p) (sym is) h.0, h.1.over ∙ ap (λ (y : Opening S). (asked y.storage).over_net) (sym is))
+  left-by (Open e) o b h = (behind-lies e o b h.0, h.1.over ∙ ap (λ (t : S). (asked t).over_net) (sym b.storage))
+  left-by Moving o b h = absurd h.0
 
 -- what is read off the half that it has
 
@@ -114,11 +134,11 @@ pub closed-same : {S A : Type 0} (closed : Opening S → A) (served : Engine S �
     by_half closed served moving (Closed now) ≡ by_half closed served moving x
 closed-same closed served moving x o now is same = same ∙ sym (ap (by_half closed served moving) is)
 
-pub half-within : {S : Type 0} (closed : Opening S → Shape) (served : Engine S → Shape) (moving : Shape) (x y : Database S) (is : Shape) (old new : View) → x ≡ y →
+pub half-within : {S : Type 0} (closed : Opening S → Setup) (served : Engine S → Setup) (moving : Setup) (x y : Database S) (is : Setup) (old new : View) → x ≡ y →
     StaysWithin (by_half closed served moving y) is old new → StaysWithin (by_half closed served moving x) is old new
 half-within closed served moving x y is old new same h = subst (λ (z : Database _). StaysWithin (by_half closed served moving z) is old new) (sym same) h
 
-pub left-within : {S : Type 0} (asked : S → Shape) (moving : Shape) (x : Database S) (o : Opening S) (is : Shape) (old new : View) → IsLeftBy x o → StaysWithin (asked o.storage) is old new →
+pub left-within : {S : Type 0} (asked : S → Setup) (moving : Setup) (x : Database S) (o : Opening S) (is : Setup) (old new : View) → IsLeftBy x o → StaysWithin (asked o.storage) is old new →
     StaysWithin (by_half (λ o. asked o.storage) (λ e. asked e.storage) moving x) is old new
 left-within asked moving (Closed was) o is old new left h = subst (λ (b : Opening _). StaysWithin (asked b.storage) is old new) left h
 left-within asked moving (Open e) o is old new b h = subst (λ t. StaysWithin (asked t) is old new) b.storage h

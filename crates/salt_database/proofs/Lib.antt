@@ -11,6 +11,7 @@ pub mod GoDone
 pub mod Halved
 pub mod Leftover
 pub mod Lying
+pub mod Netted
 pub mod OpenDone
 pub mod Opened
 pub mod OpenedOn

@@ -28,9 +28,9 @@ use Rattle.std.specs.Prelude.{Bool, IsSome, None, Option, Some, [], refl, ℕ, �
 -- AT FIRST
 
 pub opened-first : (holds : Kept → Type 0) (leaves : Kept → Kept → Type 0) (stoppable : Bool) (found : Option Numbers) (stage : Stage Recovery) (single : Bool)
-    (in_flight : Option InFlight) (early : Bool) (k : Kept) → IsNew early k found stage single in_flight → holds k → IsSoundKept k →
-    IsOpenedFirst (CanReopenAt holds leaves stoppable found (opening_books stage) single in_flight) k stoppable early
-opened-first holds leaves stoppable found stage single in_flight early k new holding sound p u =
+    (in_flight : Option InFlight) (early over : Bool) (k : Kept) → IsNew early k found stage single in_flight → holds k → IsSoundKept k →
+    IsOpenedFirst (CanReopenAt holds leaves stoppable found (opening_books stage) single in_flight) k stoppable early over
+opened-first holds leaves stoppable found stage single in_flight early over k new holding sound p u =
     let taken = new.taken in
     let books = taken.fresh p.state.units.phase p.state.units.line in
     record {
@@ -57,7 +57,6 @@ opened-first holds leaves stoppable found stage single in_flight early k new hol
       );
       sound = subst IsSoundKept (sym u.kept) sound;
       can_stop = u.can_stop;
-      off_net = u.off_net;
       line = new.line ∙ sym (ap is_statement_line u.line);
       flies = subst (λ (i : Option InFlight). IsInFlight i p.flight p.state.units) (sym new.none) u.flight;
     }
@@ -100,7 +99,6 @@ fallen-lies holds now leaves again old stoppable found books later single in_fli
       knows = subst (KnowsUnits later) (sym units) (knows p.state.units fell.why h.knows);
       sound = subst (λ (s : UnitState). IsSoundKept s.kept) (sym units) h.sound;
       can_stop = fell.after.can_stop ∙ h.can_stop ∙ sym same;
-      off_net = fell.after.over_net ∙ h.off_net;
       line = h.line ∙ sym (ap (λ (s : UnitState). is_statement_line s.line) units);
       flies =
           subst (λ (f : Option Event). IsInFlight in_flight f q.state.units) (sym fell.flight)

@@ -22,7 +22,7 @@ use Rattle.salt_model.specs.declared.events.Event.{Event}
 use Rattle.salt_model.specs.declared.events.Event.TheVariants.{Opened}
 use Rattle.salt_drain.specs.declared.recovery.Recovery.{Recovery}
 use Rattle.salt_stands.specs.Stands.{are_spent}
-use Rattle.salt_driver.specs.Opening.{IsOffNet, OpensAt}
+use Rattle.salt_driver.specs.Opening.{OpensAt}
 use Rattle.salt_driver.specs.Standing.{IsSoundPoint}
 use Rattle.salt_storage.specs.Answers.{disk_err, disk_err_of}
 use Rattle.salt_storage.specs.Storing.{booted}
@@ -119,7 +119,6 @@ module _ (holds : Kept → Type 0) (leaves : Kept → Kept → Type 0) (old : Bo
     knows = (x, stays, knows-found);
     sound = lies.sound;
     can_stop = lies.can_stop ∙ sym same;
-    off_net = lies.off_net;
     line = line ∙ lies.line;
     flies = subst (λ (i : Option InFlight). IsInFlight i p.flight p.state.units) (sym flies) lies.flies;
   }
@@ -132,9 +131,9 @@ module _ (p : Point) (sound : IsSoundPoint p) (fallen : p.state.units.phase ≡ 
   its = state p sound fallen room k number boot f next_boot
 
   pub opening-sees : (holds : Kept → Type 0) (is_new : Id → Type 0) (old stoppable was single : Bool) (stage : Stage Recovery) (in_flight : Option InFlight) (next : Event) →
-      IsOpeningWith p.flight number its stage in_flight next → holds (booted k) → ((u : Id) → u.boot ≡ boot → is_new u) → p.state.can_stop ≡ old → IsOffNet p.state → stoppable ≡ old →
+      IsOpeningWith p.flight number its stage in_flight next → holds (booted k) → ((u : Id) → u.boot ≡ boot → is_new u) → p.state.can_stop ≡ old → stoppable ≡ old →
       was ≡ is_statement_line p.state.units.line → single ≡ was → AgreesWithState (OpensIn holds is_new stage) stoppable single in_flight (Some next) its
-  opening-sees holds is_new old stoppable was single stage in_flight next o holding new can began same line kept =
+  opening-sees holds is_new old stoppable was single stage in_flight next o holding new can same line kept =
       let t = o.begins.done.0 in
       let d = o.begins.done.1 in
       record {
@@ -142,7 +141,6 @@ module _ (p : Point) (sound : IsSoundPoint p) (fallen : p.state.units.phase ≡ 
             subst (λ (s : Stage Recovery). OpensIn holds is_new s (Some next) its) (sym o.there)
             (t, d, first-stored p sound fallen room k number boot f next_boot next o.begins.told holds is_new t.units d.after.units holding new, refl);
         can_stop = can ∙ sym same;
-        off_net = began;
         line = kept ∙ line;
         flies = o.flies;
       }

@@ -1,4 +1,5 @@
 -- The storage holds what the first event of an opening leaves.
+use Rattle.salt_ast.specs.declared.lines.Line.TheVariants.{Nothing}
 use Rattle.salt_database.proofs.Booting.{is-number, no-number}
 use Rattle.salt_database.proofs.Opened.{FoundAt, IsWith, IsWithout, boot-is}
 use Rattle.salt_database.proofs.Resting.{is_resting, rests-only}
@@ -34,11 +35,11 @@ resting-keeps s Ready h = refl
 resting-keeps s (Early bs) h = refl
 resting-keeps s e h = cc
 
-resting-unarmed : (e : Event) → is_resting e ≡ true → stops_armed e ≡ []
+resting-unarmed : (e : Event) → is_resting e ≡ true → stops_armed Nothing e ≡ []
 resting-unarmed (Armed pairs) h = cc
 resting-unarmed e h = refl
 
-decided-unarmed : (e : Event) → is_decision e ≡ true → stops_armed e ≡ []
+decided-unarmed : (e : Event) → is_decision e ≡ true → stops_armed Nothing e ≡ []
 decided-unarmed (Armed pairs) h = cc
 decided-unarmed e h = refl
 
@@ -75,12 +76,12 @@ module _ (p : Point) (sound : IsSoundPoint p) (fallen : p.state.units.phase ≡ 
             ap (λ (e : Event). (units_after e s).kept) is ∙ opened-same p.state.units w.event boot number w.counted.decides
             ∙ later-boot (units_after w.event p.state.units).kept w.counted.boot ∙ ap booted (sym w.is)
 
-    pub first-unarmed : stops_armed first ≡ []
+    pub first-unarmed : stops_armed Nothing first ≡ []
     first-unarmed = by f.how
       where
-        by : IsWithout f.boots p k number ⊎ IsWith f.boots p k number → stops_armed first ≡ []
+        by : IsWithout f.boots p k number ⊎ IsWith f.boots p k number → stops_armed Nothing first ≡ []
         by (inl w) = resting-unarmed first (rests-only s first (told ∙ without w.0))
-        by (inr w) = ap stops_armed (same-some first w.event (told ∙ with-flight w.event w.flies w.numbered)) ∙ decided-unarmed w.event w.counted.decides
+        by (inr w) = ap (stops_armed Nothing) (same-some first w.event (told ∙ with-flight w.event w.flies w.numbered)) ∙ decided-unarmed w.event w.counted.decides
 
     -- so it holds what that leaves, and each unit of the boot is new
     pub first-stored : (holds : Kept → Type 0) (is_new : Id → Type 0) (t : UnitState) → t ≡ units_after first s → holds (booted k) →

@@ -1,4 +1,5 @@
 -- What an opening goes on with: something always comes, and no preparation.
+use Rattle.salt_ast.specs.declared.lines.Line.TheVariants.{Nothing}
 use Rattle.salt_books.specs.Coming.{event_meant}
 use Rattle.salt_books.specs.declared.coming.Coming.{Coming}
 use Rattle.salt_books.specs.declared.coming.Coming.TheVariants as coming
@@ -58,9 +59,9 @@ goes-to-open holds is_new x y c s h may b = record {
     by (coming.Branch u base cause) meant r = h.stored
 
 -- what was given arms no stop
-plain-unarmed : (e : Event) → is_prepared (Some e) ≡ false → stops_armed e ≡ []
+plain-unarmed : (e : Event) → is_prepared (Some e) ≡ false → stops_armed Nothing e ≡ []
 plain-unarmed (Armed pairs) h = cc
 plain-unarmed e h = refl
 
-pub meant-unarmed : (e : Event) (meant : Option Event) → Some e ≡ meant → is_prepared meant ≡ false → stops_armed e ≡ []
+pub meant-unarmed : (e : Event) (meant : Option Event) → Some e ≡ meant → is_prepared meant ≡ false → stops_armed Nothing e ≡ []
 meant-unarmed e meant told plain = plain-unarmed e (ap is_prepared told ∙ plain)

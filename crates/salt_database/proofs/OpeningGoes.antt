@@ -26,7 +26,6 @@ use Rattle.law_openings.specs.Draining.{left_to_open}
 use Rattle.salt_drain.specs.Follows.{comes_behind, rest_in}
 use Rattle.salt_drain.specs.Recovering.{HasDoneEvent, StandsBehindEvent, StandsForState, StandsForUnits, behind_of}
 use Rattle.salt_drain.specs.declared.recovery.Recovery.{Recovery}
-use Rattle.salt_driver.specs.Opening.{IsOffNet}
 use Rattle.salt_driver.specs.Standing.{IsSoundPoint}
 use Rattle.salt_storage.specs.Storing.{IsSoundKept}
 use Rattle.salt_values.specs.declared.id.Id.{Id}
@@ -61,13 +60,12 @@ module _ (x : Recovery) (e : Event) (p : Point) (sound : IsSoundPoint p) (t : St
   moves = let r = reads p sound e t d.plain comes d.after in says-moves p sound e t d.plain comes d.after meant r (meant-is r)
 
   pub opened-on : (holds : Kept → Type 0) (is_new : Id → Type 0) (old now : Bool) (was single : Bool) (stage : Stage Recovery) (in_flight : Option InFlight) (given : Event) →
-      Performs (OpensIn holds is_new stage) in_flight meant (Some given) t → p.state.can_stop ≡ old → IsOffNet p.state → now ≡ old → was ≡ is_statement_line p.state.units.line → single ≡ was →
+      Performs (OpensIn holds is_new stage) in_flight meant (Some given) t → p.state.can_stop ≡ old → now ≡ old → was ≡ is_statement_line p.state.units.line → single ≡ was →
       AgreesWithState (OpensIn holds is_new stage) now single in_flight (Some given) t × (meant ≡ Some given) × (t.units.phase ≡ Opening)
-  opened-on holds is_new old now was single stage in_flight given h can began same line kept = (
+  opened-on holds is_new old now was single stage in_flight given h can same line kept = (
     record {
       seen = h.sees;
       can_stop = d.after.can_stop ∙ can ∙ sym same;
-      off_net = d.after.over_net ∙ began;
       line = kept ∙ line ∙ ap is_statement_line (sym (onwards-line p sound e t d.plain comes d.after));
       flies = h.flies;
     },

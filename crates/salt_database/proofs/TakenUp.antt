@@ -139,7 +139,7 @@ module _ (x : Recovery) (u base : Id) (cause : Cause) (m : Move) (s : State) (ca
 module _ (holds : Kept → Type 0) (is_new : Id → Type 0) (x : Recovery) (c : Coming) (s : State) (h : IsToOpen holds is_new x c s) where
   -- by its books
   pub opens-asks : (y : Books) → y ≡ books_of x → AsksFor holds is_new y c s
-  opens-asks y same = record { played = h.played; stored = h.stored; can = by c h.ready }
+  opens-asks y same = record { played = h.played; plain = h.plain; stored = h.stored; can = by c h.ready }
     where
       books : recovering.StandsForState x s → AreBooks y s.units
       books stands = subst (λ (z : Books). AreBooks z s.units) (sym same) stands.books

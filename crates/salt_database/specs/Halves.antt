@@ -7,6 +7,7 @@ use Rattle.salt_database.specs.declared.onward.Onward.{Onward}
 use Rattle.salt_database.specs.declared.opening.Opening.{Opening}
 use Rattle.salt_driver.specs.Standing.{IsIdleAt, IsOpeningAt}
 use Rattle.salt_engine.specs.Engines.{engine_books, engine_flight, engine_left, engine_lies, engine_sees, engine_storage}
+use Rattle.salt_engine.specs.Netted.{LiesNet, SeesNet}
 use Rattle.salt_engine.specs.Flights.{flight_of}
 use Rattle.salt_engine.specs.Standing.{AgreesWithState, CanReopenAt, LeavesOnDevices, StandsAtEventIn}
 use Rattle.salt_engine.specs.Stored.{IsAlone}
@@ -17,11 +18,12 @@ use Rattle.law_states.specs.States.{State}
 use Rattle.salt_model.specs.Kept.{Kept}
 use Rattle.salt_model.specs.declared.events.Event.{Event}
 use Rattle.salt_model.specs.declared.events.Flight.{Flight}
+use Rattle.salt_net.specs.Turns.{Turning}
 use Rattle.salt_storage.specs.declared.found.Numbers.{Numbers}
 use Rattle.salt_values.specs.declared.id.Id.{Id}
 use Rattle.salt_place.specs.declared.placement.PlaceKind.TheVariants.{Remainder}
-use Rattle.salt_place.specs.declared.placement.Shape.{Shape}
-use Rattle.std.specs.Prelude.{Bool, IsSome, None, Option, Some, ℕ, ⊤, ◌≡◌}
+use Rattle.salt_storage.specs.Staying.{Setup}
+use Rattle.std.specs.Prelude.{Bool, IsSome, None, Option, Some, false, ℕ, ⊤, ◌≡◌}
 
 -- AN OPENING
 
@@ -83,9 +85,18 @@ IsLeftBy (Closed was) o = o ≡ was
 IsLeftBy (Open e) o = IsBehind e o
 IsLeftBy Moving o = ⊥
 
--- the shape of one that is neither
-abbrev pub no_shape : Shape
-no_shape = record { parts = 1; kind = Remainder }
+-- what one is asked for that is neither
+abbrev pub no_setup : Setup
+no_setup = record { shape = record { parts = 1; kind = Remainder }; over_net = false }
+
+-- what its commits have sent, by the half that it is
+abbrev pub database_net : {S : Type 0} → (asked : S → Setup) (net : S → Option Turning) → Database S → Option Event → State → Type 0
+database_net asked net x next s =
+    IfEither (λ o. SeesNet (asked o.storage) (net o.storage) next s) (λ e. SeesNet (asked (engine_storage e)) (net (engine_storage e)) next s) x
+
+abbrev pub database_fresh : {S : Type 0} → (asked : S → Setup) (net : S → Option Turning) → Database S → State → Type 0
+database_fresh asked net x s =
+    IfEither (λ o. LiesNet (asked o.storage) (net o.storage) o.found s) (λ e. LiesNet (asked (engine_storage e)) (net (engine_storage e)) None s) x
 
 abbrev pub database_sees : {S : Type 0} → (holds : S → Kept → Type 0) (is_new : S → Id → Type 0) → Bool → Database S → Option Event → State → Type 0
 database_sees holds is_new stoppable (Open e) next s = engine_sees holds is_new stoppable e next s

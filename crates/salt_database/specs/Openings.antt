@@ -1,9 +1,10 @@
--- What an opening does, over its storage and its devices. `holds`, `is_new`, `leaves`, `rests` and `fills` are those of the storage.
+-- What an opening does, over its storage and its devices. `holds`, `is_new`, `leaves`, `rests`, `fills`, `asked` and `net` are those of the
+-- storage.
 use Rattle.law_states.specs.Points.{Moves, Point, Say}
 use Rattle.law_states.specs.States.{State}
 use Rattle.salt_books.specs.Coming.{event_meant}
 use Rattle.salt_books.specs.declared.coming.Coming.{Coming}
-use Rattle.salt_database.specs.Halves.{IsOnward, opening_left, opening_lies, opening_sees}
+use Rattle.salt_database.specs.Halves.{IsOnward, next_of, opening_left, opening_lies, opening_sees}
 use Rattle.salt_database.specs.Performing.{GoesOnOpening, IsToOpen}
 use Rattle.salt_database.specs.Standing.{OpensIn}
 use Rattle.salt_database.specs.declared.onward.Onward.{Onward}
@@ -14,20 +15,26 @@ use Rattle.salt_drain.specs.Recovering.{behind_of}
 use Rattle.salt_drain.specs.declared.recovery.Recovery.{Recovery}
 use Rattle.salt_driver.specs.Standing.{BreaksAt, IsOpeningAt, IsSoundPoint}
 use Rattle.salt_engine.specs.Flights.{flight_of}
+use Rattle.salt_engine.specs.Netted.{LiesNet, SeesNet, net_after}
 use Rattle.salt_engine.specs.Performing.{ComesOut, Stays}
 use Rattle.salt_model.specs.Kept.{Kept}
 use Rattle.salt_model.specs.Phases.{Fallen}
 use Rattle.salt_model.specs.declared.events.Event.{Event}
-use Rattle.salt_place.specs.declared.placement.Shape.{Shape}
+use Rattle.salt_net.specs.Turns.{Turning}
+use Rattle.salt_storage.specs.Staying.{Setup}
 use Rattle.salt_storage.specs.Writing.{ToWrite}
 use Rattle.salt_storage.specs.declared.found.Numbers.{Numbers}
 use Rattle.salt_storage.specs.declared.halt.Halt.{Halt}
 use Rattle.salt_values.specs.declared.id.Id.{Id}
 use Rattle.std.specs.Prelude.{Bool, List, None, Option, Result, Some, ℕ, ◌≡◌}
 
--- No call changes what is noted beside the stage, the shape that the storage is asked for, and devices that are not of it.
-abbrev pub StaysOpening : {S : Type 0} → (asked : S → Shape) → (old new : View) (x y : Opening S) → Type 0
+-- No call changes what is noted beside the stage, what the storage is asked for, and devices that are not of it.
+abbrev pub StaysOpening : {S : Type 0} → (asked : S → Setup) → (old new : View) (x y : Opening S) → Type 0
 StaysOpening asked old new x y = Stays {A = Bool × Option Numbers} (x.single, x.found) (y.single, y.found) (asked x.storage) (asked y.storage) old new
+
+-- broken off, its commits go over messages still where they did, and nothing was sent since it is found what is kept
+abbrev pub StaysBegun : {S : Type 0} → (asked : S → Setup) (net : S → Option Turning) → (x y : Opening S) → Type 0
+StaysBegun asked net x y = (s : State) → LiesNet (asked x.storage) (net x.storage) x.found s → LiesNet (asked y.storage) (net y.storage) y.found s
 
 -- BROKEN OFF, it can be opened at a point, or only what it has left is known
 
@@ -87,3 +94,19 @@ module _ {S : Type 0} (holds : View → S → Kept → Type 0) (is_new : View �
 
     abbrev pub GoesOnOut : (d e : View) → Recovery → (x y : Opening S) → Result Event Halt → Type 0
     GoesOnOut d e recovery x y result = (s : State) → GoesOnOver d x recovery s → ComesOutOver e y (comes_behind (behind_of recovery) s.units) s result
+
+  module _ (asked : S → Setup) (net : S → Option Turning) where
+    -- what was meant is sent, as far as it is a commit's
+    abbrev pub SendsOver : (x y : Opening S) → Option Event → State → Type 0
+    SendsOver x y meant s = net y.storage ≡ net_after (asked x.storage) meant s.units (net x.storage)
+
+    abbrev pub SendsPerformed : View → Recovery → Coming → (x y : Opening S) → Type 0
+    SendsPerformed d recovery coming x y = (s : State) → IsToOpenOver d x recovery coming s → SendsOver x y (event_meant s.units coming) s
+
+    abbrev pub SendsBehind : View → Recovery → (x y : Opening S) → Type 0
+    SendsBehind d recovery x y = (s : State) → GoesOnOver d x recovery s → SendsOver x y (comes_behind (behind_of recovery) s.units) s
+
+    -- the event is told: its commits have sent what those of the run have
+    abbrev pub SendsOnward : View → (x y : Opening S) → Event → Onward → Type 0
+    SendsOnward d x y event onward = WhereOpening d x event (λ p. SeesNet (asked x.storage) (net x.storage) (Some event) p.state →
+        (q : Point) → Moves (Say event) p q → SeesNet (asked y.storage) (net y.storage) (next_of onward) q.state)

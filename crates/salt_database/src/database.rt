@@ -12,6 +12,7 @@ use salt_disk::Disks;
 use salt_driver::{Openable, Stepping};
 use salt_engine::Engine;
 use salt_model::{Event, Flight, Refusal, Story};
+use salt_net::Net;
 use salt_place::{PlaceKind, Placement};
 use salt_schema::Schema;
 use salt_storage::{Halt, OpenErr, Storage};
@@ -68,17 +69,17 @@ impl<S: Drop> Database<S> {
 }
 
 impl<S: Storage + Drop> Stepping for Database<S> {
-    ghost use Rattle.salt_database.specs.Halves.{IfEither, by_half, database_flight, database_left, database_lies, database_sees, no_shape};
+    ghost use Rattle.salt_database.specs.Halves.{IfEither, by_half, database_flight, database_fresh, database_left, database_lies, database_net, database_sees, no_setup};
 
-    ghost sees = { λ d x next s. database_sees (S.holds d) (S.is_new d) d.can_stop x next s };
+    ghost sees = { λ d x next s. database_sees (S.holds d) (S.is_new d) d.can_stop x next s × database_net S.asked S.net x next s };
 
-    ghost lies = { λ d x room p. database_lies (S.holds d) (S.leaves d) d.can_stop x room p };
+    ghost lies = { λ d x room p. database_lies (S.holds d) (S.leaves d) d.can_stop x room p × database_fresh S.asked S.net x p.state };
 
     ghost left = { λ d x numbers room p. database_left (S.holds d) (S.leaves d) (S.rests d) x numbers room p };
 
     ghost flight = { database_flight };
 
-    ghost asked = { λ x. by_half (λ o. S.asked o.storage) (λ e. S.asked (engine_storage e)) no_shape x };
+    ghost asked = { λ x. by_half (λ o. S.asked o.storage) (λ e. S.asked (engine_storage e)) no_setup x };
 
     ghost fills = { λ d x w dev. IfEither (λ o. S.fills d o.storage w dev) (λ e. S.fills d (engine_storage e) w dev) x };
 
@@ -225,6 +226,13 @@ impl<S: Storage + Drop> Openable for Database<S> {
             Database::Closed(opening) => opening.flight(),
             Database::Open(engine) => engine.flight(),
             Database::Moving => None,
+        }
+    }
+
+    fn into_net<D: Disks>(self, disks: &D) -> Option<Net> {
+        match self {
+            Database::Open(engine) => engine.into_net(disks),
+            _ => None,
         }
     }
 }

@@ -9,6 +9,7 @@ ghost use Rattle.law_states.specs.States.{State};
 ghost use Rattle.salt_model.specs.Kept.{Kept};
 ghost use Rattle.salt_model.specs.declared.events.Event.{Event};
 ghost use Rattle.salt_storage.specs.Answers.{MayFail, open_disk_err};
+ghost use Rattle.salt_storage.specs.Netted.{net_begun};
 ghost use Rattle.salt_storage.specs.Staying.{StaysWithin};
 ghost use Rattle.salt_storage.specs.declared.halt.Halt.TheVariants.{DeviceFull, Memory};
 ghost use Rattle.salt_storage.specs.declared.open.OpenErr.{OpenErr};
@@ -48,6 +49,7 @@ impl<S: Storage> Opening<S> {
         ensures found { OnOk result ((x : Books) (a b : Kept) → self.old.stage ≡ Down x → S.leaves (D.view disks.old) self.old.storage a b →
             IsFoundAgain (S.holds (D.view disks.new) self.new.storage) x a b self.new.found self.new.stage) }
         ensures stage { self.new.stage ≡ self.old.stage }
+        ensures begun { OnOk result (S.net self.new.storage ≡ net_begun (S.asked self.new.storage)) }
         ensures unfound { OnErr result (self.new.found ≡ self.old.found) }
         ensures leaves { OnErr result ((a b : Kept) → S.leaves (D.view disks.old) self.old.storage a b → S.leaves (D.view disks.new) self.new.storage a b) }
         ensures known { IfErr result (λ e. (a b : Kept) → S.leaves (D.view disks.old) self.old.storage a b → MayFail (S.rests (D.view disks.new) self.new.storage) a b e) }

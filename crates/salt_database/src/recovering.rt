@@ -4,6 +4,7 @@ ghost use Rattle.salt_books.specs.Coming.{event_meant};
 ghost use Rattle.salt_database.specs.Performing.{CanTakeUp, MayStep};
 ghost use Rattle.salt_disk.specs.Disks.{HasCause};
 ghost use Rattle.salt_engine.specs.Giving.{coming_of};
+ghost use Rattle.salt_ast.specs.declared.lines.Line.TheVariants.{Nothing};
 ghost use Rattle.salt_engine.specs.declared.stage.Stage.TheVariants.{Lost};
 ghost use Rattle.law_states.specs.States.{State};
 ghost use Rattle.salt_model.specs.Rests.{statements_in};
@@ -12,7 +13,7 @@ ghost use Rattle.salt_drain.specs.Recovering.{AnswersWith, behind_of};
 ghost use Rattle.salt_driver.specs.Counting.{stops_armed};
 ghost use Rattle.salt_storage.specs.Answers.{disk_err};
 ghost use Rattle.salt_place.specs.Placement.{GivesPlaceOf, TakesEachKey};
-ghost use Rattle.std.specs.Prelude.{IfOk, None, OnErr, Some, [], ◌+◌, ◌≡◌};
+ghost use Rattle.std.specs.Prelude.{IfOk, None, OnErr, OnOk, Some, [], ◌+◌, ◌≡◌};
 
 use crate::opening::Opening;
 use salt_books::Coming;
@@ -52,7 +53,7 @@ fn take_up<L: Ledger>(
 }
 
 impl<S: Storage> Opening<S> {
-    ghost use Rattle.salt_database.specs.Openings.{GoesOnOut, GoesOnOver, IsToOpenOver, PerformsOut, StaysOpening};
+    ghost use Rattle.salt_database.specs.Openings.{GoesOnOut, GoesOnOver, IsToOpenOver, PerformsOut, SendsBehind, SendsPerformed, StaysOpening};
 
     /// What is to come in an opening, which is an event of it.
     pub(crate) fn perform_in_opening<D: Disks, F: Fn(PlaceKind, &Key, u32) -> u32, L: Ledger>(
@@ -71,6 +72,7 @@ impl<S: Storage> Opening<S> {
         ensures comes { PerformsOut S.holds S.is_new S.leaves S.fills (D.view disks.old) (D.view disks.new) recovery coming self.old self.new result }
         ensures ticks { IfOk result (λ e. steps.new ≡ steps.old + statements_in e) }
         ensures short { OnErr result ((s : State) → IsToOpenOver S.holds S.is_new (D.view disks.old) self.old recovery coming s → MayStep (event_meant s.units coming) steps.old steps.new) }
+        ensures sent { OnOk result (SendsPerformed S.holds S.is_new S.asked S.net (D.view disks.old) recovery coming self.old self.new) }
         ensures stays { StaysOpening S.asked (D.view disks.old) (D.view disks.new) self.old self.new }
         ensures cause { HasCause (D.view disks.old) (D.view disks.new) (disk_err result) }
     {
@@ -110,7 +112,8 @@ impl<S: Storage> Opening<S> {
         ensures comes { GoesOnOut S.holds S.is_new S.leaves S.fills (D.view disks.old) (D.view disks.new) recovery self.old self.new result }
         ensures ticks { IfOk result (λ e. steps.new ≡ steps.old + statements_in e) }
         ensures short { OnErr result ((s : State) → GoesOnOver S.holds S.is_new (D.view disks.old) self.old recovery s → MayStep (comes_behind (behind_of recovery) s.units) steps.old steps.new) }
-        ensures unarmed { IfOk result (λ e. stops_armed e ≡ []) }
+        ensures unarmed { IfOk result (λ e. stops_armed Nothing e ≡ []) }
+        ensures sent { OnOk result (SendsBehind S.holds S.is_new S.asked S.net (D.view disks.old) recovery self.old self.new) }
         ensures stays { StaysOpening S.asked (D.view disks.old) (D.view disks.new) self.old self.new }
         ensures cause { HasCause (D.view disks.old) (D.view disks.new) (disk_err result) }
     {

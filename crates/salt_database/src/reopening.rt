@@ -1,5 +1,6 @@
 //! What an opening does, as its moves from point to point.
 
+ghost use Rattle.salt_ast.specs.declared.lines.Line.TheVariants.{Nothing};
 ghost use Rattle.salt_books.specs.Books.{tables_in};
 ghost use Rattle.salt_books.specs.declared.books.Books.{Books};
 ghost use Rattle.salt_database.specs.Standing.{CanFind, IsFoundStage, ServesBehind, ends_opening, left_in, opening_books};
@@ -102,7 +103,7 @@ fn fallen(stage: Stage<Recovery>) -> Stage<Recovery>
 
 impl<S: Storage + Drop> Opening<S> {
     ghost use Rattle.salt_database.specs.Halves.{next_of};
-    ghost use Rattle.salt_database.specs.Openings.{BreaksOver, CanOpenAt, IsFallen, IsLeftAt, IsOpeningOver, MovesOn, SeesOver, WhereFallen, WhereOpening};
+    ghost use Rattle.salt_database.specs.Openings.{BreaksOver, CanOpenAt, IsFallen, IsLeftAt, IsOpeningOver, MovesOn, SeesOver, SendsOnward, StaysBegun, WhereFallen, WhereOpening};
 
     /// Finds behind a fall what its devices stand for. What is found already is not looked for again.
     pub(crate) fn find<D: Disks, F: Fn(PlaceKind, &Key, u32) -> u32>(
@@ -119,6 +120,7 @@ impl<S: Storage + Drop> Opening<S> {
         ensures later { IfErr result (λ e. WhereFallen S.holds S.leaves (D.view disks.old) self.old (λ room p. MayFailAt room p e)) }
         ensures flies { flight_of self.new.in_flight ≡ flight_of self.old.in_flight }
         ensures full { (dev : ℕ) → result ≡ Err (OpenErr.Halted (DeviceFull dev)) → ⊥ }
+        ensures begun { StaysBegun S.asked S.net self.old self.new }
         ensures within { StaysWithin (S.asked self.old.storage) (S.asked self.new.storage) (D.view disks.old) (D.view disks.new) }
         ensures counts { CountsStops (D.view disks.old) (D.view disks.new) (open_disk_err result) [] 0 }
     {
@@ -142,8 +144,10 @@ impl<S: Storage + Drop> Opening<S> {
         ensures flies { OnErr result (flight_of self.new.in_flight ≡ flight_of self.old.in_flight) }
         ensures untold { OnErr result (story.new ≡ story.old) }
         ensures full { (dev : ℕ) → result ≡ Err (DeviceFull dev) → S.fills (D.view disks.new) self.new.storage OfBoot dev }
+        ensures sent { OnOk result (S.net self.new.storage ≡ S.net self.old.storage) }
+        ensures unfound { self.new.found ≡ None }
         ensures within { StaysWithin (S.asked self.old.storage) (S.asked self.new.storage) (D.view disks.old) (D.view disks.new) }
-        ensures unarmed { IfOk result (λ next. stops_armed next ≡ []) }
+        ensures unarmed { IfOk result (λ next. stops_armed Nothing next ≡ []) }
         ensures counts { CountsStops (D.view disks.old) (D.view disks.new) (disk_err result) [] 0 }
     {
         let Some(numbers) = self.found else {
@@ -183,8 +187,10 @@ impl<S: Storage + Drop> Opening<S> {
         ensures ticks { IfOk result (λ onward. steps.new ≡ steps.old + statements_at (next_of onward)) }
         ensures short { OnErr result (WhereOpening S.holds S.is_new (D.view disks.old) self.old event (λ p. MayTick p event story.old story.new steps.old steps.new)) }
         ensures less { IfOk result (λ onward. left_in self.new.stage (next_of onward) < left_in self.old.stage (Some event)) }
+        ensures sent { IfOk result (SendsOnward S.holds S.is_new S.asked S.net (D.view disks.old) self.old self.new event) }
+        ensures unfound { self.new.found ≡ self.old.found }
         ensures within { StaysWithin (S.asked self.old.storage) (S.asked self.new.storage) (D.view disks.old) (D.view disks.new) }
-        ensures unarmed { IfOk result (λ onward. armed_at (next_of onward) ≡ []) }
+        ensures unarmed { IfOk result (λ onward. armed_at Nothing (next_of onward) ≡ []) }
         ensures counts { CountsStops (D.view disks.old) (D.view disks.new) (disk_err result) [] 0 }
     {
         self.storage.stands(disks);
@@ -207,6 +213,7 @@ impl<S: Storage + Drop> Opening<S> {
             → CanOpenAt S.holds S.leaves (D.view disks.new) self.new room q }
         ensures settled { CanFind (S.settled (D.view disks.new) self.new.storage) (S.leaves (D.view disks.new) self.new.storage) self.new.found self.new.stage }
         ensures flies { flight_of self.new.in_flight ≡ flight_of self.old.in_flight }
+        ensures unfound { self.new.found ≡ None }
         ensures within { StaysWithin (S.asked self.old.storage) (S.asked self.new.storage) (D.view disks.old) (D.view disks.new) }
         ensures faults { (D.view disks.new).faults ≡ (D.view disks.old).faults }
         ensures stops { (D.view disks.new).armed ≡ (D.view disks.old).armed }

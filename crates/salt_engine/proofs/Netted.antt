@@ -91,8 +91,8 @@ module _ (holds : Kept → Type 0) (is_new : Id → Type 0) (x : Books) (s : Uni
 pub sent-as : (setup : Setup) (old new : Option Turning) (c d : Coming) (s : State) → c ≡ d → new ≡ net_after setup (event_meant s.units d) s.units old → new ≡ net_after setup (event_meant s.units c) s.units old
 sent-as setup old new c d s is sent = subst (λ (k : Coming). new ≡ net_after setup (event_meant s.units k) s.units old) (sym is) sent
 
-pub meant-sent : (setup : Setup) (old new : Option Turning) {c : Coming} (e : Event) (s : State) → event_meant s.units c ≡ Some e → new ≡ net_after setup (Some e) s.units old → new ≡ net_after setup (event_meant s.units c) s.units old
-meant-sent setup old new e s is sent = subst (λ (m : Option Event). new ≡ net_after setup m s.units old) (sym is) sent
+pub meant-sent : (setup : Setup) (old new : Option Turning) (c : Coming) (e : Event) (s : State) → event_meant s.units c ≡ Some e → new ≡ net_after setup (Some e) s.units old → new ≡ net_after setup (event_meant s.units c) s.units old
+meant-sent setup old new c e s is sent = subst (λ (m : Option Event). new ≡ net_after setup m s.units old) (sym is) sent
 
 -- a definition sends nothing
 pub definition-sent : (setup : Setup) (line : Line) (s : State) (clash : Clashes) (items : Items) (net : Option Turning) → is_definition line ≡ true → net ≡ net_after setup (line_in s.units clash items line) s.units net
@@ -145,11 +145,11 @@ module _ (lies N left : Point → Type 0) (fills : ToWrite → ℕ → Type 0) (
   pub halts-net : (q : Point) → N q → HaltsAt lies left fills flight halt q → HaltsAt (λ p. lies p × N p) left fills flight halt q
   halts-net q net h = record { reason = h.reason; flies = h.flies; full = h.full; again = λ other. (h.again other, net); stays = h.stays }
 
-  pub halts-there : {p : Point} {m : TraceStep} → ((q : Point) → Moves m p q → N q) → ((q : Point) × Moves m p q × HaltsAt lies left fills flight halt q) →
+  pub halts-there : (p : Point) (m : TraceStep) → ((q : Point) → Moves m p q → N q) → ((q : Point) × Moves m p q × HaltsAt lies left fills flight halt q) →
       (q : Point) × Moves m p q × HaltsAt (λ p. lies p × N p) left fills flight halt q
-  halts-there net h = (h.0, h.1, halts-net h.0 (net h.0 h.1) h.2)
+  halts-there p m net h = (h.0, h.1, halts-net h.0 (net h.0 h.1) h.2)
 
 pub breaks-there : (lies N left : Point → Type 0) (fills : ToWrite → ℕ → Type 0) (flight : Option Flight) {halt : Halt} (p : Point) (e : Event) (story told : List Event) → N p → ((q : Point) → Moves (Say e) p q → N q) →
     BreaksAt lies left fills flight halt p e story told → BreaksAt (λ p. lies p × N p) left fills flight halt p e story told
 breaks-there lies N left fills flight {halt} p e story told here there (inl h) = inl (h.0, halts-net lies N left fills flight halt p here h.1, h.2)
-breaks-there lies N left fills flight {halt} p e story told here there (inr h) = inr (h.0, halts-there lies N left fills flight halt there h.1)
+breaks-there lies N left fills flight {halt} p e story told here there (inr h) = inr (h.0, halts-there lies N left fills flight halt p (Say e) there h.1)

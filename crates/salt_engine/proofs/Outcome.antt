@@ -16,7 +16,7 @@ use Rattle.salt_storage.specs.declared.halt.Halt.TheVariants.{Memory}
 use Rattle.salt_storage.specs.declared.halt.Halt.{Halt}
 use Rattle.salt_storage.specs.Staying.{Setup}
 use Rattle.std.proofs.Common.{ap, subst, sym, ◌∙◌}
-use Rattle.std.specs.Prelude.{Err, IfErr, IfOk, Ok, Option, Result, [], false, refl, ℕ, ◌≡◌}
+use Rattle.std.specs.Prelude.{Err, IfErr, IfOk, Ok, OnOk, Option, Result, [], false, refl, ℕ, ◌≡◌}
 use Rattle.std.specs.Result.{IsErrAnd, MatchResult}
 
 module _ {H T : Type 0} (given : T → Option Event) (seen : Option Event → State → Type 0) (leaves : Kept → Kept → Type 0) (fills : ToWrite → ℕ → Type 0) (stage : Stage H) (in_flight : Option InFlight) where

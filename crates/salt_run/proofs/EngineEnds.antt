@@ -1,12 +1,13 @@
 -- A run, by what is found at first and by how its database ends.
 use Rattle.salt_books.specs.declared.books.Books.{Books}
-use Rattle.salt_database.specs.Halves.{IfEither, by_half, database_flight, database_left, database_lies, no_shape}
+use Rattle.salt_database.specs.Halves.{IfEither, by_half, database_flight, database_left, database_lies, no_setup}
 use Rattle.salt_database.specs.Standing.{opening_books}
 use Rattle.salt_database.specs.declared.database.Database.{Database}
 use Rattle.salt_database.specs.declared.database.Database.TheVariants.{Closed, Moving, Open}
 use Rattle.salt_devices.specs.Filling.{FillsIn}
 use Rattle.salt_devices.specs.Leaving.{StandsFor}
 use Rattle.salt_devices.specs.Refusing.{Finds, Refuses}
+use Rattle.salt_devices.specs.Holding.{setup_in}
 use Rattle.salt_devices.specs.Standing.{RestsAs, StandsHeld, StandsLeft}
 use Rattle.salt_devices.specs.declared.devices.Devices.{Devices}
 use Rattle.salt_disk.specs.Disks.{AreUnchanged, IsUnchanged, KeepsAll, SameShape, View}
@@ -49,6 +50,7 @@ use Rattle.salt_stands.specs.Stands.{are_spent}
 use Rattle.salt_driver.specs.Counting.{CountsOpening}
 use Rattle.salt_driver.specs.Opening.{FailsToFind, IsOpenedFirst, IsUnfound, start_over}
 use Rattle.salt_storage.specs.Answers.{IsRefusal, open_disk_err_of}
+use Rattle.salt_storage.specs.Staying.{Setup}
 use Rattle.salt_storage.specs.Storing.{IsSoundKept}
 use Rattle.salt_storage.specs.Writing.{OfOpening}
 use Rattle.salt_storage.specs.declared.found.Numbers.{Numbers}
@@ -189,11 +191,14 @@ module _ (e : View) where
       EndsFound (λ room p. database_lies held left e.can_stop x room p) (LeftIn x) (λ w dev. IfEither (λ o. FillsIn e o.storage.shape w dev) (λ g. FillsIn e g.storage.shape w dev) x)
       status trace
 
+  same_shape : {was is : Setup} → was ≡ is → was.shape ≡ is.shape
+  same_shape same = ap (λ (s : Setup). s.shape) same
+
   -- whether it is closed or open there
-  pub ends-there : (x : Database Devices) (target : Shape) → by_half (λ o. o.storage.shape) (λ g. g.storage.shape) no_shape x ≡ target → (status : Status) (trace : Trace) → IsPlayed trace →
+  pub ends-there : (x : Database Devices) (target : Shape) → by_half (λ o. setup_in o.storage.shape o.storage.over_net) (λ g. setup_in g.storage.shape g.storage.over_net) no_setup x ≡ setup_in target false → (status : Status) (trace : Trace) → IsPlayed trace →
       FoundAt x status trace → EndsBehind e target status (flight_at status (database_flight x)) trace
-  ends-there (Closed o) target same status trace played f = ends-over o.storage target same o.found (opening_books o.stage) o.single o.in_flight status trace played f
-  ends-there (Open g) target same status trace played f = ends-over g.storage target same None (serving_books g.stage) g.single g.in_flight status trace played f
+  ends-there (Closed o) target same status trace played f = ends-over o.storage target (same_shape same) o.found (opening_books o.stage) o.single o.in_flight status trace played f
+  ends-there (Open g) target same status trace played f = ends-over g.storage target (same_shape same) None (serving_books g.stage) g.single g.in_flight status trace played f
   ends-there Moving target same status trace played f = absurd f.stands
 
   -- and where the sink failed behind it
@@ -220,7 +225,7 @@ module _ (d e : View) (x : Database Devices) where
     sound-start : (trace : Trace) → Tells start trace story → IsSoundKept (start_of trace).kept
     sound-start trace tells = subst (λ (k : Start). IsSoundKept k.kept) (sym tells.begins) sound
 
-    module _ (drained : (texts : List (List ℕ)) → DoTheirRests (AskInOrder texts)) (shape : Shape) (early : Bool) (is_early : start.early ≡ early) (asked : by_half (λ o. o.storage.shape) (λ g. g.storage.shape) no_shape x ≡ shape) (stood : Finds d true shape start.kept) (status : Status)
+    module _ (drained : (texts : List (List ℕ)) → DoTheirRests (AskInOrder texts)) (shape : Shape) (early : Bool) (is_early : start.early ≡ early) (asked : by_half (λ o. setup_in o.storage.shape o.storage.over_net) (λ g. setup_in g.storage.shape g.storage.over_net) no_setup x ≡ setup_in shape false) (stood : Finds d true shape start.kept) (status : Status)
         (y : (run : IsRun start status (database_flight x) s.script s.left s.before story s.now) × FoundAt e x status run.played.trace) where
       pub script-over : RunsOver (Script shape early) d e status (flight_at status (database_flight x)) s story
       script-over = record {
@@ -237,7 +242,7 @@ module _ (d e : View) (x : Database Devices) where
         ends = ends-there e x shape asked status y.0.played.trace y.0.played.tells.played y.1;
       }
 
-    module _ (calls done : ℕ) (is_early : start.early ≡ false) (drained : DoTheirRests (λ lines. IsFrontOf lines (asked_by_load calls))) (asked : by_half (λ o. o.storage.shape) (λ g. g.storage.shape) no_shape x ≡ shape_of (Load calls)) (stood : Finds d true (shape_of (Load calls)) start.kept) (old status : Status) (how : IsBehind old status)
+    module _ (calls done : ℕ) (is_early : start.early ≡ false) (drained : DoTheirRests (λ lines. IsFrontOf lines (asked_by_load calls))) (asked : by_half (λ o. setup_in o.storage.shape o.storage.over_net) (λ g. setup_in g.storage.shape g.storage.over_net) no_setup x ≡ setup_in (shape_of (Load calls)) false) (stood : Finds d true (shape_of (Load calls)) start.kept) (old status : Status) (how : IsBehind old status)
         (summed : IsSummary status (summary_text calls done story) s.before s.now) (y : (run : IsPlayedLoad start old (database_flight x) calls done story) × FoundAt e x old run.trace) where
       abbrev Loaded : Status → Type 0
       Loaded t = (r : IsPlayedLoad start t (database_flight x) calls done story) × FoundAt e x t r.trace

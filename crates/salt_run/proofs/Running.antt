@@ -22,7 +22,8 @@ use Rattle.salt_storage.specs.Staying.{StaysWithin}
 use Rattle.salt_place.specs.declared.placement.Shape.{Shape}
 use Rattle.salt_promise.specs.declared.command.Command.TheVariants.{Load, Script}
 use Rattle.salt_promise.specs.declared.command.Command.{Command}
-use Rattle.std.specs.Prelude.{Bool, Some, refl, ℕ, ◌≡◌, ◌≤◌}
+use Rattle.salt_devices.specs.Holding.{setup_in}
+use Rattle.std.specs.Prelude.{Bool, Some, false, refl, ℕ, ◌≡◌, ◌≤◌}
 
 -- STREAMS fail only where the run ends by that
 
@@ -43,7 +44,7 @@ module _ (reads : IsReader definition_in) (r : Run) (count : 26 ≤ r.before.dev
     (write_fault : r.status ≡ WriteFault → Rose r.before.sink.faults r.after.sink.faults) (no_write_fault : (r.status ≡ WriteFault → ⊥) → r.after.sink.faults ≡ r.before.sink.faults)
     (writes_later : r.before.sink.faults ≤ r.after.sink.faults)
     (downs : AreFaultsOf r.status r.before.devices.faults r.story r.after.devices.faults) (stops : AreStopsOf r.status r.before.devices.armed r.story r.after.devices.armed) where
-  counted : (command : Command) → IsCommand command → StaysWithin (shape_of command) (shape_of command) r.before.devices r.after.devices →
+  counted : (command : Command) → IsCommand command → StaysWithin (setup_in (shape_of command) false) (setup_in (shape_of command) false) r.before.devices r.after.devices →
       ((trace : Trace) → Does command r.status (streams_of r) trace → promise.Does command r trace) → Runs command r.before.devices r.after.devices r.status r.flight (streams_of r) r.story → RunsAs r command
   counted command limits within does runs = record {
     goes = goes reads r command (parts-of-command command limits) count within.shape does
@@ -56,10 +57,10 @@ module _ (reads : IsReader definition_in) (r : Run) (count : 26 ≤ r.before.dev
     others = within.others;
   }
 
-  pub script-runs : (shape : Shape) (early : Bool) → r.command ≡ Some (Script shape early) → IsCommand (Script shape early) → StaysWithin shape shape r.before.devices r.after.devices →
+  pub script-runs : (shape : Shape) (early : Bool) → r.command ≡ Some (Script shape early) → IsCommand (Script shape early) → StaysWithin (setup_in shape false) (setup_in shape false) r.before.devices r.after.devices →
       (r.status ≡ Done → IsAtEnd r.after.source.bytes) → Runs (Script shape early) r.before.devices r.after.devices r.status r.flight (streams_of r) r.story → promised.Runs r
   script-runs shape early is limits within end runs = runs_as is (counted (Script shape early) limits within (λ trace. script-does r shape early trace end) runs)
 
-  pub load-runs : (calls : ℕ) → r.command ≡ Some (Load calls) → IsCommand (Load calls) → StaysWithin (shape_of (Load calls)) (shape_of (Load calls)) r.before.devices r.after.devices →
+  pub load-runs : (calls : ℕ) → r.command ≡ Some (Load calls) → IsCommand (Load calls) → StaysWithin (setup_in (shape_of (Load calls)) false) (setup_in (shape_of (Load calls)) false) r.before.devices r.after.devices →
       r.after.source ≡ r.before.source → Runs (Load calls) r.before.devices r.after.devices r.status r.flight (streams_of r) r.story → promised.Runs r
   load-runs calls is limits within unread runs = runs_as is (counted (Load calls) limits within (λ trace. load-does r calls trace unread) runs)

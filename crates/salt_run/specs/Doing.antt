@@ -24,7 +24,7 @@ pub record DoesLines (status : Status) (script left : Option (List ℕ)) (trace 
 
 -- a run does the lines of the script, and writes its story; a load does those of the workload, and writes the summary
 abbrev pub Does : Command → Status → Streams → Trace → Type 0
-Does (Script shape early) status s trace = DoesLines status s.script s.left trace × IsTold status s.before trace s.now
+Does (Script shape early over_net) status s trace = DoesLines status s.script s.left trace × IsTold status s.before trace s.now
 Does (Load calls) status s trace = AreLoadLines status calls (lines_of trace) × IsSummed status calls trace s.before s.now
 
 abbrev pub streams : (script left before now : Option (List ℕ)) → Streams

@@ -11,11 +11,12 @@ use Rattle.salt_model.specs.Rests.{DoesItsRests}
 use Rattle.salt_model.specs.Trace.{Asked, Start, Trace, lines_of, start_of}
 use Rattle.salt_model.specs.declared.events.Event.{Event}
 use Rattle.salt_model.specs.declared.events.Flight.{Flight}
+use Rattle.salt_net.specs.declared.kinds.NetEvent.{NetEvent}
 use Rattle.salt_promise.specs.Promises.{Promises}
-use Rattle.salt_promise.specs.Runs.{AreAsBefore, IsNoRefusal, may_have_failed}
+use Rattle.salt_promise.specs.Runs.{AreAsBefore, IsNoRefusal, may_have_failed, net_left}
 use Rattle.salt_promise.specs.declared.status.Status.{Status}
 use Rattle.salt_promise.specs.declared.status.Status.TheVariants.{DeviceFull}
-use Rattle.salt_promise.specs.Given.{early_of, shape_of}
+use Rattle.salt_promise.specs.Given.{early_of, over_net_of, shape_of}
 use Rattle.salt_run.specs.Doing.{Does, Streams}
 use Rattle.salt_run.specs.Ending.{EndsBehind, IsFlightTold}
 use Rattle.salt_loop.specs.Ending.{IsStatusOf}
@@ -30,7 +31,7 @@ use Rattle.salt_storage.specs.declared.halt.Halt.TheVariants as halt
 use Rattle.salt_storage.specs.declared.open.OpenErr.TheVariants.{Halted}
 use Rattle.salt_storage.specs.declared.open.OpenErr.{OpenErr}
 use Rattle.salt_promise.specs.declared.command.Command.{Command}
-use Rattle.std.specs.Prelude.{IsTrue, List, Option, [], false, true, ℕ, ◌≡◌, ◌⊎◌}
+use Rattle.std.specs.Prelude.{IsTrue, List, None, Option, [], false, true, ℕ, ◌≡◌, ◌⊎◌}
 
 -- In each opening of a trace that is played from what may be kept, over such lines, no more statements are told than the programs that it
 -- found had left.
@@ -49,24 +50,27 @@ pub record Replays (command : Command) (status : Status) (flight : Option Flight
   pub flies : IsFlightTold status trace flight
 
 -- A run over what the devices stood for when it began, blank ones for nothing, if they tell, with numbers that are not spent; and whether
--- they can be stopped. Openings are early where the command says so, and no commit goes over messages.
-pub record RunsOver (command : Command) (old new : View) (status : Status) (flight : Option Flight) (s : Streams) (story : List Event) : Type 0 where
+-- they can be stopped. Openings are early, and commits go over messages, where the command says so; then the net is what commits have come
+-- to.
+pub record RunsOver (command : Command) (old new : View) (status : Status) (flight : Option Flight) (net : Option (List NetEvent)) (s : Streams) (story : List Event) : Type 0 where
   pub start : Start
   pub stood : Finds old true (shape_of command) start.kept
   pub sound : IsSoundKept start.kept
   pub unspent : are_spent start.kept.boot start.kept.decisions ≡ false
   pub stops : start.can_stop ≡ old.can_stop
   pub early : start.early ≡ early_of command
-  pub over_net : start.over_net ≡ false
+  pub over_net : start.over_net ≡ over_net_of command
   pub may : IsNoRefusal status
   pub replays : Replays command status flight s story start
+  pub sent : net ≡ net_left command status replays.trace
   pub drains : Always DoesItsRests replays.trace
   pub ends : EndsBehind new (shape_of command) status flight replays.trace
 
 -- Or an opening did not find what they stood for: it was refused, failed, or memory ran out. Nothing is told but stops, so that it replays
 -- from each start; what the devices stood for when it began, they stand for still; and where they were refused, nothing was written or told.
-pub record FindsNothing (command : Command) (old new : View) (status : Status) (flight : Option Flight) (s : Streams) (story : List Event) : Type 0 where
+pub record FindsNothing (command : Command) (old new : View) (status : Status) (flight : Option Flight) (net : Option (List NetEvent)) (s : Streams) (story : List Event) : Type 0 where
   pub reason : OpenErr
+  pub none : net ≡ None
   pub is : IsStatusOf reason status
   pub refused : Refuses old true (shape_of command) reason ⊎ (reason ≡ Halted halt.Memory)
   pub unfound : IsUnfound story
@@ -76,6 +80,6 @@ pub record FindsNothing (command : Command) (old new : View) (status : Status) (
   pub full : (dev : ℕ) → status ≡ DeviceFull dev → FillsIn new (shape_of command) OfOpening dev
   pub unwritten : (refusal : OpenErr) → IsRefusal refusal → Refuses old true (shape_of command) refusal → IsTrue old.told → AreAsBefore (may_have_failed status) old new × (story ≡ [])
 
-abbrev pub Runs : Command → (old new : View) → Status → Option Flight → Streams → List Event → Type 0
-Runs command old new status flight s story =
-    RunsOver command old new status flight s story ⊎ FindsNothing command old new status flight s story
+abbrev pub Runs : Command → (old new : View) → Status → Option Flight → Option (List NetEvent) → Streams → List Event → Type 0
+Runs command old new status flight net s story =
+    RunsOver command old new status flight net s story ⊎ FindsNothing command old new status flight net s story

@@ -46,6 +46,7 @@ pub fn run<S: Source, K: Sink, D: Disks, F: Fn(PlaceKind, &Key, u32) -> u32>(
       status = result.status;
       flight = result.flight;
       story = result.story;
+      net = result.net;
     }) }
     ensures untouched { result.status ≡ Status.Usage → (source.new ≡ source.old) × (sink.new ≡ sink.old) × (disks.new ≡ disks.old) }
 {
@@ -54,14 +55,19 @@ pub fn run<S: Source, K: Sink, D: Disks, F: Fn(PlaceKind, &Key, u32) -> u32>(
     openings_do_their_rests();
     definitions_are_read();
     match command_in(words) {
-        Some(Command::Script { shape, early }) => {
-            run_script(alloc, shape, early, source, sink, disks, place)
-        }
+        Some(
+            Command::Script {
+                shape,
+                early,
+                over_net,
+            },
+        ) => run_script(alloc, shape, early, over_net, source, sink, disks, place),
         Some(Command::Load(calls)) => run_load(alloc, calls, sink, disks, place),
         None => Ended {
             status: Status::Usage,
             story: Items::new(alloc),
             flight: None,
+            net: None,
         },
     }
 }

@@ -15,6 +15,7 @@ ghost use Rattle.salt_promise.specs.Doing.{IsFrontOf};
 ghost use Rattle.salt_promise.specs.Promises.{Promises};
 ghost use Rattle.salt_run.specs.Running.{DoTheirRests, Runs};
 ghost use Rattle.salt_run.specs.Summing.{IsSummary};
+ghost use Rattle.salt_devices.specs.Holding.{setup_in};
 ghost use Rattle.salt_loop.specs.Counted.{AreFaultsOf, AreStopsOf};
 ghost use Rattle.salt_loop.specs.Loading.{asked_by_load};
 ghost use Rattle.salt_loop.specs.Stopping.{outcome};
@@ -22,7 +23,7 @@ ghost use Rattle.salt_storage.specs.Staying.{StaysWithin};
 ghost use Rattle.salt_workload.specs.Summary.{summary_text};
 ghost use Rattle.salt_place.specs.Placement.{GivesPlaceOf, IsParts, TakesEachKey};
 ghost use Rattle.salt_promise.specs.declared.command.Command.TheVariants.{Load, Script};
-ghost use Rattle.std.specs.Prelude.{List, Option, ℕ, ◌≡◌, ◌≢◌, ◌≤◌, ◌⊎◌};
+ghost use Rattle.std.specs.Prelude.{List, Option, false, ℕ, ◌≡◌, ◌≢◌, ◌≤◌, ◌⊎◌};
 
 use salt_database::{Database, Opening};
 use salt_devices::Devices;
@@ -31,8 +32,10 @@ use salt_driver::{Openable, find};
 use salt_io::{Sink, Source};
 use salt_loop::{Loaded, Stop, load, serve, stop_opening, tell_unfound};
 use salt_model::{Flight, Story};
+use salt_net::Net;
 use salt_place::{PlaceKind, Placement, Shape};
 use salt_promise::{Command, Ended, Status};
+use salt_storage::Storage;
 use salt_values::Key;
 use salt_workload::print_summary;
 use sqlite_items::Items;
@@ -48,6 +51,32 @@ fn flight_at(status: Status, flight: Option<Flight>) -> Option<Flight>
     }
 }
 
+/// What a database leaves that is given up where its run ends so: the decision that was in flight, or between two lines the net that its
+/// commits have gone over, where they go over messages.
+struct Leaving {
+    flight: Option<Flight>,
+    net: Option<Net>,
+}
+
+/// Gives a database up where its run ends.
+fn leave<S: Storage + Drop, D: Disks>(
+    database: Database<S>,
+    disks: &D,
+    status: Status,
+    over_net: bool,
+) -> Leaving {
+    if over_net && status.is_between() {
+        return Leaving {
+            flight: None,
+            net: database.into_net(disks),
+        };
+    }
+    Leaving {
+        flight: flight_at(status, database.flight()),
+        net: None,
+    }
+}
+
 /// How a run ends that is done, or stops.
 fn status_behind(done: Result<(), Stop>) -> Status
     ensures { result ≡ outcome done }
@@ -59,11 +88,12 @@ fn status_behind(done: Result<(), Stop>) -> Status
 }
 
 /// Runs the script of the source over devices of this shape, and writes its story to the sink. Where it is `early`, openings end before accepted programs
-/// are finished.
+/// are finished; where it is `over_net`, commits go over messages.
 pub fn run_script<S: Source, K: Sink, D: Disks, F: Fn(PlaceKind, &Key, u32) -> u32>(
     alloc: Global,
     shape: Shape,
     early: bool,
+    over_net: bool,
     source: &mut S,
     sink: &mut K,
     disks: &mut D,
@@ -76,7 +106,7 @@ pub fn run_script<S: Source, K: Sink, D: Disks, F: Fn(PlaceKind, &Key, u32) -> u
     requires answers { GivesPlaceOf (F.post place.now.place) }
     requires promised { (trace : Trace) → IsPlayed trace → WellKept (start_of trace).kept → Promises trace }
     requires drained { (texts : List (List ℕ)) → DoTheirRests (AskInOrder texts) }
-    ensures runs { Runs (Script shape early) (D.view disks.old) (D.view disks.new) result.status result.flight
+    ensures runs { Runs (Script shape early over_net) (D.view disks.old) (D.view disks.new) result.status result.flight result.net
         (streams (S.left source.old) (S.left source.new) (K.held sink.old) (K.held sink.new)) result.story }
     ensures right { result.status ≢ Status.Usage }
     ensures done { result.status ≡ Status.Done → IsAtEnd (S.left source.new) }
@@ -87,27 +117,30 @@ pub fn run_script<S: Source, K: Sink, D: Disks, F: Fn(PlaceKind, &Key, u32) -> u
     ensures reads_later { S.faults source.old ≤ S.faults source.new }
     ensures writes_later { K.faults sink.old ≤ K.faults sink.new }
     ensures downs { AreFaultsOf result.status (D.view disks.old).faults result.story (D.view disks.new).faults }
-    ensures stops { AreStopsOf result.status (D.view disks.old).armed result.story (D.view disks.new).armed }
-    ensures within { StaysWithin shape shape (D.view disks.old) (D.view disks.new) }
+    ensures stops { over_net ≡ false → AreStopsOf result.status (D.view disks.old).armed result.story (D.view disks.new).armed }
+    ensures within { StaysWithin (setup_in shape over_net) (setup_in shape over_net) (D.view disks.old) (D.view disks.new) }
 {
     let mut story = Items::new(alloc);
-    let mut devices = Devices::new(alloc, shape);
+    let mut devices = Devices::new(alloc, shape, over_net);
     match find(&mut devices, disks, place, &mut story) {
         Ok(found) => {
             let opening = Opening::new(alloc, devices, found, early);
             let mut database = Database::Closed(opening);
             let done = serve(alloc, &mut database, disks, place, source, sink, &mut story);
             let status = status_behind(done);
+            let Leaving { flight, net } = leave(database, disks, status, over_net);
             Ended {
                 status,
                 story,
-                flight: flight_at(status, database.flight()),
+                flight,
+                net,
             }
         }
         Err(reason) => Ended {
             status: status_behind(tell_unfound(alloc, reason, sink, &story)),
             story,
             flight: None,
+            net: None,
         },
     }
 }
@@ -152,7 +185,7 @@ pub fn run_load<K: Sink, D: Disks, F: Fn(PlaceKind, &Key, u32) -> u32>(
     requires answers { GivesPlaceOf (F.post place.now.place) }
     requires promised { (trace : Trace) → IsPlayed trace → WellKept (start_of trace).kept → Promises trace }
     requires drained { DoTheirRests (λ lines. IsFrontOf lines (asked_by_load calls)) }
-    ensures runs { (left : Option (List ℕ)) → Runs (Load calls) (D.view disks.old) (D.view disks.new) result.status result.flight
+    ensures runs { (left : Option (List ℕ)) → Runs (Load calls) (D.view disks.old) (D.view disks.new) result.status result.flight result.net
         (streams left left (K.held sink.old) (K.held sink.new)) result.story }
     ensures right { result.status ≢ Status.Usage }
     ensures unread { result.status ≢ Status.ReadFault }
@@ -161,10 +194,10 @@ pub fn run_load<K: Sink, D: Disks, F: Fn(PlaceKind, &Key, u32) -> u32>(
     ensures writes_later { K.faults sink.old ≤ K.faults sink.new }
     ensures downs { AreFaultsOf result.status (D.view disks.old).faults result.story (D.view disks.new).faults }
     ensures stops { AreStopsOf result.status (D.view disks.old).armed result.story (D.view disks.new).armed }
-    ensures within { StaysWithin (shape_of (Load calls)) (shape_of (Load calls)) (D.view disks.old) (D.view disks.new) }
+    ensures within { StaysWithin (setup_in (shape_of (Load calls)) false) (setup_in (shape_of (Load calls)) false) (D.view disks.old) (D.view disks.new) }
 {
     let mut story = Items::new(alloc);
-    let mut devices = Devices::new(alloc, Command::Load(calls).shape());
+    let mut devices = Devices::new(alloc, Command::Load(calls).shape(), false);
     match find(&mut devices, disks, place, &mut story) {
         Ok(found) => {
             let opening = Opening::new(alloc, devices, found, false);
@@ -182,12 +215,14 @@ pub fn run_load<K: Sink, D: Disks, F: Fn(PlaceKind, &Key, u32) -> u32>(
                 status,
                 story,
                 flight: flight_at(status, database.flight()),
+                net: None,
             }
         }
         Err(reason) => Ended {
             status: write_summary(calls, 0, Status::from(stop_opening(reason)), sink, &story),
             story,
             flight: None,
+            net: None,
         },
     }
 }

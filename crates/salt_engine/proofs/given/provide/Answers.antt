@@ -6,7 +6,7 @@ use Rattle.salt_engine.proofs.Providing.{act-asked, act-before, act-event, act-g
 use Rattle.salt_engine.proofs.given.provide.Goals as goal
 use Rattle.salt_engine.specs.declared.given.Given.TheVariants as given
 use Rattle.salt_storage.proofs.Staying.{stays-same}
-use Rattle.std.proofs.Common.{sym, ◌∙◌}
+use Rattle.std.proofs.Common.{refl, sym, ◌∙◌}
 
 -- nothing is asked
 
@@ -216,21 +216,21 @@ returns-in_err-made-in-Branch-clause-still g c = λ is. let no = sym is ∙ c.in
 -- WHAT WAS SENT
 
 pub returns-in-Nothing-clause-sent : goal.returns-in-Nothing-clause-sent
-returns-in-Nothing-clause-sent g c = λ s h. sent-as _ _ _ c.args.coming Nothing s c.in-Nothing.is refl
+returns-in-Nothing-clause-sent g c = λ s h. sent-as (g.S.Storage.asked c.args.storage.now) _ _ c.args.coming Nothing s c.in-Nothing.is refl
 
 pub returns-in-Told-clause-sent : goal.returns-in-Told-clause-sent
 returns-in-Told-clause-sent g c = λ s k.
     let e = c.in-Told.event in
     let h = asks-as _ _ c.args.books.now c.args.coming (Told e) s c.in-Told.is k in
-    sent-as _ _ _ c.args.coming (Told e) s c.in-Told.is (plain-sent _ e s.units _ h.can.0 h.can.1 h.plain)
+    sent-as (g.S.Storage.asked c.args.storage.now) _ _ c.args.coming (Told e) s c.in-Told.is (plain-sent (g.S.Storage.asked c.args.storage.now) e s.units _ h.can.0 h.can.1 h.plain)
 
 pub returns-in_ok-rows-in-Act-clause-sent : goal.returns-in_ok-rows-in-Act-clause-sent
 returns-in_ok-rows-in-Act-clause-sent g c = λ s k.
     let x = c.args.books.now in
     let a = c.in-Act.asking in
     let h = asks-as _ _ x c.args.coming (Act a) s c.in-Act.is k in
-    sent-as _ _ _ c.args.coming (Act a) s c.in-Act.is (meant-sent _ _ _ (act-event _ _ x a s h) s (act-meant _ _ x a s h)
-    (c.in_ok-rows-in-Act.ensures.sent ∙ plain-sent _ (act-event _ _ x a s h) s.units _ refl refl refl))
+    sent-as (g.S.Storage.asked c.args.storage.now) _ _ c.args.coming (Act a) s c.in-Act.is (meant-sent (g.S.Storage.asked c.args.storage.now) _ _ (Act a) (act-event _ _ x a s h) s (act-meant _ _ x a s h)
+    (c.in_ok-rows-in-Act.ensures.sent ∙ plain-sent (g.S.Storage.asked c.args.storage.now) (act-event _ _ x a s h) s.units _ refl refl refl))
 
 pub returns-in_err-rows-in-Act-clause-sent : goal.returns-in_err-rows-in-Act-clause-sent
 returns-in_err-rows-in-Act-clause-sent g c = not-ok _ _ c.from_residual.result c.from_residual.ensures.1
@@ -240,7 +240,7 @@ returns-in_ok-made-in-Commit-clause-sent g c = λ s k.
     let x = c.args.books.now in
     let u = c.in-Commit.unit in
     let h = asks-as _ _ x c.args.coming (Commit u) s c.in-Commit.is k in
-    sent-as _ _ _ c.args.coming (Commit u) s c.in-Commit.is (meant-sent _ _ _ (commit-event _ _ x u s h) s (commit-meant _ _ x u s h)
+    sent-as (g.S.Storage.asked c.args.storage.now) _ _ c.args.coming (Commit u) s c.in-Commit.is (meant-sent (g.S.Storage.asked c.args.storage.now) _ _ (Commit u) (commit-event _ _ x u s h) s (commit-meant _ _ x u s h)
     (c.in_ok-made-in-Commit.ensures.sent s.units (commit-unit _ _ x u s h) (commit-before _ _ x u s h) (commit-named _ _ x u s h)))
 
 pub returns-in_err-made-in-Commit-clause-sent : goal.returns-in_err-made-in-Commit-clause-sent
@@ -254,7 +254,7 @@ returns-in_ok-made-in-Branch-clause-sent g c = λ s k.
     let b = arm.base in
     let cause = arm.cause in
     let h = asks-as _ _ x c.args.coming (Branch u b cause) s arm.is k in
-    sent-as _ _ _ c.args.coming (Branch u b cause) s arm.is (c.in_ok-made-in-Branch.ensures.sent s.units b cause (branch-before _ _ x u b cause s h) (branch-unit _ _ x u b cause s h))
+    sent-as (g.S.Storage.asked c.args.storage.now) _ _ c.args.coming (Branch u b cause) s arm.is (c.in_ok-made-in-Branch.ensures.sent s.units b cause (branch-before _ _ x u b cause s h) (branch-unit _ _ x u b cause s h))
 
 pub returns-in_err-made-in-Branch-clause-sent : goal.returns-in_err-made-in-Branch-clause-sent
 returns-in_err-made-in-Branch-clause-sent g c = not-ok _ _ c.from_residual-in_err-made-in-Branch.result c.from_residual-in_err-made-in-Branch.ensures.1

@@ -1,6 +1,7 @@
 use Rattle.salt_database.proofs.FindDone.{found-finds}
 use Rattle.salt_database.proofs.Lying.{opened-first}
 use Rattle.salt_database.specs.Halves.{database_flight}
+use Rattle.salt_devices.specs.Holding.{setup_in}
 use Rattle.salt_devices.specs.Standing.{StandsHeld}
 use Rattle.salt_devices.specs.declared.devices.Devices.{Devices}
 use Rattle.salt_engine.specs.Flights.{flight_of}
@@ -19,6 +20,7 @@ use Rattle.salt_loop.specs.Stopping.{outcome, status_of, status_opening}
 use Rattle.salt_stands.specs.Stands.{are_spent}
 use Rattle.salt_storage.proofs.Staying.{stays-behind}
 use Rattle.salt_promise.specs.declared.command.Command.TheVariants.{Load}
+use Rattle.salt_storage.specs.Staying.{Setup}
 use Rattle.std.proofs.Common.{ap, inl, inr, refl, subst, sym, ◌∙◌}
 use Rattle.std.specs.Prelude.{Err, None, false}
 
@@ -56,7 +58,7 @@ returns-in-Ok-clause-runs g c left =
     let asked = c.new-devices.ensures.shape ∙ c.shape.ensures in
     as-told (Load c.args.calls) d e s c.load-lines.new.story status status flies c.flight_at.result refl (c.flight_at.ensures ∙ ap (flight_at status) c.flight.ensures)
     (inl (load-over d e x c.requires.promised start f.sound ((λ i. are_spent (sym f.is.boot i) (sym f.is.decisions i)) ∙ f.unspent) c.find.ensures.within.shape.can_stop refl s c.load-lines.new.story
-    c.args.calls r.lines refl c.requires.drained (c.load-lines.ensures.within.asked ∙ (λ i. (c.new-opening.ensures.storage i).shape) ∙ c.find.ensures.within.asked ∙ asked)
+    c.args.calls r.lines refl c.requires.drained (c.load-lines.ensures.within.asked ∙ (λ i. setup_in (c.new-opening.ensures.storage i).shape (c.new-opening.ensures.storage i).over_net) ∙ c.find.ensures.within.asked ∙ (λ i. setup_in ((c.new-devices.ensures.shape ∙ c.shape.ensures) i) (c.new-devices.ensures.over_net i)))
     (found-is (Load c.args.calls) d z.started z.shape c.new-devices.ensures.started asked f.kept f.found) (outcome r.done) status
     (behind-outcome (outcome r.done) c.status_behind.result status c.status_behind.ensures c.write_summary-status.ensures.written) c.write_summary-status.ensures.summed (c.load-lines.ensures.ended start b.0 b.1)))
 
@@ -81,8 +83,8 @@ returns-in-Ok-clause-stops g c =
 pub returns-in-Ok-clause-within : goal.returns-in-Ok-clause-within
 returns-in-Ok-clause-within g c =
     let view = g.D.Disks.view in
-    stays-as c.new-devices.result.shape _ (shape_of (Load c.args.calls)) (view c.args.disks.now) (view c.load-lines.new.disks) (c.new-devices.ensures.shape ∙ c.shape.ensures)
-    (stays-behind c.find.ensures.within (stays-from (view c.find.new.disks) (view c.load-lines.new.disks) (λ i. (c.new-opening.ensures.storage i).shape) c.load-lines.ensures.within))
+    stays-as (setup_in c.new-devices.result.shape c.new-devices.result.over_net) _ (setup_in (shape_of (Load c.args.calls)) false) (view c.args.disks.now) (view c.load-lines.new.disks) (λ i. setup_in ((c.new-devices.ensures.shape ∙ c.shape.ensures) i) (c.new-devices.ensures.over_net i))
+    (stays-behind c.find.ensures.within (stays-from (view c.find.new.disks) (view c.load-lines.new.disks) (λ i. setup_in (c.new-opening.ensures.storage i).shape (c.new-opening.ensures.storage i).over_net) c.load-lines.ensures.within))
 
 -- NOTHING WAS FOUND
 
@@ -101,7 +103,7 @@ returns-in-Err-clause-runs g c left =
     let how = behind-outcome old c.from.result status (c.from.ensures ∙ ap status_of c.stop_opening.ensures.is) c.write_summary.ensures.written in
     let run : (start : Start) → IsPlayedLoad start status None c.args.calls 0 c.find.new.story = λ start. unfound-load c.args.calls old status how start c.find.new.story (unfound-loaded c.in-Err.reason c.args.calls c.find.new.story c.find.ensures.unfound c.in-Err.ensures.err.empty start) in
     as-told (Load c.args.calls) d e s c.find.new.story status status None None refl (sym (flight-none status))
-    (inr (nothing (Load c.args.calls) d z.started z.shape c.new-devices.ensures.started (c.new-devices.ensures.shape ∙ c.shape.ensures) e y.shape y.started c.find.ensures.within.asked c.in-Err.ensures.rests
+    (inr (nothing (Load c.args.calls) d z.started z.shape c.new-devices.ensures.started (c.new-devices.ensures.shape ∙ c.shape.ensures) e y.shape y.started (ap (λ (s : Setup). s.shape) c.find.ensures.within.asked) c.in-Err.ensures.rests
     c.in-Err.reason c.find.new.story c.in-Err.ensures.err c.in-Err.ensures.unwritten status (flight_at status None) s (unfound-status c.in-Err.reason old status refl how) c.find.ensures.unfound
     (λ start well. load-replays c.requires.promised c.args.calls 0 status None s c.find.new.story start well (run start) c.write_summary.ensures.summed)))
 
@@ -126,4 +128,4 @@ returns-in-Err-clause-stops g c =
 pub returns-in-Err-clause-within : goal.returns-in-Err-clause-within
 returns-in-Err-clause-within g c =
     let view = g.D.Disks.view in
-    stays-as c.new-devices.result.shape _ (shape_of (Load c.args.calls)) (view c.args.disks.now) (view c.find.new.disks) (c.new-devices.ensures.shape ∙ c.shape.ensures) c.find.ensures.within
+    stays-as (setup_in c.new-devices.result.shape c.new-devices.result.over_net) _ (setup_in (shape_of (Load c.args.calls)) false) (view c.args.disks.now) (view c.find.new.disks) (λ i. setup_in ((c.new-devices.ensures.shape ∙ c.shape.ensures) i) (c.new-devices.ensures.over_net i)) c.find.ensures.within

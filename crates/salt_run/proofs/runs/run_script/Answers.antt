@@ -1,6 +1,7 @@
 use Rattle.salt_database.proofs.FindDone.{found-finds}
 use Rattle.salt_database.proofs.Lying.{opened-first}
 use Rattle.salt_database.specs.Halves.{database_flight}
+use Rattle.salt_devices.specs.Holding.{setup_in}
 use Rattle.salt_devices.specs.Standing.{StandsHeld}
 use Rattle.salt_devices.specs.declared.devices.Devices.{Devices}
 use Rattle.salt_engine.specs.Flights.{flight_of}
@@ -15,8 +16,9 @@ use Rattle.salt_loop.specs.Stopping.{outcome}
 use Rattle.salt_stands.specs.Stands.{are_spent}
 use Rattle.salt_storage.proofs.Staying.{stays-behind}
 use Rattle.salt_promise.specs.declared.command.Command.TheVariants.{Script}
+use Rattle.salt_storage.specs.Staying.{Setup}
 use Rattle.std.proofs.Common.{ap, inl, inr, refl, subst, sym, ◌∙◌}
-use Rattle.std.specs.Prelude.{Err, None}
+use Rattle.std.specs.Prelude.{Err, None, false}
 
 pub new-opening-requires : goal.new-opening-requires
 new-opening-requires g c = let f = c.in-Ok.ensures.found in record { unspent = f.unspent; sound = (f.kept, f.is, f.sound) }
@@ -51,7 +53,7 @@ returns-in-Ok-clause-runs g c =
     as-told (Script c.args.shape c.args.early) d e s c.serve-done.new.story (outcome c.serve-done.result) status flies c.flight_at.result c.status_behind-status.ensures
     (c.flight_at.ensures ∙ ap (flight_at status) c.flight.ensures)
     (inl (script-over d e x c.requires.promised start f.sound ((λ i. are_spent (sym f.is.boot i) (sym f.is.decisions i)) ∙ f.unspent) c.find.ensures.within.shape.can_stop refl s c.serve-done.new.story
-    c.requires.drained c.args.shape c.args.early refl (c.serve-done.ensures.within.asked ∙ (λ i. (c.new-opening.ensures.storage i).shape) ∙ c.find.ensures.within.asked ∙ c.new-devices.ensures.shape)
+    c.requires.drained c.args.shape c.args.early refl (c.serve-done.ensures.within.asked ∙ (λ i. setup_in (c.new-opening.ensures.storage i).shape (c.new-opening.ensures.storage i).over_net) ∙ c.find.ensures.within.asked ∙ (λ i. setup_in (c.new-devices.ensures.shape i) (c.new-devices.ensures.over_net i)))
     (found-is (Script c.args.shape c.args.early) d z.started z.shape c.new-devices.ensures.started c.new-devices.ensures.shape f.kept f.found) (outcome c.serve-done.result) (c.serve-done.ensures.ended start b.0 b.1)))
 
 pub returns-in-Ok-clause-downs : goal.returns-in-Ok-clause-downs
@@ -69,8 +71,8 @@ returns-in-Ok-clause-stops g c =
 pub returns-in-Ok-clause-within : goal.returns-in-Ok-clause-within
 returns-in-Ok-clause-within g c =
     let view = g.D.Disks.view in
-    stays-as c.new-devices.result.shape _ c.args.shape (view c.args.disks.now) (view c.serve-done.new.disks) c.new-devices.ensures.shape
-    (stays-behind c.find.ensures.within (stays-from (view c.find.new.disks) (view c.serve-done.new.disks) (λ i. (c.new-opening.ensures.storage i).shape) c.serve-done.ensures.within))
+    stays-as (setup_in c.new-devices.result.shape c.new-devices.result.over_net) _ (setup_in c.args.shape false) (view c.args.disks.now) (view c.serve-done.new.disks) (λ i. setup_in (c.new-devices.ensures.shape i) (c.new-devices.ensures.over_net i))
+    (stays-behind c.find.ensures.within (stays-from (view c.find.new.disks) (view c.serve-done.new.disks) (λ i. setup_in (c.new-opening.ensures.storage i).shape (c.new-opening.ensures.storage i).over_net) c.serve-done.ensures.within))
 
 -- NOTHING WAS FOUND
 
@@ -90,7 +92,7 @@ returns-in-Err-clause-runs g c =
     let s = streams (g.S.Source.left c.args.source.now) (g.S.Source.left c.args.source.now) (g.K.Sink.held c.args.sink.now) (g.K.Sink.held c.tell_unfound.new.sink) in
     let now = outcome c.tell_unfound.result in
     as-told (Script c.args.shape c.args.early) d e s c.find.new.story now status None None c.status_behind.ensures (sym (flight-none status))
-    (inr (nothing (Script c.args.shape c.args.early) d z.started z.shape c.new-devices.ensures.started c.new-devices.ensures.shape e y.shape y.started c.find.ensures.within.asked c.in-Err.ensures.rests
+    (inr (nothing (Script c.args.shape c.args.early) d z.started z.shape c.new-devices.ensures.started c.new-devices.ensures.shape e y.shape y.started (ap (λ (s : Setup). s.shape) c.find.ensures.within.asked) c.in-Err.ensures.rests
     c.in-Err.reason c.find.new.story c.in-Err.ensures.err c.in-Err.ensures.unwritten now (flight_at now None) s c.tell_unfound.ensures.is c.find.ensures.unfound
     (λ start well. script-replays c.requires.promised c.args.shape c.args.early now None s c.find.new.story start well (c.tell_unfound.ensures.run start (g.S.Source.left c.args.source.now) (g.S.Source.left c.args.source.now)))))
 
@@ -111,4 +113,4 @@ returns-in-Err-clause-stops g c =
 pub returns-in-Err-clause-within : goal.returns-in-Err-clause-within
 returns-in-Err-clause-within g c =
     let view = g.D.Disks.view in
-    stays-as c.new-devices.result.shape _ c.args.shape (view c.args.disks.now) (view c.find.new.disks) c.new-devices.ensures.shape c.find.ensures.within
+    stays-as (setup_in c.new-devices.result.shape c.new-devices.result.over_net) _ (setup_in c.args.shape false) (view c.args.disks.now) (view c.find.new.disks) (λ i. setup_in (c.new-devices.ensures.shape i) (c.new-devices.ensures.over_net i)) c.find.ensures.within

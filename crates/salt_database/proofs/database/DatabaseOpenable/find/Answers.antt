@@ -1,9 +1,19 @@
 use Rattle.salt_database.proofs.Halved.{closed-lies, half-within}
 use Rattle.salt_database.proofs.database.DatabaseOpenable.find.Goals as goal
+use Rattle.std.proofs.lemmas.Result.{IfErr-weaker}
 
 pub returns-clause-again : goal.returns-clause-again
 returns-clause-again g c = λ other room p sound fallen lies.
-    c.find.ensures.again other room p sound fallen (closed-lies _ _ _ room p c.args.self.now c.in-Closed.opening c.in-Closed.is lies)
+    let l = closed-lies g.S.Storage.asked g.S.Storage.net _ _ _ room p c.args.self.now c.in-Closed.opening c.in-Closed.is lies in
+    (c.find.ensures.again other room p sound fallen l.0, c.find.ensures.begun p.state l.1)
+
+pub returns-clause-left : goal.returns-clause-left
+returns-clause-left g c = λ room p sound fallen lies.
+    c.find.ensures.left room p sound fallen (closed-lies g.S.Storage.asked g.S.Storage.net _ _ _ room p c.args.self.now c.in-Closed.opening c.in-Closed.is lies).0
+
+pub returns-clause-later : goal.returns-clause-later
+returns-clause-later g c = IfErr-weaker c.find.result _ _ (λ e later room p sound fallen lies.
+    later room p sound fallen (closed-lies g.S.Storage.asked g.S.Storage.net _ _ _ room p c.args.self.now c.in-Closed.opening c.in-Closed.is lies).0) c.find.ensures.later
 
 pub find-requires-clause-callable : goal.find-requires-clause-callable
 find-requires-clause-callable g c = c.requires.callable

@@ -1,20 +1,41 @@
 use Rattle.salt_database.proofs.Halved.{closed-lies, half-within, opens-at}
+use Rattle.salt_database.proofs.Netted.{begun-found, opens-net, unfound-lies}
+use Rattle.salt_database.proofs.OpenDone.{ok-with}
 use Rattle.salt_database.proofs.database.DatabaseOpenable.open.Goals as goal
-use Rattle.std.proofs.lemmas.Result.{IfErr-weaker, IfOk-weaker}
+use Rattle.salt_database.specs.Halves.{IfClosed}
+use Rattle.salt_database.specs.Standing.{IsFoundStage}
+use Rattle.salt_storage.specs.Netted.{net_begun}
+use Rattle.std.proofs.Common.{ap, subst, sym, ◌∙◌}
+use Rattle.std.proofs.lemmas.Result.{IfErr-weaker, on_err_weaker}
 
 pub open-requires-clause-lies : goal.open-requires-clause-lies
 open-requires-clause-lies g c =
     let l = c.requires.lies in
-    (l.0, l.1, l.2, l.3, closed-lies _ _ _ l.0 l.1 c.args.self.now c.in-Closed.opening c.in-Closed.is l.4)
+    (l.0, l.1, l.2, l.3, (closed-lies g.S.Storage.asked g.S.Storage.net _ _ _ l.0 l.1 c.args.self.now c.in-Closed.opening c.in-Closed.is l.4).0)
 
 pub returns-clause-opens : goal.returns-clause-opens
-returns-clause-opens g c = IfOk-weaker c.open.result _ _ (λ next opens room p sound fallen lies.
-    opens-at _ _ _ c.open.new.self room p c.args.story.now c.open.new.story next (opens room p sound fallen (closed-lies _ _ _ room p c.args.self.now c.in-Closed.opening c.in-Closed.is lies)))
-    c.open.ensures.opens
+returns-clause-opens g c = ok-with c.open.result _ _ _ (λ next opens sent room p sound fallen lies.
+    let o = c.in-Closed.opening in
+    let found = subst (λ x. IfClosed (λ o. IsFoundStage o.found o.stage) x) c.in-Closed.is c.requires.found in
+    let l = closed-lies g.S.Storage.asked g.S.Storage.net _ _ _ room p c.args.self.now o c.in-Closed.is lies in
+    let h = opens room p sound fallen l.0 in
+    let same = sym c.open.ensures.within.asked in
+    opens-at g.S.Storage.asked g.S.Storage.net _ _ _ c.open.new.self room p c.args.story.now c.open.new.story next h
+    (opens-net room p sound o.in_flight l.0.flies h.has next h.stands.comes (g.S.Storage.asked c.open.new.self.storage) (g.S.Storage.net c.open.new.self.storage) (l.1.over ∙ ap (λ q. q.over_net) same)
+    (sent ∙ begun-found (g.S.Storage.asked o.storage) _ o.found o.stage p.state found l.1 ∙ ap net_begun same)))
+    c.open.ensures.opens c.open.ensures.sent
 
 pub returns-clause-lies : goal.returns-clause-lies
 returns-clause-lies g c = IfErr-weaker c.open.result _ _ (λ halt again other room p sound fallen lies.
-    again other room p sound fallen (closed-lies _ _ _ room p c.args.self.now c.in-Closed.opening c.in-Closed.is lies)) c.open.ensures.lies
+    let o = c.in-Closed.opening in
+    let l = closed-lies g.S.Storage.asked g.S.Storage.net _ _ _ room p c.args.self.now o c.in-Closed.is lies in (
+      again other room p sound fallen l.0,
+      unfound-lies (g.S.Storage.asked o.storage) (g.S.Storage.asked c.open.new.self.storage) _ c.open.new.self.found p.state c.open.ensures.unfound l.1.over c.open.ensures.within.asked,
+    )) c.open.ensures.lies
+
+pub returns-clause-left : goal.returns-clause-left
+returns-clause-left g c = on_err_weaker c.open.result (λ left room p sound fallen lies.
+    left room p sound fallen (closed-lies g.S.Storage.asked g.S.Storage.net _ _ _ room p c.args.self.now c.in-Closed.opening c.in-Closed.is lies).0) c.open.ensures.left
 
 pub returns-clause-within : goal.returns-clause-within
 returns-clause-within g c = half-within _ _ _ c.args.self.now _ _ _ _ c.in-Closed.is c.open.ensures.within

@@ -5,15 +5,15 @@ use Rattle.std.proofs.lemmas.Result.{IfErr-weaker, IfOk-weaker}
 pub ask-requires-clause-stands : goal.ask-requires-clause-stands
 ask-requires-clause-stands g c =
     let s = c.requires.stands in
-    (s.0, s.1, open-idle _ _ _ c.args.self.now c.in-Open.engine s.0 c.in-Open.is s.2)
+    (s.0, s.1, open-idle g.S.Storage.asked g.S.Storage.net _ _ _ c.args.self.now c.in-Open.engine s.0 c.in-Open.is s.2)
 
 pub returns-clause-moves : goal.returns-clause-moves
 returns-clause-moves g c = IfOk-weaker c.ask.result _ _ (λ next moves p sound at.
-    let m = moves p sound (open-idle _ _ _ c.args.self.now c.in-Open.engine p c.in-Open.is at) in
-    (m.0, m.1, at-open _ _ _ c.ask.new.self c.args.line.now next m.0 m.2)) c.ask.ensures.moves
+    let m = moves p sound (open-idle g.S.Storage.asked g.S.Storage.net _ _ _ c.args.self.now c.in-Open.engine p c.in-Open.is at) in
+    (m.0, m.1, at-open g.S.Storage.asked g.S.Storage.net _ _ _ c.ask.new.self c.args.line.now next m.0 m.2)) c.ask.ensures.moves
 
 pub returns-clause-halts : goal.returns-clause-halts
-returns-clause-halts g c = IfErr-weaker c.ask.result _ _ (λ halt halts p sound at. halts p sound (open-idle _ _ _ c.args.self.now c.in-Open.engine p c.in-Open.is at)) c.ask.ensures.halts
+returns-clause-halts g c = IfErr-weaker c.ask.result _ _ (λ halt halts p sound at. halts p sound (open-idle g.S.Storage.asked g.S.Storage.net _ _ _ c.args.self.now c.in-Open.engine p c.in-Open.is at)) c.ask.ensures.halts
 
 pub ask-requires-clause-callable : goal.ask-requires-clause-callable
 ask-requires-clause-callable g c = c.requires.callable

@@ -5,12 +5,12 @@ use Rattle.std.proofs.lemmas.Result.{IfOk-weaker}
 pub say-requires-clause-stands : goal.say-requires-clause-stands
 say-requires-clause-stands g c =
     let s = c.requires.stands in
-    (s.0, s.1, open-at _ _ _ c.args.self.now c.in-Open.engine c.args.line.now _ s.0 c.in-Open.is s.2)
+    (s.0, s.1, open-at g.S.Storage.asked g.S.Storage.net _ _ _ c.args.self.now c.in-Open.engine c.args.line.now _ s.0 c.in-Open.is s.2)
 
 pub returns-clause-moves : goal.returns-clause-moves
 returns-clause-moves g c = IfOk-weaker c.say.result _ _ (λ next moves p sound at.
-    let m = moves p sound (open-at _ _ _ c.args.self.now c.in-Open.engine c.args.line.now _ p c.in-Open.is at) in
-    (m.0, m.1, at-open _ _ _ c.say.new.self c.args.line.now next m.0 m.2)) c.say.ensures.moves
+    let m = moves p sound (open-at g.S.Storage.asked g.S.Storage.net _ _ _ c.args.self.now c.in-Open.engine c.args.line.now _ p c.in-Open.is at) in
+    (m.0, m.1, at-open g.S.Storage.asked g.S.Storage.net _ _ _ c.say.new.self c.args.line.now next m.0 m.2)) c.say.ensures.moves
 
 pub say-requires-clause-callable : goal.say-requires-clause-callable
 say-requires-clause-callable g c = c.requires.callable

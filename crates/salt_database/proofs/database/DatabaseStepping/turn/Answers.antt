@@ -5,16 +5,16 @@ use Rattle.std.proofs.lemmas.Result.{IfErr-weaker, IfOk-weaker}
 pub turn-requires-clause-stands : goal.turn-requires-clause-stands
 turn-requires-clause-stands g c =
     let s = c.requires.stands in
-    (s.0, s.1, open-at _ _ _ c.args.self.now c.in-Open.engine c.args.line.now _ s.0 c.in-Open.is s.2, s.3)
+    (s.0, s.1, open-at g.S.Storage.asked g.S.Storage.net _ _ _ c.args.self.now c.in-Open.engine c.args.line.now _ s.0 c.in-Open.is s.2, s.3)
 
 pub returns-clause-moves : goal.returns-clause-moves
 returns-clause-moves g c = IfOk-weaker c.turn.result _ _ (λ next moves p sound at turn.
-    let m = moves p sound (open-at _ _ _ c.args.self.now c.in-Open.engine c.args.line.now _ p c.in-Open.is at) turn in
-    (m.0, m.1, at-open _ _ _ c.turn.new.self c.args.line.now next m.0 m.2)) c.turn.ensures.moves
+    let m = moves p sound (open-at g.S.Storage.asked g.S.Storage.net _ _ _ c.args.self.now c.in-Open.engine c.args.line.now _ p c.in-Open.is at) turn in
+    (m.0, m.1, at-open g.S.Storage.asked g.S.Storage.net _ _ _ c.turn.new.self c.args.line.now next m.0 m.2)) c.turn.ensures.moves
 
 pub returns-clause-halts : goal.returns-clause-halts
 returns-clause-halts g c =
-    IfErr-weaker c.turn.result _ _ (λ halt halts p sound at turn. halts p sound (open-at _ _ _ c.args.self.now c.in-Open.engine c.args.line.now _ p c.in-Open.is at) turn) c.turn.ensures.halts
+    IfErr-weaker c.turn.result _ _ (λ halt halts p sound at turn. halts p sound (open-at g.S.Storage.asked g.S.Storage.net _ _ _ c.args.self.now c.in-Open.engine c.args.line.now _ p c.in-Open.is at) turn) c.turn.ensures.halts
 
 pub turn-requires-clause-callable : goal.turn-requires-clause-callable
 turn-requires-clause-callable g c = c.requires.callable

@@ -38,3 +38,6 @@ returns-clause-stops g c = c.restart.ensures.stops
 
 pub returns-clause-flies : goal.returns-clause-flies
 returns-clause-flies g c = refl
+
+pub returns-clause-unfound : goal.returns-clause-unfound
+returns-clause-unfound g c = refl

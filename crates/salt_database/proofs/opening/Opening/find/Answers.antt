@@ -1,4 +1,5 @@
 use Rattle.salt_database.proofs.FindDone.{again-found, alone-there, broken-books, can-find, either-way, found-lies, left-behind, left-found, left-still, lies-still, was-found}
+use Rattle.salt_database.proofs.Netted.{looked-lies}
 use Rattle.salt_database.proofs.Spent.{may-fail-at}
 use Rattle.salt_database.proofs.opening.Opening.find.Goals as goal
 use Rattle.salt_engine.proofs.Counted.{same-cause}
@@ -98,3 +99,12 @@ returns-in-Some-clause-within g c = stays-same _ (g.D.Disks.view c.args.disks.no
 
 pub returns-in-Some-clause-flies : goal.returns-in-Some-clause-flies
 returns-in-Some-clause-flies g c = refl
+
+pub returns-in-None-clause-begun : goal.returns-in-None-clause-begun
+returns-in-None-clause-begun g c = λ s h.
+    let now = c.find_behind.new.self in
+    looked-lies c.find_behind.result (g.S.Storage.asked c.args.self.now.storage) (g.S.Storage.asked now.storage) (g.S.Storage.net now.storage) c.args.self.now.found now.found s c.in-None.is h.over
+    c.find_behind.ensures.within.asked c.find_behind.ensures.begun c.find_behind.ensures.unfound
+
+pub returns-in-Some-clause-begun : goal.returns-in-Some-clause-begun
+returns-in-Some-clause-begun g c = λ s h. h

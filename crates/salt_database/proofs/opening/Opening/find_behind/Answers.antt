@@ -54,3 +54,9 @@ reopen-requires-clause-settled g c = c.requires.settled
 
 pub reopen-requires-clause-left : goal.reopen-requires-clause-left
 reopen-requires-clause-left g c = c.requires.left
+
+pub returns-clause-begun : goal.returns-clause-begun
+returns-clause-begun g c = c.in_ok-numbers.ensures.net
+
+pub returns-in_err-numbers-clause-begun : goal.returns-in_err-numbers-clause-begun
+returns-in_err-numbers-clause-begun g c = not-ok _ _ c.from_residual.result c.from_residual.ensures.1

@@ -1,10 +1,12 @@
 use Rattle.salt_books.specs.declared.books.Books.{Books}
+use Rattle.salt_database.proofs.Netted.{goes-sent}
 use Rattle.salt_database.proofs.GoDone.{end-less, ended, ended-at, opening-less, opens-halts, opens-short, opens-there, untold-lost}
 use Rattle.salt_database.proofs.OpeningGoes.{goes-on, opened-on}
 use Rattle.salt_database.proofs.Stages.{opened-at, opens-now}
 use Rattle.salt_database.proofs.opening.Opening.go_on.Goals as goal
 use Rattle.salt_engine.proofs.Counted.{cause-lost, same-cause}
 use Rattle.salt_engine.proofs.LineAsked.{counts-same}
+use Rattle.salt_engine.proofs.Netted.{told-sent}
 use Rattle.salt_database.specs.Standing.{ServesBehind, left_in}
 use Rattle.salt_drain.specs.declared.recovery.Recovery.{Recovery}
 use Rattle.salt_engine.specs.Standing.{IsGoingStage}
@@ -46,7 +48,7 @@ returns-in_ok-scheduler-clause-moves g c = λ p sound at.
     let ends = sym c.ends_opening.ensures ∙ c.if-ends_opening.true in
     let h = opened-at _ _ _ _ _ p.state there at.state.0.seen in
     let serves = subst (λ (books : Books). ServesBehind e books (λ s. StandsForState y s)) c.into_books.ensures c.in_ok-scheduler.ensures.serves in
-    ended-at (g.S.Storage.holds now) (g.S.Storage.is_new now) _ y e p h.0 _ _ _ (ended x e p sound h.0 h.1 at.comes at.opening _ ends serves) h.2 at.state.0.can_stop at.state.0.off_net refl
+    ended-at (g.S.Storage.holds now) (g.S.Storage.is_new now) _ y e p h.0 _ _ _ (ended x e p sound h.0 h.1 at.comes at.opening _ ends serves) h.2 at.state.0.can_stop refl
     at.state.0.line refl refl
 
 pub returns-in_ok-scheduler-clause-less : goal.returns-in_ok-scheduler-clause-less
@@ -85,7 +87,7 @@ returns-in_ok-go_on_in_opening-clause-moves g c = λ p sound at.
     let h = opened-at _ _ _ _ _ p.state there at.state.0.seen in
     let d = c.in_ok-go_on_in_opening.ensures.comes h.0 (goes-on x e p sound h.0 h.1 at.comes going _ _ h.2) in
     opens-there x e p sound h.0 h.1 at.comes going _ _ _ (
-      (opened-on x e p sound h.0 h.1 at.comes going _ _ _ _ _ _ _ _ _ d at.state.0.can_stop at.state.0.off_net c.go_on_in_opening.ensures.stays.within.shape.can_stop at.state.0.line (ap (λ n. n.0) c.go_on_in_opening.ensures.stays.noted)).0,
+      (opened-on x e p sound h.0 h.1 at.comes going _ _ _ _ _ _ _ _ _ d at.state.0.can_stop c.go_on_in_opening.ensures.stays.within.shape.can_stop at.state.0.line (ap (λ n. n.0) c.go_on_in_opening.ensures.stays.noted)).0,
       (ap (λ n. n.1) c.go_on_in_opening.ensures.stays.noted) ∙ at.state.1,
     ) d.told
 
@@ -115,7 +117,7 @@ returns-in_err-go_on_in_opening-clause-halts g c =
     let going = sym c.ends_opening.ensures ∙ c.if-ends_opening.false in
     let h = opened-at _ _ _ _ _ p.state there at.state.0.seen in
     let b = c.in_err-go_on_in_opening.ensures.comes h.0 (goes-on x e p sound h.0 h.1 at.comes going _ _ h.2) in
-    opens-halts x e p sound h.0 h.1 at.comes going _ _ _ _ _ _ _ ((ap (λ n. n.1) c.go_on_in_opening.ensures.stays.noted) ∙ at.state.1) _ _ _ _ c.args.story.now c.push.new.self b at.state.0.can_stop at.state.0.off_net c.go_on_in_opening.ensures.stays.within.shape.can_stop at.state.0.line
+    opens-halts x e p sound h.0 h.1 at.comes going _ _ _ _ _ _ _ ((ap (λ n. n.1) c.go_on_in_opening.ensures.stays.noted) ∙ at.state.1) _ _ _ _ c.args.story.now c.push.new.self b at.state.0.can_stop c.go_on_in_opening.ensures.stays.within.shape.can_stop at.state.0.line
     (ap (λ n. n.0) c.go_on_in_opening.ensures.stays.noted) (c.stands.ensures.sound h.0.units.kept h.2.holding) c.in_ok-push.ensures.ok)
 
 pub returns-in_err-go_on_in_opening-clause-counts : goal.returns-in_err-go_on_in_opening-clause-counts
@@ -168,3 +170,32 @@ go_on_in_opening-requires-clause-answers g c = c.requires.answers
 
 pub go_on_in_opening-requires-clause-lost : goal.go_on_in_opening-requires-clause-lost
 go_on_in_opening-requires-clause-lost g c = c.replace.ensures.after
+
+pub returns-in_ok-scheduler-clause-sent : goal.returns-in_ok-scheduler-clause-sent
+returns-in_ok-scheduler-clause-sent g c = λ p sound at sees q moves. told-sent _ _ c.args.event p.state q.state moves.0.after sees
+
+pub returns-in_ok-go_on_in_opening-clause-sent : goal.returns-in_ok-go_on_in_opening-clause-sent
+returns-in_ok-go_on_in_opening-clause-sent g c = λ p sound at sees q moved.
+    let there = sym c.replace.ensures.value ∙ c.going-recovery.ensures in
+    let x = c.going-recovery.result in
+    let e = c.args.event in
+    let going = sym c.ends_opening.ensures ∙ c.if-ends_opening.false in
+    let h = opened-at _ _ _ _ _ p.state there at.state.0.seen in
+    let goes = goes-on x e p sound h.0 h.1 at.comes going _ _ h.2 in
+    let d = c.in_ok-go_on_in_opening.ensures.comes h.0 goes in
+    goes-sent _ _ _ _ e _ _ p q h.0 h.1.after moved c.go_on_in_opening.ensures.stays.within.asked d.told (c.in_ok-go_on_in_opening.ensures.sent h.0 goes) sees
+
+pub returns-in_ok-scheduler-clause-unfound : goal.returns-in_ok-scheduler-clause-unfound
+returns-in_ok-scheduler-clause-unfound g c = refl
+
+pub returns-in_err-scheduler-clause-unfound : goal.returns-in_err-scheduler-clause-unfound
+returns-in_err-scheduler-clause-unfound g c = refl
+
+pub returns-in_err-push-clause-unfound : goal.returns-in_err-push-clause-unfound
+returns-in_err-push-clause-unfound g c = refl
+
+pub returns-in_ok-go_on_in_opening-clause-unfound : goal.returns-in_ok-go_on_in_opening-clause-unfound
+returns-in_ok-go_on_in_opening-clause-unfound g c = ap (λ n. n.1) c.go_on_in_opening.ensures.stays.noted
+
+pub returns-in_err-go_on_in_opening-clause-unfound : goal.returns-in_err-go_on_in_opening-clause-unfound
+returns-in_err-go_on_in_opening-clause-unfound g c = ap (λ n. n.1) c.go_on_in_opening.ensures.stays.noted

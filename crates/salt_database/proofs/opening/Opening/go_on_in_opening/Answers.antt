@@ -4,7 +4,8 @@ use Rattle.salt_database.proofs.Resting.{opening-plain}
 use Rattle.salt_database.proofs.opening.Opening.go_on_in_opening.Goals as goal
 use Rattle.salt_database.specs.Performing.{MayStep}
 use Rattle.salt_engine.proofs.Counted.{cause-broken, cause-lost, same-cause}
-use Rattle.salt_engine.proofs.Outcome.{comes-lost, comes-same, not-ok, stays-same, when-opened}
+use Rattle.salt_engine.proofs.Netted.{other-sent}
+use Rattle.salt_engine.proofs.Outcome.{comes-lost, comes-same, not-ok, on-ok, stays-same, when-opened}
 use Rattle.salt_model.specs.declared.events.Event.{Event}
 use Rattle.std.proofs.Common.{Option, inl, subst, ◌∙◌}
 use Rattle.std.proofs.lemmas.Result.{IfOk-weaker, err_from_is_err_and, on_err_weaker}
@@ -80,3 +81,12 @@ returns-in_err-coming-clause-unarmed g c = not-ok _ _ c.from_residual.result c.f
 
 pub returns-in_err-coming-clause-ticks : goal.returns-in_err-coming-clause-ticks
 returns-in_err-coming-clause-ticks g c = not-ok _ _ c.from_residual.result c.from_residual.ensures.1
+
+pub returns-clause-sent : goal.returns-clause-sent
+returns-clause-sent g c = on-ok c.perform_in_opening.result _ _ (λ sent s h.
+    let b = c.in_ok-coming.ensures s h.stands (goes-recovers _ _ c.args.recovery s h) in
+    other-sent (g.S.Storage.asked c.args.self.now.storage) _ _ _ _ s b.meant
+    (sent s (goes-to-open _ _ c.args.recovery c.go_on.new.self c.in_ok-coming.coming s h (c.stands.ensures.sound s.units.kept h.stored.holding) b))) c.perform_in_opening.ensures.sent
+
+pub returns-in_err-coming-clause-sent : goal.returns-in_err-coming-clause-sent
+returns-in_err-coming-clause-sent g c = not-ok _ _ c.from_residual.result c.from_residual.ensures.1

@@ -6,7 +6,7 @@ use Rattle.salt_engine.specs.Standing.{IsBrokenStage}
 use Rattle.salt_driver.proofs.Counted.{counts-cause}
 use Rattle.salt_storage.specs.Storing.{booted}
 use Rattle.std.proofs.Common.{ap, inl, inr, refl, subst, sym, ◌∙◌}
-use Rattle.std.proofs.lemmas.Result.{IfErr-weaker, IfOk-weaker, on_err_weaker}
+use Rattle.std.proofs.lemmas.Result.{IfErr-weaker, IfOk-weaker, on_err_weaker, on_ok_weaker}
 use Rattle.std.specs.Prelude.{None, []}
 
 pub unreachable-requires : goal.unreachable-requires
@@ -50,7 +50,7 @@ returns-in-Ok-clause-opens g c = ok-with c.open_boot.result _ _ _ (λ next o tel
     opening-at p sound fallen room k _ c.in-Ok.boot f next_boot _ c.open_boot.new.self next _ _ _ _ w (
       opening-sees p sound fallen room k _ c.in-Ok.boot f next_boot _ _ _ _ _ _ _ _ next w
           (subst (λ (st : g.row.S.Denot). g.S.Storage.holds (view c.boot.new.disks) st (booted k)) same (c.in-Ok.ensures.holds k holding))
-          (λ u is. subst (λ (st : g.row.S.Denot). g.S.Storage.is_new (view c.boot.new.disks) st u) same (c.in-Ok.ensures.is_new u is)) lies.can_stop lies.off_net c.in-Ok.ensures.within.shape.can_stop lies.line
+          (λ u is. subst (λ (st : g.row.S.Denot). g.S.Storage.is_new (view c.boot.new.disks) st u) same (c.in-Ok.ensures.is_new u is)) lies.can_stop c.in-Ok.ensures.within.shape.can_stop lies.line
           c.open_boot.ensures.single,
       c.open_boot.ensures.found,
     ) tells) c.open_boot.ensures.opens c.open_boot.ensures.tells
@@ -125,3 +125,12 @@ returns-in-Err-clause-flies g c = refl
 
 pub returns-in-Err-clause-untold : goal.returns-in-Err-clause-untold
 returns-in-Err-clause-untold g c = refl
+
+pub returns-in-Ok-clause-sent : goal.returns-in-Ok-clause-sent
+returns-in-Ok-clause-sent g c = on_ok_weaker c.open_boot.result (λ tells. ap g.S.Storage.net c.open_boot.ensures.storage ∙ c.in-Ok.ensures.net) c.open_boot.ensures.tells
+
+pub returns-in-Ok-clause-unfound : goal.returns-in-Ok-clause-unfound
+returns-in-Ok-clause-unfound g c = c.open_boot.ensures.found
+
+pub returns-in-Err-clause-unfound : goal.returns-in-Err-clause-unfound
+returns-in-Err-clause-unfound g c = refl

@@ -2,7 +2,7 @@ use Rattle.salt_database.proofs.TakenUp.{opens-asks, opens-takes, taken-opens, t
 use Rattle.salt_database.proofs.opening.Opening.perform_in_opening.Goals as goal
 use Rattle.salt_engine.proofs.Broken.{broken-as}
 use Rattle.salt_engine.proofs.Counted.{cause-broken, cause-lost, cause-told}
-use Rattle.salt_engine.proofs.Outcome.{comes-broken}
+use Rattle.salt_engine.proofs.Outcome.{comes-broken, not-ok}
 use Rattle.salt_engine.proofs.Providing.{breaks-given, breaks-undone}
 use Rattle.std.proofs.Common.{inl, refl, sym, ◌∙◌}
 use Rattle.std.proofs.lemmas.Result.{err_from_is_err_and}
@@ -80,3 +80,9 @@ returns-in-Err-clause-stays g c = record { noted = refl; within = c.provide.ensu
 
 pub returns-in-Err-clause-cause : goal.returns-in-Err-clause-cause
 returns-in-Err-clause-cause g c = cause-told _ _ c.in-Err.halt c.break_off.result c.break_off.ensures.halt c.in-Err.ensures.cause
+
+pub returns-in_ok-event-in-Ok-clause-sent : goal.returns-in_ok-event-in-Ok-clause-sent
+returns-in_ok-event-in-Ok-clause-sent g c = λ s h. c.in-Ok.ensures.sent s (opens-asks _ _ c.args.recovery c.args.coming s h c.books.result.now c.books.ensures)
+
+pub returns-in_err-event-in-Ok-clause-sent : goal.returns-in_err-event-in-Ok-clause-sent
+returns-in_err-event-in-Ok-clause-sent g c = not-ok _ _ c.from_residual.result c.from_residual.ensures.1

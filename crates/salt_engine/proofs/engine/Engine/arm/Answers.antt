@@ -68,7 +68,7 @@ returns-in_err-told-clause-counts g c = counts-broken _ _ _ c.from_residual.resu
 pub returns-in-Ok-clause-sent : goal.returns-in-Ok-clause-sent
 returns-in-Ok-clause-sent g c = λ s r k.
     let h = stands-there _ _ c.in-Going.scheduler c.in-Going.is k in
-    arms-sent _ _ _ c.args.line.now c.in-Going.scheduler s h c.args.pairs.now (stops-armed _ _ _ c.args.line.now c.in-Going.scheduler s h c.args.pairs.now c.requires.line) _ _ _
+    arms-sent _ _ _ c.args.line.now c.in-Going.scheduler s h c.args.pairs.now (stops-armed _ _ _ c.args.line.now c.in-Going.scheduler s h c.args.pairs.now c.requires.line) (g.S.Storage.asked c.args.self.now.storage) _ _
     (crash-sent c.args.line.now c.args.pairs.now _ _ c.requires.line c.arm_each.ensures.net) r
 
 pub returns-in_err-told-clause-sent : goal.returns-in_err-told-clause-sent

@@ -35,7 +35,7 @@ returns-in-Ok-clause-counts g c =
 pub returns-in-Ok-clause-sent : goal.returns-in-Ok-clause-sent
 returns-in-Ok-clause-sent g c = λ s r k.
     let h = stands-there _ _ c.in-Going.scheduler c.in-Going.is k in
-    arms-sent _ _ _ c.args.line.now c.in-Going.scheduler s h c.args.pairs.now (pairs-armed _ _ _ c.args.line.now c.in-Going.scheduler s h c.args.pairs.now c.requires.line) _ _ _
+    arms-sent _ _ _ c.args.line.now c.in-Going.scheduler s h c.args.pairs.now (pairs-armed _ _ _ c.args.line.now c.in-Going.scheduler s h c.args.pairs.now c.requires.line) (g.S.Storage.asked c.args.self.now.storage) _ _
     (net-sent c.args.line.now c.args.pairs.now _ _ _ c.requires.line c.as_slice-2.ensures c.in-Ok.ensures.ok) r
 
 pub returns-in-Err-clause-comes : goal.returns-in-Err-clause-comes

@@ -93,7 +93,7 @@ returns-in-Some-clause-sent g c = λ s r k over.
     let h = stands-there _ _ c.in-Going.scheduler c.in-Going.is k in
     let t = asked_of (Tree c.args.line.now) s in
     let asks = c.in_ok-refusal.ensures s h.stands (h.can_stop ∙ sym c.can_stop.ensures) (over ∙ sym c.over_net.ensures) h.distinct in
-    other-sent _ _ _ (Some (Refused c.in-Some.refusal)) _ t (sym (is-refused _ _ _ c.args.line.now _ s h c.in-Some.refusal (sym asks.0 ∙ c.in-Some.is) r)) (refused-sent _ c.in-Some.refusal t.units _)
+    other-sent (g.S.Storage.asked c.args.self.now.storage) _ _ (Some (Refused c.in-Some.refusal)) _ t (sym (is-refused _ _ _ c.args.line.now _ s h c.in-Some.refusal (sym asks.0 ∙ c.in-Some.is) r)) (refused-sent (g.S.Storage.asked c.args.self.now.storage) c.in-Some.refusal t.units _)
 
 pub returns-in-None-clause-sent : goal.returns-in-None-clause-sent
 returns-in-None-clause-sent g c = on-ok c.begin_line.result _ _ (λ sent s r k over.
@@ -101,7 +101,7 @@ returns-in-None-clause-sent g c = on-ok c.begin_line.result _ _ (λ sent s r k o
     let t = asked_of (Tree c.args.line.now) s in
     let asks = c.in_ok-refusal.ensures s h.stands (h.can_stop ∙ sym c.can_stop.ensures) (over ∙ sym c.over_net.ensures) h.distinct in
     let none = sym asks.0 ∙ c.in-None.is in
-    other-sent _ _ _ _ _ t (sym (unrefused _ _ _ c.args.line.now _ s h none r)) (sent t r (asks-line _ _ _ c.args.line.now _ s h _ none asks.1))) c.begin_line.ensures.sent
+    other-sent (g.S.Storage.asked c.args.self.now.storage) _ _ _ _ t (sym (unrefused _ _ _ c.args.line.now _ s h none r)) (sent t r (asks-line _ _ _ c.args.line.now _ s h _ none asks.1))) c.begin_line.ensures.sent
 
 pub returns-in_err-refusal-clause-sent : goal.returns-in_err-refusal-clause-sent
 returns-in_err-refusal-clause-sent g c = not-ok _ _ c.from_residual.result c.from_residual.ensures.1

@@ -79,7 +79,7 @@ pub returns-in-Err-clause-stays : goal.returns-in-Err-clause-stays
 returns-in-Err-clause-stays g c = record { noted = refl; within = c.define.ensures.within }
 
 pub returns-in-Err-clause-counts : goal.returns-in-Err-clause-counts
-returns-in-Err-clause-counts g c = counts-broken _ _ _ (Err c.in-Err.halt) c.in-Err.halt refl c.in-Err.ensures.cause
+returns-in-Err-clause-counts g c = counts-broken c.args.line.now _ _ (Err c.in-Err.halt) c.in-Err.halt refl c.in-Err.ensures.cause
 
 pub returns-in_err-asked-clause-comes : goal.returns-in_err-asked-clause-comes
 returns-in_err-asked-clause-comes g c = λ s r k.
@@ -94,7 +94,7 @@ pub returns-in_err-asked-clause-counts : goal.returns-in_err-asked-clause-counts
 returns-in_err-asked-clause-counts g c = counts-broken _ _ _ c.from_residual.result _ c.from_residual.ensures.1 (cause-lost _ _ (same-cause (g.D.Disks.view c.args.disks.now)))
 
 pub returns-in_ok-event-in-Ok-clause-sent : goal.returns-in_ok-event-in-Ok-clause-sent
-returns-in_ok-event-in-Ok-clause-sent g c = λ s r k. c.in-Ok.ensures.net ∙ definition-sent _ c.args.line.now s (clash_by s) (items_by s r) _ c.requires.definition
+returns-in_ok-event-in-Ok-clause-sent g c = λ s r k. c.in-Ok.ensures.net ∙ definition-sent (g.S.Storage.asked c.args.self.now.storage) c.args.line.now s (clash_by s) (items_by s r) _ c.requires.definition
 
 pub returns-in_err-event-in-Ok-clause-sent : goal.returns-in_err-event-in-Ok-clause-sent
 returns-in_err-event-in-Ok-clause-sent g c = not-ok _ _ c.from_residual-in_err-event-in-Ok.result c.from_residual-in_err-event-in-Ok.ensures.1

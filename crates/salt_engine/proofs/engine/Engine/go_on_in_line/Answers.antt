@@ -77,7 +77,7 @@ pub returns-clause-sent : goal.returns-clause-sent
 returns-clause-sent g c = on-ok c.perform.result _ _ (λ sent s r k.
     let h = stands-there _ _ c.in-Going.scheduler c.in-Going.is k in
     let b = c.in_ok-coming.ensures s r h.stands h.serves in
-    other-sent _ _ _ _ _ s (b.meant ∙ followed s r _ c.in-Going.scheduler c.in-Going.is)
+    other-sent (g.S.Storage.asked c.args.self.now.storage) _ _ _ _ s (b.meant ∙ followed s r _ c.in-Going.scheduler c.in-Going.is)
     (sent s (to-serve _ _ _ _ _ s (h.played r) h.serves.phase (line-plain s r (follow_of c.in-Going.scheduler)) b h.stored))) c.perform.ensures.sent
 
 pub returns-in_err-coming-clause-sent : goal.returns-in_err-coming-clause-sent

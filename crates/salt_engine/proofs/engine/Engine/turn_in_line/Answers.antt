@@ -81,7 +81,7 @@ returns-clause-sent g c = on-ok c.perform.result _ _ (λ sent s r k.
     let h = stands-there _ _ c.in-Going.scheduler c.in-Going.is k in
     let t = turned_to c.args.base s in
     let b = c.in_ok-coming.ensures s r h.turns in
-    other-sent _ _ _ _ _ t b.meant
+    other-sent (g.S.Storage.asked c.args.self.now.storage) _ _ _ _ t b.meant
     (sent t (to-serve _ _ _ _ _ t (h.played r) h.turns.serves.phase (go-plain t.units (clash_by t) c.args.base) b (record { holding = h.stored.holding; new = h.stored.new })))) c.perform.ensures.sent
 
 pub returns-in_err-coming-clause-sent : goal.returns-in_err-coming-clause-sent

@@ -1,3 +1,4 @@
+use Rattle.law_states.specs.Points.{Ask}
 use Rattle.law_states.specs.States.{asked_of}
 use Rattle.salt_engine.proofs.Netted.{asked-over, halts-there, lies-net, next-sent}
 use Rattle.salt_engine.proofs.AskDone.{asked-halts, asked-there, reads-here, to-ask}
@@ -47,7 +48,7 @@ returns-in-Err-clause-halts g c = λ p sound at.
     let b = broken-out _ _ c.in-Err.halt c.break_by.result _ _ _ _ _ c.break_by.ensures.halt c.break_by.ensures.broken
     (c.in-Err.ensures.comes p.state r (to-ask _ _ _ _ _ _ c.args.line.now p sound at.idle c.requires.served c.read_lines_are_spelled.ensures.keys at.state.0) at.state.1.over) in
     let kept = c.stands.ensures.sound p.state.units.kept (held-now _ _ _ p.state at.state.0.seen) in
-    inr (halts-there _ _ _ _ _ _ (λ q moves. lies-net _ _ _ (asked-over (Tree c.args.line.now) p q moves ∙ at.state.1.over) c.ask_line.ensures.stays.within.asked) (asked-halts _ _ _ c.break_by.result _ _ _ _ _ p sound at.state.0.can_stop c.ask_line.ensures.stays.within.shape.can_stop kept (Tree c.args.line.now) at.idle r b (c.ask_line.ensures.stays.noted ∙ c.is_statement_line-self.ensures)))
+    inr (halts-there _ _ _ _ _ _ p (Ask (Tree c.args.line.now)) (λ q moves. lies-net _ _ _ (asked-over (Tree c.args.line.now) p q moves ∙ at.state.1.over) c.ask_line.ensures.stays.within.asked) (asked-halts _ _ _ c.break_by.result _ _ _ _ _ p sound at.state.0.can_stop c.ask_line.ensures.stays.within.shape.can_stop kept (Tree c.args.line.now) at.idle r b (c.ask_line.ensures.stays.noted ∙ c.is_statement_line-self.ensures)))
 
 pub returns-in-Err-clause-within : goal.returns-in-Err-clause-within
 returns-in-Err-clause-within g c = c.ask_line.ensures.stays.within

@@ -34,7 +34,7 @@ returns-in-Ok-clause-moves g c = λ p sound at.
     (flies-none c.args.self.now.in_flight p.state.units at.state.0.flies) in
     asked-there _ _ asked p sound at.idle r _ (
       asked-at asked p sound at.idle holds is_new _ _ _ (Going c.reject.new.scheduler) _ _ r d at.state.0.can_stop refl refl,
-      next-sent _ _ _ _ _ _ p.state (asked_of asked p.state) refl refl refl d.told (refused-sent _ c.args.refusal (asked_of asked p.state).units _) at.state.1,
+      next-sent _ _ _ _ _ _ p.state (asked_of asked p.state) refl refl refl d.told (refused-sent (g.S.Storage.asked c.args.self.now.storage) c.args.refusal (asked_of asked p.state).units _) at.state.1,
     ) d.told
 
 pub returns-in-Ok-clause-counts : goal.returns-in-Ok-clause-counts

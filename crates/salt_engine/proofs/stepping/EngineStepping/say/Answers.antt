@@ -41,7 +41,7 @@ returns-in-Ok-go_on_in_line-clause-moves g c = λ p sound at.
     said-there line x e p sound t i.done at.comes at.serves at.line _ _ c.in-Ok-go_on_in_line.next (
       said-sees line x e p sound t i.done at.comes at.serves at.line _ _ _ _ _ _ _ _ c.in-Ok-go_on_in_line.next d at.state.0.can_stop c.go_on_in_line.ensures.stays.within.shape.can_stop at.state.0.line c.go_on_in_line.ensures.stays.noted,
       next-sent _ _ _ _ _ _ t t refl refl c.go_on_in_line.ensures.stays.within.asked d.told
-          (said-sent line x e p sound t i.done at.comes at.serves at.line _ _ _ _ i.there (c.in-Ok-go_on_in_line.ensures.sent t (read line x e p sound t i.done at.comes at.serves at.line) (said-goes line x e p sound t i.done at.comes at.serves at.line _ _ _ i.there i.stored)))
+          (said-sent line x e p sound t i.done at.comes at.serves at.line (g.S.Storage.asked c.args.self.now.storage) _ _ _ i.there (c.in-Ok-go_on_in_line.ensures.sent t (read line x e p sound t i.done at.comes at.serves at.line) (said-goes line x e p sound t i.done at.comes at.serves at.line _ _ _ i.there i.stored)))
           (told-sent _ _ e p.state t i.done.after at.state.1),
     ) d.told
 

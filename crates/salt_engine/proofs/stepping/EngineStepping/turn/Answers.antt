@@ -1,3 +1,4 @@
+use Rattle.law_states.specs.Points.{Turn}
 use Rattle.law_states.specs.States.{turned_to}
 use Rattle.salt_engine.proofs.Netted.{halts-there, lies-net, next-sent, turned-over}
 use Rattle.salt_engine.proofs.AskDone.{reads-here, to-turn, turned-fewer, turned-halts, turned-sees, turned-there}
@@ -56,7 +57,7 @@ returns-in-Err-clause-halts g c = λ p sound at turn.
     let b = broken-out _ _ c.in-Err.halt c.break_by.result _ _ _ _ _ c.break_by.ensures.halt c.break_by.ensures.broken
     (c.in-Err.ensures.comes p.state r (to-turn _ _ c.args.self.now.stage c.args.line.now c.args.base p sound at.serves at.line at.comes turn at.state.0.seen)) in
     let kept = c.stands.ensures.sound p.state.units.kept (held-now _ _ _ p.state at.state.0.seen) in
-    inr (halts-there _ _ _ _ _ _ (λ q moves. lies-net _ _ _ (turned-over c.args.base p q moves ∙ at.state.1.over) c.turn_in_line.ensures.stays.within.asked) (turned-halts _ _ _ c.break_by.result _ _ _ _ _ p sound at.state.0.can_stop c.turn_in_line.ensures.stays.within.shape.can_stop kept c.args.base at.serves at.comes turn r b (c.turn_in_line.ensures.stays.noted ∙ at.state.0.line)))
+    inr (halts-there _ _ _ _ _ _ p (Turn c.args.base) (λ q moves. lies-net _ _ _ (turned-over c.args.base p q moves ∙ at.state.1.over) c.turn_in_line.ensures.stays.within.asked) (turned-halts _ _ _ c.break_by.result _ _ _ _ _ p sound at.state.0.can_stop c.turn_in_line.ensures.stays.within.shape.can_stop kept c.args.base at.serves at.comes turn r b (c.turn_in_line.ensures.stays.noted ∙ at.state.0.line)))
 
 pub returns-in-Err-clause-counts : goal.returns-in-Err-clause-counts
 returns-in-Err-clause-counts g c = counts-cause _ _ _ [] refl (cause-told _ _ c.in-Err.halt c.break_by.result c.break_by.ensures.halt c.in-Err.ensures.cause)

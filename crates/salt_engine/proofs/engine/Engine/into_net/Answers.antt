@@ -1,5 +1,5 @@
 use Rattle.salt_engine.proofs.Stages.{held-now}
-use Rattle.salt_engine.proofs.stepping.Engine.into_net.Goals as goal
+use Rattle.salt_engine.proofs.engine.Engine.into_net.Goals as goal
 use Rattle.std.proofs.Common.{ap, ◌∙◌}
 use Rattle.std.specs.Prelude.{option_map}
 
