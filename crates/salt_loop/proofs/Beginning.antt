@@ -5,7 +5,9 @@ use Rattle.salt_io.specs.Streams.{Gains, GainsShort, bytes_before}
 use Rattle.salt_ast.specs.declared.trees.TableDef.{TableDef}
 use Rattle.law_states.specs.Points.{Point}
 use Rattle.law_states.specs.States.{State}
+use Rattle.salt_disk.specs.Disks.{View}
 use Rattle.salt_model.specs.After.{kept}
+use Rattle.salt_model.specs.Arming.{armed_by_lines}
 use Rattle.salt_model.specs.Ends.{MayLeave, flight_told, is_serving}
 use Rattle.salt_model.specs.EventTexts.{story_text}
 use Rattle.salt_model.specs.Everywhere.{Each}
@@ -22,17 +24,23 @@ use Rattle.salt_model.specs.declared.events.Event.TheVariants.{Down}
 use Rattle.salt_model.specs.declared.events.Event.{Event}
 use Rattle.salt_model.specs.declared.events.Flight.{Flight}
 use Rattle.salt_model.specs.declared.events.Why.TheVariants.{Stopped}
+use Rattle.salt_promise.specs.Counting.{Stops}
 use Rattle.salt_promise.specs.Doing.{AreFirstLines, GainsFrom, story_before_line, text_under}
+use Rattle.salt_promise.specs.Status.{ends_between}
+use Rattle.salt_promise.specs.declared.status.Status.TheVariants.{WriteFault}
+use Rattle.salt_loop.proofs.Armed.{ends-unwritten, opening-ends, opening-stays, stops-are}
 use Rattle.salt_loop.proofs.Leaving.{at-devices, leaves-later, leaves-unwritten, unwritten-leaves}
 use Rattle.salt_loop.proofs.Stories.{text-append}
 use Rattle.salt_loop.proofs.Texts.{gains-under, memory-status, of-later, tables-lying, tables-serving}
+use Rattle.salt_loop.specs.Armed.{EndsArmed}
 use Rattle.salt_loop.specs.Ending.{EndsFound, EndsOpening, EndsServing, IsStatusOf, LeavesAt}
 use Rattle.salt_loop.specs.Run.{AreLinesOf, IsFlightAt, IsRun, IsWritten, leave_of}
 use Rattle.salt_loop.specs.Serving.{EndsWriting, GainsAtEnd, IsAt, IsBegun, IsServing}
-use Rattle.salt_loop.specs.Stopping.{IsLaterStop, IsOfDevices, outcome, status_of, status_opening, stop_opening}
+use Rattle.salt_loop.specs.Stopping.{IsLaterStop, IsOfDevices, answer_of, outcome, status_of, status_opening, stop_opening}
 use Rattle.salt_loop.specs.declared.stop.Stop.TheVariants as stop
 use Rattle.salt_loop.specs.declared.stop.Stop.{Stop}
 use Rattle.salt_stands.specs.Unspent.{OpensUnspent}
+use Rattle.salt_driver.specs.Counting.{CountsOpening}
 use Rattle.salt_driver.specs.Opening.{IsUnfound, fallen_often}
 use Rattle.salt_driver.specs.Reopening.{Reopens}
 use Rattle.salt_driver.specs.Standing.{IsIdleAt, IsSoundPoint}
@@ -171,12 +179,19 @@ early-run s early flies start trace story script rest before held tells unasked 
   refl,
 )
 
-pub early-ends : (lies : ℕ → Point → Type 0) (left : Option Numbers → ℕ → Point → Type 0) (fills : ToWrite → ℕ → Type 0) (flies : Option Flight) (s : Stop) → IsEarly s → (start : Start) (trace : Trace) (story : List Event)
+early-between : (s : Stop) → IsEarly s → ends_between (status_of s) ≡ true → ⊥
+early-between stop.ReadFault (inl of) is = of
+early-between stop.ReadFault (inr e) is = cc
+early-between stop.ScriptTooLong (inl of) is = of
+early-between stop.ScriptTooLong (inr e) is = cc
+early-between s early is = cc
+
+pub early-ends : {E : Type 0} (sees : E → Option Event → State → Type 0) (lies : ℕ → Point → Type 0) (left : Option Numbers → ℕ → Point → Type 0) (fills : ToWrite → ℕ → Type 0) (flies : Option Flight) (s : Stop) → IsEarly s → (start : Start) (trace : Trace) (e : E) (story : List Event)
     (script rest before held : Option (List ℕ)) → LeavesAt lies left fills flies (status_of s) start trace story → trace_words.lines_of trace ≡ [] → GainsAtEnd s before (text_under trace story) held →
-    EndsServing lies left fills flies start (status_of s) script rest before story held
-early-ends lies left fills flies s early start trace story script rest before held x unasked gained =
+    (first armed : List (ℕ × ℕ)) → Stops (status_of s) (armed_by_lines first trace) armed → EndsServing sees lies left fills flies start (status_of s) script rest before e story held first armed
+early-ends sees lies left fills flies s early start trace e story script rest before held x unasked gained first armed stops =
     let r = early-run s early flies start trace story script rest before held x.tells unasked x.leaves x.flies x.fits.unspent gained in
-    (r.0, subst (EndsFound lies left fills (status_of s)) (sym r.1) x.ends)
+    (r.0, subst (EndsFound lies left fills (status_of s)) (sym r.1) x.ends, subst (λ (t : Trace). Stops (status_of s) (armed_by_lines first t) armed) (sym r.1) stops, λ between. absurd (early-between s early between))
 
 -- WHAT IS TOLD OF THE BEGINNING
 
@@ -269,57 +284,66 @@ module _ {E : Type 0} (sees : E → Option Event → State → Type 0) (lies : �
     (forgets : (numbers : Numbers) (room : ℕ) (p : Point) → left (Some numbers) room p → left None room p)
     (schema : List TableDef) (serving : (p : Point) → IsSoundPoint p → sees new None p.state → schema ≡ schema_of p.state.units.kept)
     (lying : (room : ℕ) (p : Point) → IsSoundPoint p → lies room p → schema ≡ schema_of p.state.units.kept)
-    (story told : List Event) (before held : Option (List ℕ)) (start : Start) (trace : Trace) (unasked : trace_words.lines_of trace ≡ []) where
+    (story told : List Event) (before held : Option (List ℕ)) (start : Start) (trace : Trace) (unasked : trace_words.lines_of trace ≡ []) (a b : View) where
   abbrev Ends : Stop → Type 0
-  Ends s = (script rest : Option (List ℕ)) → EndsServing lies left fills flies start (status_of s) script rest before told held
+  Ends s = (script rest : Option (List ℕ)) (first : List (ℕ × ℕ)) → armed_by_lines first trace ≡ Some a.armed →
+      EndsServing sees lies left fills flies start (status_of s) script rest before new told held first b.armed
 
-  pub begun-ok : (d r : Result (Unit {0}) Stop) → OnOk d (Reopens sees start trace story new told) → EndsWriting d (story_text schema told) before held r →
-      OnOk r (IsBegun sees start new told before held)
-  begun-ok d (Err s) b w = tt
-  begun-ok d (Ok x) b w =
-      let opened = subst (λ (y : Result (Unit {0}) Stop). OnOk y (Reopens sees start trace story new told)) w.0 b in
+  abbrev Counts : Result (Unit {0}) Stop → Type 0
+  Counts d = CountsOpening a b (answer_of (outcome d)) story told
+
+  pub begun-ok : (d r : Result (Unit {0}) Stop) → OnOk d (Reopens sees start trace story new told) → Counts d → EndsWriting d (story_text schema told) before held r →
+      OnOk r ((first : List (ℕ × ℕ)) → armed_by_lines first trace ≡ Some a.armed → IsBegun sees start new told before held first b.armed)
+  begun-ok d (Err s) reopens counts w = tt
+  begun-ok d (Ok x) reopens counts w = λ first is.
+      let opened = subst (λ (y : Result (Unit {0}) Stop). OnOk y (Reopens sees start trace story new told)) w.0 reopens in
       record {
         trace = opened.after;
+        arms = opening-stays a b story told (subst Counts w.0 counts) trace opened.after opened.grows opened.along.armed first is;
         lines = opened.lines ∙ unasked;
         serves = opened.serves;
         written = subst (λ (ts : List TableDef). Gains before (story_text ts told) held) (tables-serving sees lies left fills flies new schema serving lying start opened.after told opened.serves) w.1;
       }
 
-  opened-unwritten : Reopens sees start trace story new told → GainsShort before (story_text schema told) held → Ends stop.WriteFault
-  opened-unwritten b short script rest =
-      early-ends lies left fills flies stop.WriteFault (inr refl) start b.after told script rest before held
-      (unwritten-leaves sees lies left fills flies new idle flown leaves start b.after told b.serves) (b.lines ∙ unasked)
-      (subst (λ (ts : List TableDef). GainsShort before (story_text ts told) held) (tables-serving sees lies left fills flies new schema serving lying start b.after told b.serves) short)
+  opened-unwritten : Reopens sees start trace story new told → CountsOpening a b None story told → GainsShort before (story_text schema told) held → Ends stop.WriteFault
+  opened-unwritten o counts short script rest first is =
+      early-ends sees lies left fills flies stop.WriteFault (inr refl) start o.after new told script rest before held
+      (unwritten-leaves sees lies left fills flies new idle flown leaves start o.after told o.serves) (o.lines ∙ unasked)
+      (subst (λ (ts : List TableDef). GainsShort before (story_text ts told) held) (tables-serving sees lies left fills flies new schema serving lying start o.after told o.serves) short)
+      first b.armed (stops-are WriteFault b.armed b.armed (opening-stays a b story told counts trace o.after o.grows o.along.armed first is) (λ some. refl))
 
-  module _ (e : Stop) (later : IsLaterStop e) (x : EndsOpening lies left fills flies e start trace told) where
+  module _ (e : Stop) (later : IsLaterStop e) (x : EndsOpening lies left fills flies e start trace story told) (counts : CountsOpening a b (answer_of (status_of e)) story told) where
+    armed-last : EndsArmed (status_of e) trace x.after a.armed b.armed
+    armed-last = opening-ends a b (status_of e) story told counts trace x.after x.grows x.along.armed
+
     tables : (e ≡ stop.Memory → ⊥) → (told-text : List Event) → story_text schema told-text ≡ text_under x.after told-text
     tables some es = ap (λ ts. story_text ts es) (tables-lying sees lies left fills flies new schema serving lying start x.after told (status_of e) x.ends (λ m. some (memory-status e m)))
 
     pub broken-ends : GainsAtEnd e before (story_text schema told) held → Ends e
-    broken-ends gained script rest =
-        early-ends lies left fills flies e (inl (of-later e later)) start x.after told script rest before held x.ends (x.lines ∙ unasked)
-        (gains-under e before held _ _ (λ some. tables some told) gained)
+    broken-ends gained script rest first is =
+        early-ends sees lies left fills flies e (inl (of-later e later)) start x.after new told script rest before held x.ends (x.lines ∙ unasked)
+        (gains-under e before held _ _ (λ some. tables some told) gained) first b.armed (armed-last first is)
 
     pub broken-unwritten : (e ≡ stop.Memory → ⊥) → GainsShort before (story_text schema told) held → Ends stop.WriteFault
-    broken-unwritten some short script rest =
-        early-ends lies left fills flies stop.WriteFault (inr refl) start x.after told script rest before held (leaves-unwritten lies left fills flies forgets start x.after told e later some x.ends) (x.lines ∙ unasked)
-        (subst (λ t. GainsShort before t held) (tables some told) short)
+    broken-unwritten some short script rest first is =
+        early-ends sees lies left fills flies stop.WriteFault (inr refl) start x.after new told script rest before held (leaves-unwritten lies left fills flies forgets start x.after told e later some x.ends) (x.lines ∙ unasked)
+        (subst (λ t. GainsShort before t held) (tables some told) short) first b.armed (ends-unwritten (status_of e) (λ m. some (memory-status e m)) (armed-last first is))
 
-  pub begun-err : (d r : Result (Unit {0}) Stop) → OnOk d (Reopens sees start trace story new told) → IfErr d (λ e. EndsOpening lies left fills flies e start trace told) → IfErr d IsLaterStop →
+  pub begun-err : (d r : Result (Unit {0}) Stop) → OnOk d (Reopens sees start trace story new told) → IfErr d (λ e. EndsOpening lies left fills flies e start trace story told) → IfErr d IsLaterStop → Counts d →
       EndsWriting d (story_text schema told) before held r → IfErr r Ends
-  begun-err d (Ok x) b f of w = tt
-  begun-err d (Err s) b f of w = by w.0
+  begun-err d (Ok x) reopens f of counts w = tt
+  begun-err d (Err s) reopens f of counts w = by w.0
     where
-      short : (y : Result (Unit {0}) Stop) → (y ≡ Err stop.Memory → ⊥) → OnOk y (Reopens sees start trace story new told) → IfErr y (λ e. EndsOpening lies left fills flies e start trace told) →
-          IfErr y IsLaterStop → GainsShort before (story_text schema told) held → Ends stop.WriteFault
-      short (Ok x) some c g o h = opened-unwritten c h
-      short (Err e) some c g o h = broken-unwritten e o g (λ m. some (ap Err m)) h
+      short : (y : Result (Unit {0}) Stop) → (y ≡ Err stop.Memory → ⊥) → OnOk y (Reopens sees start trace story new told) → IfErr y (λ e. EndsOpening lies left fills flies e start trace story told) →
+          IfErr y IsLaterStop → Counts y → GainsShort before (story_text schema told) held → Ends stop.WriteFault
+      short (Ok x) some c g o n h = opened-unwritten c n h
+      short (Err e) some c g o n h = broken-unwritten e o g n (λ m. some (ap Err m)) h
 
       by : (d ≡ Err s) ⊎ ((s ≡ stop.WriteFault) × (d ≡ Err stop.Memory → ⊥)) → Ends s
       by (inl is) =
           broken-ends s (subst (λ (y : Result (Unit {0}) Stop). IfErr y IsLaterStop) is of)
-          (subst (λ (y : Result (Unit {0}) Stop). IfErr y (λ e. EndsOpening lies left fills flies e start trace told)) is f) w.1
-      by (inr u) = subst Ends (sym u.0) (short d u.1 b f of (subst (λ (x : Stop). GainsAtEnd x before (story_text schema told) held) u.0 w.1))
+          (subst (λ (y : Result (Unit {0}) Stop). IfErr y (λ e. EndsOpening lies left fills flies e start trace story told)) is f) (subst Counts is counts) w.1
+      by (inr u) = subst Ends (sym u.0) (short d u.1 reopens f of counts (subst (λ (x : Stop). GainsAtEnd x before (story_text schema told) held) u.0 w.1))
 
 pub never-read : (d r : Result (Unit {0}) Stop) (before held : Option (List ℕ)) (text : List ℕ) → IfErr d IsOfDevices → EndsWriting d text before held r → r ≡ Err stop.ReadFault → ⊥
 never-read d (Ok x) before held text of w is = cc
@@ -345,11 +369,12 @@ no-lines (Some script) = record { given = []; whole = refl; counted = refl; line
 unended : false ≡ true → ⊥
 unended e = cc
 
-pub serving-begun : {E : Type 0} (sees : E → Option Event → State → Type 0) (start : Start) (e : E) (reading : ScriptReading) (left before held : Option (List ℕ)) (story : List Event) →
-    IsBegun sees start e story before held → reading ≡ unread → IsServing sees start left before e reading left story held
-serving-begun sees start e reading left before held story b is =
-    subst (λ (r : ScriptReading). IsServing sees start left before e r left story held) (sym is) (record {
+pub serving-begun : {E : Type 0} (sees : E → Option Event → State → Type 0) (start : Start) (e : E) (reading : ScriptReading) (left before held : Option (List ℕ)) (story : List Event) (first armed : List (ℕ × ℕ)) →
+    IsBegun sees start e story before held first armed → reading ≡ unread → IsServing sees start left before e reading left story held first armed
+serving-begun sees start e reading left before held story first armed b is =
+    subst (λ (r : ScriptReading). IsServing sees start left before e r left story held first armed) (sym is) (record {
       trace = b.trace;
+      arms = b.arms;
       texts = [];
       serves = b.serves;
       reads = subst (AskInOrder []) (sym b.lines) tt;

@@ -1,37 +1,58 @@
 -- A line goes on behind a fall, or a run ends there.
 use Rattle.law_states.specs.Points.{Point}
 use Rattle.law_states.specs.States.{State}
-use Rattle.salt_model.specs.Trace.{Asked, Start, Trace, lines_of}
+use Rattle.salt_ast.specs.declared.lines.Line.{Line}
+use Rattle.salt_disk.specs.Disks.{View}
+use Rattle.salt_model.specs.Trace.{Asked, Start, Trace, line_asked, lines_of}
 use Rattle.salt_model.specs.declared.events.Event.{Event}
 use Rattle.salt_model.specs.declared.events.Flight.{Flight}
+use Rattle.salt_promise.specs.declared.status.Status.TheVariants.{Done}
+use Rattle.salt_loop.proofs.Armed.{ends-resumed, line-halts, line-stays, stays-resumed}
 use Rattle.salt_loop.proofs.Leaving.{idle-halts}
+use Rattle.salt_loop.specs.Counted.{CountsResumed}
+use Rattle.salt_loop.specs.Stopping.{IsLaterStop, outcome, status_of}
 use Rattle.salt_loop.specs.Serving.{AsksMore, BreaksIn, Continues, EndsBehind, EndsIn, TextAsks}
 use Rattle.salt_loop.specs.declared.stop.Stop.TheVariants as stop
 use Rattle.salt_loop.specs.declared.stop.Stop.{Stop}
+use Rattle.salt_driver.specs.Counting.{CountsMore}
 use Rattle.salt_driver.specs.Reopening.{Reopens}
 use Rattle.salt_driver.specs.Serving.{Breaks, Goes, Grows, Serves}
 use Rattle.salt_driver.specs.Standing.{IsIdleAt, IsSoundPoint}
 use Rattle.salt_storage.specs.Writing.{ToWrite}
+use Rattle.salt_storage.specs.Answers.{disk_err, disk_err_of}
 use Rattle.salt_storage.specs.declared.halt.Halt.TheVariants.{Memory}
 use Rattle.salt_storage.specs.declared.halt.Halt.{Halt}
 use Rattle.std.proofs.Common.{ap, append-nil, append_assoc, inl, inr, sym, ◌∙◌}
 use Rattle.salt_storage.specs.declared.found.Numbers.{Numbers}
-use Rattle.std.specs.Prelude.{Err, List, None, Ok, Option, Result, [], refl, ℕ, ◌++◌, ◌∷◌, ◌≡◌, ◌⊎◌}
+use Rattle.std.specs.Prelude.{Err, List, None, Ok, Option, Result, Some, [], refl, ℕ, ◌+◌, ◌++◌, ◌∷◌, ◌≡◌, ◌⊎◌}
 use Rattle.std.specs.Result.{IfErr, OnOk}
 
-grown : (story mid told : List Event) → Grows story mid → Grows mid told → Grows story told
-grown story mid told a b = (a.0 ++ b.0, b.1 ∙ ap (λ es. es ++ b.0) a.1 ∙ append_assoc story a.0 b.0)
+grown : (story mid told : List Event) → (a : Grows story mid) → (b : Grows mid told) → told ≡ story ++ (a.0 ++ b.0)
+grown story mid told a b = b.1 ∙ ap (λ es. es ++ b.0) a.1 ∙ append_assoc story a.0 b.0
 
 asks-still : (text : Option (List ℕ)) (trace mid after : Trace) → lines_of after ≡ lines_of mid → AsksMore text trace mid → AsksMore text trace after
 asks-still text trace mid after same a = (a.0, a.1, same ∙ a.2)
 
 pub continues-by : {E : Type 0} (sees : E → Option Event → State → Type 0) (start : Start) (trace : Trace) (text : Option (List ℕ)) (asked : Asked) (story : List Event) (e : E) (told : List Event) →
-    TextAsks text asked → Goes sees start trace asked story e told → Continues sees start trace text story e told
-continues-by sees start trace text asked story e told asks g = record { after = g.after; asks = (asked, asks, g.asks); serves = g.serves; grows = g.grows }
+    (a b : View) → TextAsks text asked → CountsMore (line_asked asked) a b None None story told → Goes sees start trace asked story e told → Continues sees start trace text story e told a.armed b.armed
+continues-by sees start trace text asked story e told a b asks counts g = record {
+  after = g.after;
+  asks = (asked, asks, g.asks);
+  serves = g.serves;
+  grows = g.grows;
+  armed = line-stays (line_asked asked) a b story told trace g.after g.grows g.armed counts;
+}
 
 pub breaks-by : (lies left : Point → Type 0) (fills : ToWrite → ℕ → Type 0) (flies : Option Flight) (halt : Halt) (start : Start) (trace : Trace) (text : Option (List ℕ)) (asked : Asked) (story told : List Event) →
-    TextAsks text asked → Breaks lies left fills flies halt start trace asked story told → BreaksIn lies left fills flies halt start trace text story told
-breaks-by lies left fills flies halt start trace text asked story told asks b = record { after = b.after; asks = by b.asks; halts = b.halts; grows = b.grows }
+    (a c : View) → TextAsks text asked → CountsMore (line_asked asked) a c (Some (disk_err_of halt)) None story told → Breaks lies left fills flies halt start trace asked story told →
+    BreaksIn lies left fills flies halt start trace text story told a.armed c.armed
+breaks-by lies left fills flies halt start trace text asked story told a c asks counts b = record {
+  after = b.after;
+  asks = by b.asks;
+  halts = b.halts;
+  grows = b.grows;
+  armed = line-halts (line_asked asked) a c story told trace b.after b.grows b.armed (disk_err_of halt) counts;
+}
   where
     by : (lines_of b.after ≡ lines_of trace ++ asked ∷ []) ⊎ ((halt ≡ Memory) × (b.after ≡ trace)) → AsksMore text trace b.after ⊎ ((halt ≡ Memory) × (b.after ≡ trace))
     by (inl more) = inl (asked, asks, more)
@@ -40,39 +61,67 @@ breaks-by lies left fills flies halt start trace text asked story told asks b = 
 -- memory ran out before the line was read
 pub breaks-unread : {E : Type 0} (sees : E → Option Event → State → Type 0) (lies : ℕ → Point → Type 0) (left : Option Numbers → ℕ → Point → Type 0) (fills : ToWrite → ℕ → Type 0) (flies : Option Flight) (e : E) →
     ((p : Point) → IsSoundPoint p → IsIdleAt sees e p → lies 0 p) → ((p : Point) → IsSoundPoint p → IsIdleAt sees e p → flies ≡ None) →
-    ((room : ℕ) (p : Point) → lies room p → left None room p) → (start : Start) (trace : Trace) (text : Option (List ℕ)) (story : List Event) → Serves sees start e story trace →
-    BreaksIn (lies 0) (left None 0) fills flies Memory start trace text story story
-breaks-unread sees lies left fills flies e idle flown leaves start trace text story s = record {
+    ((room : ℕ) (p : Point) → lies room p → left None room p) → (start : Start) (trace : Trace) (text : Option (List ℕ)) (story : List Event) → (armed : List (ℕ × ℕ)) → Serves sees start e story trace →
+    BreaksIn (lies 0) (left None 0) fills flies Memory start trace text story story armed armed
+breaks-unread sees lies left fills flies e idle flown leaves start trace text story armed s = record {
   after = trace;
   asks = inr (refl, refl);
   halts = idle-halts sees lies left fills flies e idle flown leaves start trace story s;
   grows = ([], sym (append-nil story));
+  armed = λ first is. (armed, is, λ some. absurd (some refl));
 }
 
 module _ (old_lies old_left : Point → Type 0) (old_fills : ToWrite → ℕ → Type 0) (old_flies : Option Flight) (halt : Halt) (start : Start) (trace : Trace) (text : Option (List ℕ))
-    (story mid told : List Event) (b : BreaksIn old_lies old_left old_fills old_flies halt start trace text story mid) where
-  pub continues-behind : {E : Type 0} (sees : E → Option Event → State → Type 0) (e : E) → (halt ≡ Memory → ⊥) → Reopens sees start b.after mid e told → Continues sees start trace text story e told
-  continues-behind sees e some r = record { after = r.after; asks = by b.asks; serves = r.serves; grows = grown story mid told b.grows r.grows }
+    (story mid told : List Event) (a b c : View) (br : BreaksIn old_lies old_left old_fills old_flies halt start trace text story mid a.armed b.armed) where
+  pub continues-behind : {E : Type 0} (sees : E → Option Event → State → Type 0) (e : E) → (halt ≡ Memory → ⊥) → CountsResumed halt b c Done mid told → Reopens sees start br.after mid e told →
+      Continues sees start trace text story e told a.armed c.armed
+  continues-behind sees e some h r = record {
+    after = r.after;
+    asks = by br.asks;
+    serves = r.serves;
+    grows = (br.grows.0 ++ r.grows.0, grown story mid told br.grows r.grows);
+    armed = stays-resumed trace br.after mid told a b c r.after r.grows r.along.armed halt br.armed h;
+  }
     where
-      by : AsksMore text trace b.after ⊎ ((halt ≡ Memory) × (b.after ≡ trace)) → AsksMore text trace r.after
-      by (inl more) = asks-still text trace b.after r.after r.lines more
+      by : AsksMore text trace br.after ⊎ ((halt ≡ Memory) × (br.after ≡ trace)) → AsksMore text trace r.after
+      by (inl more) = asks-still text trace br.after r.after r.lines more
       by (inr m) = absurd (some m.0)
 
-  pub ends-behind : (lies : ℕ → Point → Type 0) (left : Option Numbers → ℕ → Point → Type 0) (fills : ToWrite → ℕ → Type 0) (flies : Option Flight) (s : Stop) → EndsBehind lies left fills flies halt s start b.after mid told →
-      EndsIn lies left fills flies s start trace text story told
-  ends-behind lies left fills flies s x = record { after = x.after; asks = by b.asks; ends = x.ends; grows = grown story mid told b.grows x.grows }
+  pub ends-behind : (lies : ℕ → Point → Type 0) (left : Option Numbers → ℕ → Point → Type 0) (fills : ToWrite → ℕ → Type 0) (flies : Option Flight) (s : Stop) → CountsResumed halt b c (status_of s) mid told →
+      EndsBehind lies left fills flies halt s start br.after mid told → EndsIn lies left fills flies s start trace text story told a.armed c.armed
+  ends-behind lies left fills flies s h x = record {
+    after = x.after;
+    asks = by br.asks;
+    ends = x.ends;
+    grows = (br.grows.0 ++ x.grows.0, grown story mid told br.grows x.grows);
+    armed = ends-resumed trace br.after mid told a b c x.after x.grows x.along.armed halt br.armed (status_of s) h;
+  }
     where
-      by : AsksMore text trace b.after ⊎ ((halt ≡ Memory) × (b.after ≡ trace)) → AsksMore text trace x.after ⊎ ((s ≡ stop.Memory) × (x.after ≡ trace))
-      by (inl more) = inl (asks-still text trace b.after x.after x.lines more)
+      by : AsksMore text trace br.after ⊎ ((halt ≡ Memory) × (br.after ≡ trace)) → AsksMore text trace x.after ⊎ ((s ≡ stop.Memory) × (x.after ≡ trace))
+      by (inl more) = inl (asks-still text trace br.after x.after x.lines more)
       by (inr m) = let y = x.short m.0 in inr (y.0, y.1 ∙ m.1)
-
-pub on-ok-both : {A B : Type 0} {P M Q : Type 0} (r : Result A B) → OnOk r P → (M → OnOk r ⊥) → (P → (M → ⊥) → Q) → OnOk r Q
-on-ok-both (Ok x) p m f = f p m
-on-ok-both (Err e) p m f = tt
-
-pub IfErr-both : {A B : Type 0} (r : Result A B) (P Q S : B → Type 0) → ((e : B) → P e → Q e → S e) → IfErr r P → IfErr r Q → IfErr r S
-IfErr-both (Ok x) P Q S f p q = tt
-IfErr-both (Err e) P Q S f p q = f e p q
 
 pub halted-else : (a : Halt) → (a ≡ Memory → ⊥) → (h : Halt) → h ≡ a → h ≡ Memory → ⊥
 halted-else a other h is m = other (sym is ∙ m)
+
+-- by what a line's call counts, where it is done, and where it is broken off
+pub ok-counted : {A P Q : Type 0} (line : Line) (a b : View) (story told : List Event) (r : Result A Halt) → (P → CountsMore line a b None None story told → Q) → OnOk r P →
+    CountsMore line a b (disk_err r) None story told → OnOk r Q
+ok-counted line a b story told (Ok x) f p c = f p c
+ok-counted line a b story told (Err e) f p c = tt
+
+pub err-counted : {A : Type 0} (line : Line) (a b : View) (story told : List Event) (r : Result A Halt) (P Q : Halt → Type 0) →
+    ((h : Halt) → P h → CountsMore line a b (Some (disk_err_of h)) None story told → Q h) → IfErr r P → CountsMore line a b (disk_err r) None story told → IfErr r Q
+err-counted line a b story told (Ok x) P Q f p c = tt
+err-counted line a b story told (Err e) P Q f p c = f e p c
+
+-- and by what follows a halt
+pub ok-resumed : {P M Q : Type 0} (h : Halt) (a b : View) (story told : List Event) (r : Result (Unit {0}) Stop) → (P → (M → ⊥) → CountsResumed h a b Done story told → Q) → OnOk r P → (M → OnOk r ⊥) →
+    CountsResumed h a b (outcome r) story told → OnOk r Q
+ok-resumed h a b story told (Ok x) f p m c = f p m c
+ok-resumed h a b story told (Err e) f p m c = tt
+
+pub err-resumed : (h : Halt) (a b : View) (story told : List Event) (r : Result (Unit {0}) Stop) (P Q : Stop → Type 0) → ((s : Stop) → P s → IsLaterStop s → CountsResumed h a b (status_of s) story told → Q s) →
+    IfErr r P → IfErr r IsLaterStop → CountsResumed h a b (outcome r) story told → IfErr r Q
+err-resumed h a b story told (Ok x) P Q f p later c = tt
+err-resumed h a b story told (Err e) P Q f p later c = f e p later c

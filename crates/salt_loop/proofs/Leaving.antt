@@ -186,11 +186,11 @@ module _ (lies : ℕ → Point → Type 0) (left : Option Numbers → ℕ → Po
       by (inl n) = not-begun n
       by (inr w) = within w
 
-  pub ends-early : EndsOpening lies left fills flies (stop_opening e) start trace told
-  ends-early = record { after = b.after; lines = b.lines; ends = leaves-opening }
+  pub ends-early : EndsOpening lies left fills flies (stop_opening e) start trace story told
+  ends-early = record { after = b.after; lines = b.lines; ends = leaves-opening; grows = b.grows; along = b.along }
 
   pub ends-opening : (h : Halt) → (h ≡ halt.Memory → ⊥) → EndsBehind lies left fills flies h (stop_opening e) start trace story told
-  ends-opening h some = record { after = b.after; lines = b.lines; short = λ m. absurd (some m); ends = leaves-opening; grows = b.grows }
+  ends-opening h some = record { after = b.after; lines = b.lines; short = λ m. absurd (some m); ends = leaves-opening; grows = b.grows; along = b.along }
 
 -- A LINE
 
@@ -229,6 +229,7 @@ module _ (lies : ℕ → Point → Type 0) (left : Option Numbers → ℕ → Po
       };
     };
     grows = ([], sym (append-nil story));
+    along = record { line = refl; armed = λ first. refl };
   }
     where
       never : halt.DeviceFull dev ≡ halt.Memory → ⊥
@@ -274,6 +275,7 @@ module _ (lies : ℕ → Point → Type 0) (left : Option Numbers → ℕ → Po
       };
     };
     grows = ([], sym (append-nil story));
+    along = record { line = refl; armed = λ first. refl };
   }
     where
       never : (d : ℕ) → Memory ≡ DeviceFull d → ⊥

@@ -3,6 +3,7 @@ pub mod Extends
 pub mod Stories
 pub mod Askable
 pub mod Leaving
+pub mod Armed
 pub mod Counts
 pub mod Texts
 pub mod Told

@@ -3,24 +3,30 @@ use Rattle.salt_ast.specs.Sample.{transfer}
 use Rattle.salt_ast.specs.declared.lines.Line.{Line}
 use Rattle.law_states.specs.Points.{Point}
 use Rattle.law_states.specs.States.{State}
+use Rattle.salt_disk.specs.Disks.{View}
 use Rattle.salt_promise.specs.Workload.{account_def, balance, behind, behind_eighth, behind_fiftieth, call_lines, calls, closing, deposit, load_lines, opening, turn}
+use Rattle.salt_model.specs.Arming.{armed_by_lines}
 use Rattle.salt_model.specs.Printable.{IsSpelledProgram, IsSpelledTable}
 use Rattle.salt_model.specs.Trace.{Asked, Start, Trace, Tree, lines_of}
 use Rattle.salt_model.specs.Words.{Every}
 use Rattle.salt_model.specs.declared.events.Event.{Event}
 use Rattle.salt_model.specs.declared.events.Flight.{Flight}
+use Rattle.salt_promise.specs.Counting.{Stops}
 use Rattle.salt_promise.specs.Doing.{IsFrontOf}
 use Rattle.salt_promise.specs.declared.status.Status.{Status}
 use Rattle.salt_promise.specs.declared.status.Status.TheVariants as status
+use Rattle.salt_loop.proofs.Armed.{opening-ends, opening-stays, stops-are}
 use Rattle.salt_loop.proofs.Beginning.{of-reason, often-asked, often-tells, often-unspent, unfound-flies, unfound-leaves}
 use Rattle.salt_loop.proofs.Leaving.{done-leaves, short-leaves}
 use Rattle.salt_loop.proofs.Texts.{of-later}
+use Rattle.salt_loop.specs.Armed.{EndsArmed, StaysArmed}
 use Rattle.salt_loop.specs.Ending.{EndsOpening, LeavesAt}
 use Rattle.salt_loop.specs.Loading.{AreLoadLines, EndsLoading, IsLoading, IsPlayedLoad, asked_by_load}
 use Rattle.salt_loop.specs.Serving.{EndsBehind, IsAskable}
-use Rattle.salt_loop.specs.Stopping.{IsLaterStop, IsOfDevices, status_of, stop_opening}
+use Rattle.salt_loop.specs.Stopping.{IsLaterStop, IsOfDevices, answer_of, status_of, stop_opening}
 use Rattle.salt_loop.specs.declared.stop.Stop.TheVariants as stop
 use Rattle.salt_loop.specs.declared.stop.Stop.{Stop}
+use Rattle.salt_driver.specs.Counting.{CountsOpening}
 use Rattle.salt_driver.specs.Opening.{IsUnfound, fallen_often}
 use Rattle.salt_driver.specs.Reopening.{Reopens}
 use Rattle.salt_driver.specs.Serving.{Breaks, Goes}
@@ -146,9 +152,9 @@ early-load-lines stop.ScriptTooLong of n lines none = absurd of
 
 loads-at : (lies : ℕ → Point → Type 0) (left : Option Numbers → ℕ → Point → Type 0) (fills : ToWrite → ℕ → Type 0) (flies : Option Flight) (ends : Status) (start : Start) (trace : Trace) (story : List Event) (n done : ℕ) →
     LeavesAt lies left fills flies ends start trace story → AreLoadLines ends n (lines_of trace) → ((ends ≡ status.Memory → ⊥) → length (lines_of trace) ≡ done) →
-    EndsLoading lies left fills flies start ends n done story
-loads-at lies left fills flies ends start trace story n done x lines count =
-    (record { trace = trace; tells = x.tells; lines = lines; count = count; leaves = x.leaves; flies = x.flies; unspent = x.fits.unspent }, x.ends)
+    (first armed : List (ℕ × ℕ)) → Stops ends (armed_by_lines first trace) armed → EndsLoading lies left fills flies start ends n done story first armed
+loads-at lies left fills flies ends start trace story n done x lines count first armed stops =
+    (record { trace = trace; tells = x.tells; lines = lines; count = count; leaves = x.leaves; flies = x.flies; unspent = x.fits.unspent }, x.ends, stops)
 
 -- so many lines are as many
 
@@ -158,45 +164,48 @@ length-asked [] (suc i) h = absurd (omega (arith, h))
 length-asked (x ∷ xs) zero h = refl
 length-asked (x ∷ xs) (suc i) h = let e = length-asked xs i (omega (arith, h)) in omega arith
 
-module _ {E : Type 0} (old_sees : E → Option Event → State → Type 0) (start : Start) (n i : ℕ) (old : E) (story : List Event) (loading : IsLoading old_sees start n i old story) where
+module _ {E : Type 0} (old_sees : E → Option Event → State → Type 0) (start : Start) (n i : ℕ) (old : E) (story : List Event) (first armed : List (ℕ × ℕ)) (loading : IsLoading old_sees start n i old story first armed) where
   module _ (lies : ℕ → Point → Type 0) (left : Option Numbers → ℕ → Point → Type 0) (fills : ToWrite → ℕ → Type 0) (flies : Option Flight) (idle : (p : Point) → IsSoundPoint p → IsIdleAt old_sees old p → lies 0 p)
       (flown : (p : Point) → IsSoundPoint p → IsIdleAt old_sees old p → flies ≡ None) (leaves : (room : ℕ) (p : Point) → lies room p → left None room p) where
     -- memory ran out between lines
-    pub short-loading : (done : ℕ) → EndsLoading lies left fills flies start status.Memory n done story
+    pub short-loading : (done : ℕ) → EndsLoading lies left fills flies start status.Memory n done story first armed
     short-loading done =
         loads-at lies left fills flies status.Memory start loading.trace story n done (short-leaves old_sees lies left fills flies old idle flown leaves start loading.trace story loading.serves)
-        (front-lines n i (lines_of loading.trace) loading.lines) (λ some. absurd (some refl))
+        (front-lines n i (lines_of loading.trace) loading.lines) (λ some. absurd (some refl)) first armed (stops-are status.Memory armed armed loading.arms (λ some. refl))
 
     -- all lines are done
-    pub all-loaded : length (load_lines n) ≤ i → (done : ℕ) → done ≡ length (load_lines n) → EndsLoading lies left fills flies start status.Done n done story
+    pub all-loaded : length (load_lines n) ≤ i → (done : ℕ) → done ≡ length (load_lines n) → EndsLoading lies left fills flies start status.Done n done story first armed
     all-loaded past done all =
         let whole = take_all i (load_lines n) past in
         let here : lines_of loading.trace ≡ map Tree (load_lines n) = loading.lines ∙ ap (map Tree) whole in
         loads-at lies left fills flies status.Done start loading.trace story n done (done-leaves old_sees lies left fills flies old idle flown leaves start loading.trace story loading.serves)
         here
         (λ some. ap length (here ∙ sym (ap (map Tree) (take_all (length (load_lines n)) (load_lines n) (omega arith)))) ∙ length-asked (load_lines n) (length (load_lines n)) (omega arith) ∙ sym all)
+        first armed (stops-are status.Done armed armed loading.arms (λ some. refl))
 
   module _ (line : Line) (within : i < length (load_lines n)) (is : Some line ≡ slice_get (load_lines n) i) where
     asked-here : (after : Trace) → lines_of after ≡ lines_of loading.trace ++ Tree line ∷ [] → lines_of after ≡ map Tree (take (i + 1) (load_lines n))
     asked-here after lines = lines ∙ ap (λ ls. ls ++ Tree line ∷ []) loading.lines ∙ sym (asked-more n i line within is)
 
-    pub line-loaded : {F : Type 0} (sees : F → Option Event → State → Type 0) (new : F) (told : List Event) → Goes sees start loading.trace (Tree line) story new told → IsLoading sees start n (i + 1) new told
-    line-loaded sees new told g = record { trace = g.after; serves = g.serves; lines = asked-here g.after g.asks }
+    pub line-loaded : {F : Type 0} (sees : F → Option Event → State → Type 0) (new : F) (told : List Event) (armed_after : List (ℕ × ℕ)) → (g : Goes sees start loading.trace (Tree line) story new told) →
+        StaysArmed loading.trace g.after armed armed_after → IsLoading sees start n (i + 1) new told first armed_after
+    line-loaded sees new told armed_after g stays = record { trace = g.after; arms = stays first loading.arms; serves = g.serves; lines = asked-here g.after g.asks }
 
     module _ (old_lies old_left : Point → Type 0) (old_fills : ToWrite → ℕ → Type 0) (old_flies : Option Flight) (halt : Halt) (mid told : List Event)
-        (b : Breaks old_lies old_left old_fills old_flies halt start loading.trace (Tree line) story mid) where
-      pub loaded-behind : {F : Type 0} (sees : F → Option Event → State → Type 0) (new : F) → (halt ≡ Memory → ⊥) → Reopens sees start b.after mid new told → IsLoading sees start n (i + 1) new told
-      loaded-behind sees new some r = record { trace = r.after; serves = r.serves; lines = r.lines ∙ by b.asks }
+        (b : Breaks old_lies old_left old_fills old_flies halt start loading.trace (Tree line) story mid) (armed_after : List (ℕ × ℕ)) where
+      pub loaded-behind : {F : Type 0} (sees : F → Option Event → State → Type 0) (new : F) → (halt ≡ Memory → ⊥) → (r : Reopens sees start b.after mid new told) → StaysArmed loading.trace r.after armed armed_after →
+          IsLoading sees start n (i + 1) new told first armed_after
+      loaded-behind sees new some r stays = record { trace = r.after; arms = stays first loading.arms; serves = r.serves; lines = r.lines ∙ by b.asks }
         where
           by : (lines_of b.after ≡ lines_of loading.trace ++ Tree line ∷ []) ⊎ ((halt ≡ Memory) × (b.after ≡ loading.trace)) → lines_of b.after ≡ map Tree (take (i + 1) (load_lines n))
           by (inl more) = asked-here b.after more
           by (inr m) = absurd (some m.0)
 
-      pub ends-loading : (lies : ℕ → Point → Type 0) (left : Option Numbers → ℕ → Point → Type 0) (fills : ToWrite → ℕ → Type 0) (flies : Option Flight) (s : Stop) → IsLaterStop s → EndsBehind lies left fills flies halt s start b.after mid told →
-          EndsLoading lies left fills flies start (status_of s) n (i + 1) told
-      ends-loading lies left fills flies s later x =
+      pub ends-loading : (lies : ℕ → Point → Type 0) (left : Option Numbers → ℕ → Point → Type 0) (fills : ToWrite → ℕ → Type 0) (flies : Option Flight) (s : Stop) → IsLaterStop s → (x : EndsBehind lies left fills flies halt s start b.after mid told) →
+          EndsArmed (status_of s) loading.trace x.after armed armed_after → EndsLoading lies left fills flies start (status_of s) n (i + 1) told first armed_after
+      ends-loading lies left fills flies s later x stops =
           loads-at lies left fills flies (status_of s) start x.after told n (i + 1) x.ends (lines-behind s later n (lines_of x.after) (subst (λ ls. IsFrontOf ls (asked_by_load n)) (sym x.lines) (by b.asks)))
-          (λ some. ap length x.lines ∙ many some b.asks)
+          (λ some. ap length x.lines ∙ many some b.asks) first armed_after (stops first loading.arms)
         where
           many : (status_of s ≡ status.Memory → ⊥) → (lines_of b.after ≡ lines_of loading.trace ++ Tree line ∷ []) ⊎ ((halt ≡ Memory) × (b.after ≡ loading.trace)) → length (lines_of b.after) ≡ i + 1
           many some (inl more) = ap length (asked-here b.after more) ∙ length-asked (load_lines n) (i + 1) (omega (arith, within))
@@ -212,16 +221,18 @@ take-none : (xs : List Line) → take 0 xs ≡ []
 take-none [] = refl
 take-none (x ∷ xs) = refl
 
-pub loading-begun : {E : Type 0} (sees : E → Option Event → State → Type 0) (n : ℕ) (start : Start) (trace : Trace) (e : E) (story told : List Event) → lines_of trace ≡ [] →
-    Reopens sees start trace story e told → IsLoading sees start n 0 e told
-loading-begun sees n start trace e story told unasked b =
-    record { trace = b.after; serves = b.serves; lines = b.lines ∙ unasked ∙ sym (ap (map Tree) (take-none (load_lines n))) }
+pub loading-begun : {E : Type 0} (sees : E → Option Event → State → Type 0) (n : ℕ) (start : Start) (trace : Trace) (e : E) (story told : List Event) (a b : View) → lines_of trace ≡ [] →
+    CountsOpening a b None story told → Reopens sees start trace story e told → (first : List (ℕ × ℕ)) → armed_by_lines first trace ≡ Some a.armed → IsLoading sees start n 0 e told first b.armed
+loading-begun sees n start trace e story told a b unasked counts r first is =
+    record { trace = r.after; arms = opening-stays a b story told counts trace r.after r.grows r.along.armed first is; serves = r.serves; lines = r.lines ∙ unasked ∙ sym (ap (map Tree) (take-none (load_lines n))) }
 
-pub not-begun : (lies : ℕ → Point → Type 0) (left : Option Numbers → ℕ → Point → Type 0) (fills : ToWrite → ℕ → Type 0) (flies : Option Flight) (n : ℕ) (start : Start) (trace : Trace) (told : List Event) (e : Stop) → IsLaterStop e →
-    lines_of trace ≡ [] → EndsOpening lies left fills flies e start trace told → EndsLoading lies left fills flies start (status_of e) n 0 told
-not-begun lies left fills flies n start trace told e later unasked x =
+pub not-begun : (lies : ℕ → Point → Type 0) (left : Option Numbers → ℕ → Point → Type 0) (fills : ToWrite → ℕ → Type 0) (flies : Option Flight) (n : ℕ) (start : Start) (trace : Trace) (story told : List Event) (a b : View) (e : Stop) → IsLaterStop e →
+    lines_of trace ≡ [] → CountsOpening a b (answer_of (status_of e)) story told → EndsOpening lies left fills flies e start trace story told →
+    (first : List (ℕ × ℕ)) → armed_by_lines first trace ≡ Some a.armed → EndsLoading lies left fills flies start (status_of e) n 0 told first b.armed
+not-begun lies left fills flies n start trace story told a b e later unasked counts x first is =
     let none = x.lines ∙ unasked in
     loads-at lies left fills flies (status_of e) start x.after told n 0 x.ends (early-load-lines e (of-later e later) n (lines_of x.after) none) (λ some. ap length none)
+    first b.armed (opening-ends a b (status_of e) story told counts trace x.after x.grows x.along.armed first is)
 
 -- nothing was found
 pub unfound-loaded : (reason : OpenErr) (n : ℕ) (story : List Event) → IsUnfound story → (story ≡ []) ⊎ IsLater reason → (start : Start) → IsPlayedLoad start (status_of (stop_opening reason)) None n 0 story

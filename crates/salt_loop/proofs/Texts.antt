@@ -11,6 +11,7 @@ use Rattle.salt_model.specs.declared.events.Event.{Event}
 use Rattle.salt_model.specs.declared.events.Flight.{Flight}
 use Rattle.salt_promise.specs.declared.status.Status.{Status}
 use Rattle.salt_promise.specs.declared.status.Status.TheVariants as status
+use Rattle.salt_loop.proofs.Armed.{ends-unwritten, stops-are}
 use Rattle.salt_loop.proofs.Leaving.{leaves-unwritten}
 use Rattle.salt_loop.specs.Ending.{LeavesAt}
 use Rattle.salt_loop.specs.Serving.{Continues, EndsIn, EndsTelling, EndsWriting, GainsAtEnd, IsToldLine, added_text}
@@ -157,15 +158,15 @@ module _ {E : Type 0} (sees : E → Option Event → State → Type 0) (lies : �
       let p = x.ends.point in
       lying x.ends.room p (sound-at start trace p x.tells.begins x.tells.played x.fits x.ends.keeps) (x.ends.again some) ∙ sym (ap schema_of x.ends.keeps.state.units.kept)
 
-  module _ (start : Start) (trace : Trace) (text : Option (List ℕ)) (story told events : List Event) (before held : Option (List ℕ)) (are : events ≡ drop (length story) told) where
+  module _ (start : Start) (trace : Trace) (text : Option (List ℕ)) (story told events : List Event) (before held : Option (List ℕ)) (are : events ≡ drop (length story) told) (old_armed new_armed : List (ℕ × ℕ)) where
     text-is : (after : Trace) → schema ≡ schema_of (kept after) → story_text schema events ≡ added_text after story told
     text-is after same = ap (story_text schema) are ∙ ap (λ ts. story_text ts (drop (length story) told)) same
 
-    pub line-told : Continues sees start trace text story new told → Gains before (story_text schema events) held → IsToldLine sees start trace text story new told before held
+    pub line-told : Continues sees start trace text story new told old_armed new_armed → Gains before (story_text schema events) held → IsToldLine sees start trace text story new told before held old_armed new_armed
     line-told c g = record { goes = c; written = subst (λ t. Gains before t held) (text-is c.after (tables-serving start c.after told c.serves)) g }
 
-    pub line-ended : (s : Stop) → EndsIn lies left fills flies s start trace text story told → GainsAtEnd s before (story_text schema events) held →
-        EndsTelling lies left fills flies s start trace text story told before held
+    pub line-ended : (s : Stop) → EndsIn lies left fills flies s start trace text story told old_armed new_armed → GainsAtEnd s before (story_text schema events) held →
+        EndsTelling lies left fills flies s start trace text story told before held old_armed new_armed
     line-ended s x g = record {
       ends = x;
       written = gains-under s before held (story_text schema events) (added_text x.after story told)
@@ -173,18 +174,18 @@ module _ {E : Type 0} (sees : E → Option Event → State → Type 0) (lies : �
     }
 
     -- the sink failed behind a line that was done
-    pub line-unwritten : (c : Continues sees start trace text story new told) → LeavesAt lies left fills flies status.WriteFault start c.after told → GainsShort before (story_text schema events) held →
-        EndsTelling lies left fills flies WriteFault start trace text story told before held
+    pub line-unwritten : (c : Continues sees start trace text story new told old_armed new_armed) → LeavesAt lies left fills flies status.WriteFault start c.after told → GainsShort before (story_text schema events) held →
+        EndsTelling lies left fills flies WriteFault start trace text story told before held old_armed new_armed
     line-unwritten c x g = record {
-      ends = record { after = c.after; asks = inl c.asks; ends = x; grows = c.grows };
+      ends = record { after = c.after; asks = inl c.asks; ends = x; grows = c.grows; armed = λ first is. stops-are status.WriteFault new_armed new_armed (c.armed first is) (λ some. refl) };
       written = subst (λ t. GainsShort before t held) (text-is c.after (tables-serving start c.after told c.serves)) g;
     }
 
     -- or behind one in which the run ends
-    pub end-unwritten : ((numbers : Numbers) (room : ℕ) (p : Point) → left (Some numbers) room p → left None room p) → (s : Stop) → IsLaterStop s → (s ≡ Memory → ⊥) → EndsIn lies left fills flies s start trace text story told → GainsShort before (story_text schema events) held →
-        EndsTelling lies left fills flies WriteFault start trace text story told before held
+    pub end-unwritten : ((numbers : Numbers) (room : ℕ) (p : Point) → left (Some numbers) room p → left None room p) → (s : Stop) → IsLaterStop s → (s ≡ Memory → ⊥) → EndsIn lies left fills flies s start trace text story told old_armed new_armed → GainsShort before (story_text schema events) held →
+        EndsTelling lies left fills flies WriteFault start trace text story told before held old_armed new_armed
     end-unwritten forgets s later some x g = record {
-      ends = record { after = x.after; asks = by x.asks; ends = leaves-unwritten lies left fills flies forgets start x.after told s later some x.ends; grows = x.grows };
+      ends = record { after = x.after; asks = by x.asks; ends = leaves-unwritten lies left fills flies forgets start x.after told s later some x.ends; grows = x.grows; armed = λ first is. ends-unwritten (status_of s) (λ m. some (memory-status s m)) (x.armed first is) };
       written = subst (λ t. GainsShort before t held) (text-is x.after (tables-lying start x.after told (status_of s) x.ends (λ m. some (memory-status s m)))) g;
     }
       where

@@ -27,15 +27,15 @@ abbrev pub AreFaultsOf : Status → ℕ → List Event → ℕ → Type 0
 AreFaultsOf DiskFault first story last = (n : ℕ) × AreFaults first story n × (n ≤ last) × Rose n last
 AreFaultsOf status first story last = AreFaults first story last
 
--- each stop was armed before it came; and unless memory ran out, these are armed at last
+-- By a story whose lines arm no pairs of messages: each stop was armed before it came; and unless memory ran out, these are armed at last.
 pub record AreStopsOf (status : Status) (first : List (ℕ × ℕ)) (story : List Event) (last : List (ℕ × ℕ)) : Type 0 where
   pub stops : List (ℕ × ℕ)
   pub behind : armed_behind story (Some first) ≡ Some stops
   pub are : (status ≡ Memory → ⊥) → last ≡ stops
 
+-- Over a run; which stops are armed at its end is told by the lines of its trace.
 pub record CountsRun (old new : View) (status : Status) (story : List Event) : Type 0 where
   pub faults : AreFaultsOf status old.faults story new.faults
-  pub stops : AreStopsOf status old.armed story new.armed
 
 -- over the events by which a story has grown
 pub record CountsAdded (old new : View) (status : Status) (story told : List Event) : Type 0 where

@@ -1,25 +1,30 @@
 -- How a run ends on its devices.
 use Rattle.law_states.specs.Points.{KeepsPoint, Point}
+use Rattle.law_states.specs.States.{State}
+use Rattle.salt_model.specs.Arming.{armed_by_lines}
 use Rattle.salt_model.specs.Ends.{MayLeave}
 use Rattle.salt_model.specs.Phases.{Fallen, downs, has_opened}
 use Rattle.salt_model.specs.Played.{Tells}
 use Rattle.salt_model.specs.Trace.{Start, Trace, lines_of}
 use Rattle.salt_model.specs.declared.events.Event.{Event}
 use Rattle.salt_model.specs.declared.events.Flight.{Flight}
+use Rattle.salt_promise.specs.Counting.{Stops}
+use Rattle.salt_promise.specs.Status.{ends_between}
 use Rattle.salt_promise.specs.declared.status.Status.{Status}
 use Rattle.salt_promise.specs.declared.status.Status.TheVariants.{DeviceFull, Memory, NotSalt, NumbersSpent, OtherShape, Usage, WriteFault}
 use Rattle.salt_loop.specs.Run.{IsFlightAt, IsRun, leave_of}
 use Rattle.salt_loop.specs.Stopping.{numbers_told, status_of, status_opening}
 use Rattle.salt_loop.specs.declared.stop.Stop.{Stop}
 use Rattle.salt_driver.specs.Opening.{AreSpentAt}
-use Rattle.salt_driver.specs.Serving.{IsFitting}
+use Rattle.salt_driver.specs.Along.{GoesAlong}
+use Rattle.salt_driver.specs.Serving.{Grows, IsFitting, Serves}
 use Rattle.salt_driver.specs.Writing.{IsWrittenAt}
 use Rattle.salt_storage.specs.Writing.{OfBoot, ToWrite}
 use Rattle.salt_storage.specs.declared.halt.Halt.TheVariants as halt
 use Rattle.salt_storage.specs.declared.open.OpenErr.TheVariants.{Halted}
 use Rattle.salt_storage.specs.declared.open.OpenErr.{OpenErr}
 use Rattle.salt_storage.specs.declared.found.Numbers.{Numbers}
-use Rattle.std.specs.Prelude.{List, Option, if◌then◌else◌, ℕ, ◌+◌, ◌≡◌, ◌≤◌, ◌⊎◌, ⊤}
+use Rattle.std.specs.Prelude.{List, Option, if◌then◌else◌, true, ℕ, ◌+◌, ◌≡◌, ◌≤◌, ◌⊎◌, ⊤}
 
 -- what may be written at a point: the decision that comes next, or, of a run that is down, the next boot
 abbrev pub MayBeWritten : Point → ToWrite → Type 0
@@ -46,10 +51,15 @@ pub record EndsFound (lies : ℕ → Point → Type 0) (left : Option Numbers �
   pub stands : left (numbers_told status) room point
   pub full : (dev : ℕ) → status ≡ DeviceFull dev → (w : ToWrite) × MayBeWritten point w × fills w dev
 
--- so ends the run of a script from this start
-abbrev pub EndsServing : (lies : ℕ → Point → Type 0) (left : Option Numbers → ℕ → Point → Type 0) → (ToWrite → ℕ → Type 0) → Option Flight → Start → Status → (script rest before : Option (List ℕ)) → List Event → Option (List ℕ) → Type 0
-EndsServing lies left fills flight start status script rest before story held =
-    (run : IsRun start status flight script rest before story held) × EndsFound lies left fills status run.played.trace
+-- between two lines a database serves there still
+abbrev pub ServesBetween : {E : Type 0} → (E → Option Event → State → Type 0) → Start → Status → E → List Event → Trace → Type 0
+ServesBetween sees start status e story trace = ends_between status ≡ true → Serves sees start e story trace
+
+-- so ends the run of a script from this start, where these were armed first, and last
+abbrev pub EndsServing : {E : Type 0} → (sees : E → Option Event → State → Type 0) → (lies : ℕ → Point → Type 0) (left : Option Numbers → ℕ → Point → Type 0) → (ToWrite → ℕ → Type 0) → Option Flight → Start → Status → (script rest before : Option (List ℕ)) → E → List Event → Option (List ℕ) → (first armed : List (ℕ × ℕ)) → Type 0
+EndsServing sees lies left fills flight start status script rest before e story held first armed =
+    (run : IsRun start status flight script rest before story held) × EndsFound lies left fills status run.played.trace × Stops status (armed_by_lines first run.played.trace) armed ×
+    ServesBetween sees start status e story run.played.trace
 
 -- the trace of a run that ends so, and where it ends
 pub record LeavesAt (lies : ℕ → Point → Type 0) (left : Option Numbers → ℕ → Point → Type 0) (fills : ToWrite → ℕ → Type 0) (flight : Option Flight) (status : Status) (start : Start)
@@ -62,10 +72,12 @@ pub record LeavesAt (lies : ℕ → Point → Type 0) (left : Option Numbers →
 
 -- an opening of a run that was down ends early, and with it the run
 pub record EndsOpening (lies : ℕ → Point → Type 0) (left : Option Numbers → ℕ → Point → Type 0) (fills : ToWrite → ℕ → Type 0) (flight : Option Flight) (stop : Stop) (start : Start) (trace : Trace)
-    (told : List Event) : Type 0 where
+    (story told : List Event) : Type 0 where
   pub after : Trace
   pub lines : lines_of after ≡ lines_of trace
   pub ends : LeavesAt lies left fills flight (status_of stop) start after told
+  pub grows : Grows story told
+  pub along : GoesAlong trace after grows.0
 
 -- the status is that of an opening that ends so, or the sink failed behind it
 abbrev pub IsStatusOf : OpenErr → Status → Type 0

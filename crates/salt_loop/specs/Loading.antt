@@ -2,12 +2,14 @@
 use Rattle.law_states.specs.Points.{Point}
 use Rattle.law_states.specs.States.{State}
 use Rattle.salt_promise.specs.Workload.{load_lines}
+use Rattle.salt_model.specs.Arming.{armed_by_lines}
 use Rattle.salt_model.specs.Ends.{MayLeave}
 use Rattle.salt_model.specs.Everywhere.{Each}
 use Rattle.salt_model.specs.Played.{Tells}
 use Rattle.salt_model.specs.Trace.{Asked, Start, Trace, Tree, lines_of}
 use Rattle.salt_model.specs.declared.events.Event.{Event}
 use Rattle.salt_model.specs.declared.events.Flight.{Flight}
+use Rattle.salt_promise.specs.Counting.{Stops}
 use Rattle.salt_promise.specs.Doing.{IsFrontOf}
 use Rattle.salt_promise.specs.declared.status.Status.{Status}
 use Rattle.salt_promise.specs.declared.status.Status.TheVariants.{DeviceFull, DiskFault, Done, Memory, NotSalt, NumbersSpent, OtherShape, ReadFault, ScriptTooLong, Usage, WriteFault}
@@ -17,7 +19,7 @@ use Rattle.salt_stands.specs.Unspent.{OpensUnspent}
 use Rattle.salt_driver.specs.Serving.{Serves}
 use Rattle.salt_storage.specs.Writing.{ToWrite}
 use Rattle.salt_storage.specs.declared.found.Numbers.{Numbers}
-use Rattle.std.specs.Prelude.{List, Option, length, map, take, ℕ, [], ◌≡◌}
+use Rattle.std.specs.Prelude.{List, Option, Some, length, map, take, ℕ, [], ◌≡◌}
 
 -- what the lines of the workload with so many calls ask
 abbrev pub asked_by_load : ℕ → List Asked
@@ -50,12 +52,13 @@ pub record IsPlayedLoad (start : Start) (status : Status) (told : Option Flight)
   pub unspent : Each OpensUnspent trace
 
 -- so ends the run of a workload from this start
-abbrev pub EndsLoading : (lies : ℕ → Point → Type 0) (left : Option Numbers → ℕ → Point → Type 0) → (ToWrite → ℕ → Type 0) → Option Flight → Start → Status → (calls done : ℕ) → List Event → Type 0
-EndsLoading lies left fills flight start status calls done story =
-    (run : IsPlayedLoad start status flight calls done story) × EndsFound lies left fills status run.trace
+abbrev pub EndsLoading : (lies : ℕ → Point → Type 0) (left : Option Numbers → ℕ → Point → Type 0) → (ToWrite → ℕ → Type 0) → Option Flight → Start → Status → (calls done : ℕ) → List Event → (first armed : List (ℕ × ℕ)) → Type 0
+EndsLoading lies left fills flight start status calls done story first armed =
+    (run : IsPlayedLoad start status flight calls done story) × EndsFound lies left fills status run.trace × Stops status (armed_by_lines first run.trace) armed
 
 -- a run of the workload of which so many lines are done
-pub record IsLoading {E : Type 0} (sees : E → Option Event → State → Type 0) (start : Start) (calls done : ℕ) (e : E) (story : List Event) : Type 0 where
+pub record IsLoading {E : Type 0} (sees : E → Option Event → State → Type 0) (start : Start) (calls done : ℕ) (e : E) (story : List Event) (first armed : List (ℕ × ℕ)) : Type 0 where
   pub trace : Trace
+  pub arms : armed_by_lines first trace ≡ Some armed
   pub serves : Serves sees start e story trace
   pub lines : lines_of trace ≡ map Tree (take done (load_lines calls))

@@ -7,6 +7,7 @@ use Rattle.salt_io.specs.declared.lines.Next.TheVariants.{TooLong}
 use Rattle.salt_io.specs.declared.lines.Next.{Next}
 use Rattle.law_states.specs.Points.{Point}
 use Rattle.law_states.specs.States.{State}
+use Rattle.salt_model.specs.Arming.{armed_by_lines}
 use Rattle.salt_model.specs.Lines.{AskInOrder, Asks}
 use Rattle.salt_model.specs.Trace as trace_words
 use Rattle.salt_model.specs.Trace.{Asked, Rejected, Start, Trace}
@@ -16,12 +17,15 @@ use Rattle.salt_model.specs.declared.events.Flight.{Flight}
 use Rattle.salt_model.specs.declared.events.Refusal.TheVariants.{Long}
 use Rattle.salt_promise.specs.Doing.{text_under}
 use Rattle.salt_promise.specs.declared.status.Status.TheVariants as status
+use Rattle.salt_loop.specs.Armed.{EndsArmed, HaltsArmed, StaysArmed}
 use Rattle.salt_loop.specs.Ending.{EndsServing, LeavesAt}
 use Rattle.salt_loop.specs.Stopping.{status_of}
 use Rattle.salt_loop.specs.declared.stop.Stop.TheVariants.{Memory, WriteFault}
 use Rattle.salt_loop.specs.declared.stop.Stop.{Stop}
 use Rattle.law_decisions.specs.Spelled.{IsSpelledLine}
+use Rattle.salt_driver.specs.Along.{GoesAlong}
 use Rattle.salt_driver.specs.Serving.{Grows, Halts, IsDown, Serves}
+use Rattle.salt_storage.specs.Answers.{disk_err_of}
 use Rattle.salt_storage.specs.Writing.{ToWrite}
 use Rattle.salt_storage.specs.declared.halt.Halt.TheVariants as halting
 use Rattle.salt_storage.specs.declared.halt.Halt.{Halt}
@@ -48,8 +52,9 @@ rest_of reading left = bytes_before reading.kept left
 
 -- a run between its lines, from this start: of a script, over a sink that held these bytes
 pub record IsServing {E : Type 0} (sees : E → Option Event → State → Type 0) (start : Start) (script before : Option (List ℕ)) (e : E)
-    (reading : ScriptReading) (left : Option (List ℕ)) (story : List Event) (held : Option (List ℕ)) : Type 0 where
+    (reading : ScriptReading) (left : Option (List ℕ)) (story : List Event) (held : Option (List ℕ)) (first armed : List (ℕ × ℕ)) : Type 0 where
   pub trace : Trace
+  pub arms : armed_by_lines first trace ≡ Some armed
   pub texts : List (List ℕ)
   pub serves : Serves sees start e story trace
   pub reads : AskInOrder texts (trace_words.lines_of trace)
@@ -79,19 +84,21 @@ AsksMore text trace after = (asked : Asked) × TextAsks text asked × (trace_wor
 
 -- A line was done: the trace goes on by its segment, or by a front of that, a fall and the opening behind it.
 pub record Continues {E : Type 0} (sees : E → Option Event → State → Type 0) (start : Start) (trace : Trace) (text : Option (List ℕ)) (story : List Event)
-    (e : E) (told : List Event) : Type 0 where
+    (e : E) (told : List Event) (old new : List (ℕ × ℕ)) : Type 0 where
   pub after : Trace
   pub asks : AsksMore text trace after
   pub serves : Serves sees start e told after
   pub grows : Grows story told
+  pub armed : StaysArmed trace after old new
 
 -- It is broken off in a line, or, for want of memory, before that was asked.
 pub record BreaksIn (lies left : Point → Type 0) (fills : ToWrite → ℕ → Type 0) (flight : Option Flight) (halt : Halt) (start : Start) (trace : Trace)
-    (text : Option (List ℕ)) (story told : List Event) : Type 0 where
+    (text : Option (List ℕ)) (story told : List Event) (old new : List (ℕ × ℕ)) : Type 0 where
   pub after : Trace
   pub asks : AsksMore text trace after ⊎ ((halt ≡ halting.Memory) × (after ≡ trace))
   pub halts : Halts lies left fills flight halt start told after
   pub grows : Grows story told
+  pub armed : HaltsArmed (disk_err_of halt) trace after old new
 
 -- a run that was broken off so ends, within the opening behind that or before it; for want of memory it goes no further
 pub record EndsBehind (lies : ℕ → Point → Type 0) (left : Option Numbers → ℕ → Point → Type 0) (fills : ToWrite → ℕ → Type 0) (flight : Option Flight) (halt : Halt) (stop : Stop) (start : Start)
@@ -101,14 +108,16 @@ pub record EndsBehind (lies : ℕ → Point → Type 0) (left : Option Numbers �
   pub short : halt ≡ halting.Memory → (stop ≡ Memory) × (after ≡ trace)
   pub ends : LeavesAt lies left fills flight (status_of stop) start after told
   pub grows : Grows story told
+  pub along : GoesAlong trace after grows.0
 
 -- so a run ends in a line, or, for want of memory, before that was asked
 pub record EndsIn (lies : ℕ → Point → Type 0) (left : Option Numbers → ℕ → Point → Type 0) (fills : ToWrite → ℕ → Type 0) (flight : Option Flight) (stop : Stop) (start : Start) (trace : Trace)
-    (text : Option (List ℕ)) (story told : List Event) : Type 0 where
+    (text : Option (List ℕ)) (story told : List Event) (old new : List (ℕ × ℕ)) : Type 0 where
   pub after : Trace
   pub asks : AsksMore text trace after ⊎ ((stop ≡ Memory) × (after ≡ trace))
   pub ends : LeavesAt lies left fills flight (status_of stop) start after told
   pub grows : Grows story told
+  pub armed : EndsArmed (status_of stop) trace after old new
 
 -- the text of what a line has added, under the tables that are defined at the trace's end
 abbrev pub added_text : Trace → (story told : List Event) → List ℕ
@@ -128,14 +137,14 @@ EndsWriting done text before held (Err stop) =
 
 -- a line was done, and is told
 pub record IsToldLine {E : Type 0} (sees : E → Option Event → State → Type 0) (start : Start) (trace : Trace) (text : Option (List ℕ)) (story : List Event)
-    (e : E) (told : List Event) (before held : Option (List ℕ)) : Type 0 where
-  pub goes : Continues sees start trace text story e told
+    (e : E) (told : List Event) (before held : Option (List ℕ)) (old new : List (ℕ × ℕ)) : Type 0 where
+  pub goes : Continues sees start trace text story e told old new
   pub written : Gains before (added_text goes.after story told) held
 
 -- or a run ends in it
 pub record EndsTelling (lies : ℕ → Point → Type 0) (left : Option Numbers → ℕ → Point → Type 0) (fills : ToWrite → ℕ → Type 0) (flight : Option Flight) (stop : Stop) (start : Start) (trace : Trace)
-    (text : Option (List ℕ)) (story told : List Event) (before held : Option (List ℕ)) : Type 0 where
-  pub ends : EndsIn lies left fills flight stop start trace text story told
+    (text : Option (List ℕ)) (story told : List Event) (before held : Option (List ℕ)) (old new : List (ℕ × ℕ)) : Type 0 where
+  pub ends : EndsIn lies left fills flight stop start trace text story told old new
   pub written : GainsAtEnd stop before (added_text ends.after story told) held
 
 -- a run is down, and was asked nothing yet
@@ -144,15 +153,16 @@ pub record IsToBegin (lies : ℕ → Point → Type 0) (flight : Option Flight) 
   pub unasked : trace_words.lines_of trace ≡ []
 
 -- it has begun, and its opening is told
-pub record IsBegun {E : Type 0} (sees : E → Option Event → State → Type 0) (start : Start) (e : E) (story : List Event) (before held : Option (List ℕ)) : Type 0 where
+pub record IsBegun {E : Type 0} (sees : E → Option Event → State → Type 0) (start : Start) (e : E) (story : List Event) (before held : Option (List ℕ)) (first armed : List (ℕ × ℕ)) : Type 0 where
   pub trace : Trace
+  pub arms : armed_by_lines first trace ≡ Some armed
   pub lines : trace_words.lines_of trace ≡ []
   pub serves : Serves sees start e story trace
   pub written : Gains before (text_under trace story) held
 
 -- after a line: the run goes on, or the script was at its end
 abbrev pub IsAfterLine : {E : Type 0} → Bool → (E → Option Event → State → Type 0) → (lies : ℕ → Point → Type 0) (left : Option Numbers → ℕ → Point → Type 0) → (ToWrite → ℕ → Type 0) → Option Flight →
-    Start → (script before : Option (List ℕ)) → E → ScriptReading → Option (List ℕ) → List Event → Option (List ℕ) → Type 0
-IsAfterLine true sees lies left fills flight start script before e reading rest story held = IsServing sees start script before e reading rest story held
-IsAfterLine false sees lies left fills flight start script before e reading rest story held =
-    EndsServing lies left fills flight start status.Done script rest before story held × IsAtEnd rest
+    Start → (script before : Option (List ℕ)) → E → ScriptReading → Option (List ℕ) → List Event → Option (List ℕ) → (first armed : List (ℕ × ℕ)) → Type 0
+IsAfterLine true sees lies left fills flight start script before e reading rest story held first armed = IsServing sees start script before e reading rest story held first armed
+IsAfterLine false sees lies left fills flight start script before e reading rest story held first armed =
+    EndsServing sees lies left fills flight start status.Done script rest before e story held first armed × IsAtEnd rest

@@ -46,13 +46,13 @@ fn ask_line<E: Openable, D: Disks, F: Fn(PlaceKind, &Key, u32) -> u32>(
     requires serves { (line : Line) → IsAskable line → E.serves line }
     requires stands { (start : Start) × (trace : Trace) × Serves (E.sees (D.view disks.old)) start database.old story.old trace }
     ensures ok { OnOk result ((start : Start) (trace : Trace) → Serves (E.sees (D.view disks.old)) start database.old story.old trace →
-        Continues (E.sees (D.view disks.new)) start trace (option_copied text.entry) story.old database.new story.new) }
+        Continues (E.sees (D.view disks.new)) start trace (option_copied text.entry) story.old database.new story.new (D.view disks.old).armed (D.view disks.new).armed) }
     ensures err { IfErr result (λ halt. (start : Start) (trace : Trace) → Serves (E.sees (D.view disks.old)) start database.old story.old trace →
         BreaksIn (E.lies (D.view disks.new) database.new 0) (E.left (D.view disks.new) database.new None 0) (E.fills (D.view disks.new) database.new) (E.flight database.new) halt start
-        trace (option_copied text.entry) story.old story.new) }
+        trace (option_copied text.entry) story.old story.new (D.view disks.old).armed (D.view disks.new).armed) }
     ensures refused { (refusal : Refusal) → story.new ≡ story.old ++ Refused refusal ∷ [] → disks.new ≡ disks.old }
     ensures within { StaysWithin (E.asked database.old) (E.asked database.new) (D.view disks.old) (D.view disks.new) }
-    ensures counts { CountsMore (D.view disks.old) (D.view disks.new) (disk_err result) None story.old story.new }
+    ensures counts { (line : Line) × CountsMore line (D.view disks.old) (D.view disks.new) (disk_err result) None story.old story.new }
 {
     // For the proof alone: what a line of the grammar asks is spelled.
     read_lines_are_spelled();
@@ -138,10 +138,10 @@ fn do_line<E: Openable, D: Disks, F: Fn(PlaceKind, &Key, u32) -> u32>(
     requires serves { (line : Line) → IsAskable line → E.serves line }
     requires stands { (start : Start) × (trace : Trace) × Serves (E.sees (D.view disks.old)) start database.old story.old trace }
     ensures ok { OnOk result ((start : Start) (trace : Trace) → Serves (E.sees (D.view disks.old)) start database.old story.old trace →
-        Continues (E.sees (D.view disks.new)) start trace (option_copied text.entry) story.old database.new story.new) }
+        Continues (E.sees (D.view disks.new)) start trace (option_copied text.entry) story.old database.new story.new (D.view disks.old).armed (D.view disks.new).armed) }
     ensures err { IfErr result (λ stop. (start : Start) (trace : Trace) → Serves (E.sees (D.view disks.old)) start database.old story.old trace →
         EndsIn (E.lies (D.view disks.new) database.new) (E.left (D.view disks.new) database.new) (E.fills (D.view disks.new) database.new) (E.flight database.new) stop start trace
-        (option_copied text.entry) story.old story.new) }
+        (option_copied text.entry) story.old story.new (D.view disks.old).armed (D.view disks.new).armed) }
     ensures later { IfErr result IsLaterStop }
     ensures within { StaysWithin (E.asked database.old) (E.asked database.new) (D.view disks.old) (D.view disks.new) }
     ensures counts { CountsAdded (D.view disks.old) (D.view disks.new) (outcome result) story.old story.new }
@@ -167,10 +167,10 @@ pub fn tell_line<E: Openable, D: Disks, K: Sink, F: Fn(PlaceKind, &Key, u32) -> 
     requires serves { (line : Line) → IsAskable line → E.serves line }
     requires stands { (start : Start) × (trace : Trace) × Serves (E.sees (D.view disks.old)) start database.old story.old trace }
     ensures ok { OnOk result ((start : Start) (trace : Trace) → Serves (E.sees (D.view disks.old)) start database.old story.old trace →
-        IsToldLine (E.sees (D.view disks.new)) start trace (option_copied text.entry) story.old database.new story.new (K.held sink.old) (K.held sink.new)) }
+        IsToldLine (E.sees (D.view disks.new)) start trace (option_copied text.entry) story.old database.new story.new (K.held sink.old) (K.held sink.new) (D.view disks.old).armed (D.view disks.new).armed) }
     ensures err { IfErr result (λ stop. (start : Start) (trace : Trace) → Serves (E.sees (D.view disks.old)) start database.old story.old trace →
         EndsTelling (E.lies (D.view disks.new) database.new) (E.left (D.view disks.new) database.new) (E.fills (D.view disks.new) database.new) (E.flight database.new) stop start trace
-        (option_copied text.entry) story.old story.new (K.held sink.old) (K.held sink.new)) }
+        (option_copied text.entry) story.old story.new (K.held sink.old) (K.held sink.new) (D.view disks.old).armed (D.view disks.new).armed) }
     ensures of_line { IfErr result IsOfLine }
     ensures fault { result ≡ Err Stop.WriteFault → Rose (K.faults sink.old) (K.faults sink.new) }
     ensures no_fault { result ≢ Err Stop.WriteFault → K.faults sink.new ≡ K.faults sink.old }

@@ -42,7 +42,7 @@ pub fn start<E: Openable, D: Disks, F: Fn(PlaceKind, &Key, u32) -> u32>(
     ensures ok { OnOk result ((start : Start) (trace : Trace) → IsDown (E.lies (D.view disks.old) database.old) (E.flight database.old) start story.old trace →
         Reopens (E.sees (D.view disks.new)) start trace story.old database.new story.new) }
     ensures err { IfErr result (λ stop. (start : Start) (trace : Trace) → IsDown (E.lies (D.view disks.old) database.old) (E.flight database.old) start story.old trace →
-        EndsOpening (E.lies (D.view disks.new) database.new) (E.left (D.view disks.new) database.new) (E.fills (D.view disks.new) database.new) (E.flight database.new) stop start trace story.new) }
+        EndsOpening (E.lies (D.view disks.new) database.new) (E.left (D.view disks.new) database.new) (E.fills (D.view disks.new) database.new) (E.flight database.new) stop start trace story.old story.new) }
     ensures later { IfErr result IsLaterStop }
     ensures within { StaysWithin (E.asked database.old) (E.asked database.new) (D.view disks.old) (D.view disks.new) }
     ensures counts { CountsOpening (D.view disks.old) (D.view disks.new) (answer_of (outcome result)) story.old story.new }

@@ -1,55 +1,71 @@
 -- A run, by what is found at first and by how its database ends.
 use Rattle.salt_books.specs.declared.books.Books.{Books}
-use Rattle.salt_database.specs.Halves.{IfEither, by_half, database_flight, database_left, database_lies, no_setup}
+use Rattle.salt_database.proofs.Lying.{opened-first}
+use Rattle.salt_database.specs.Finding.{IsNew}
+use Rattle.salt_database.specs.Halves.{IfEither, by_half, database_flight, database_left, database_lies, no_setup, opening_lies}
 use Rattle.salt_database.specs.Standing.{opening_books}
 use Rattle.salt_database.specs.declared.database.Database.{Database}
 use Rattle.salt_database.specs.declared.database.Database.TheVariants.{Closed, Moving, Open}
+use Rattle.salt_database.specs.declared.opening.Opening.{Opening}
 use Rattle.salt_devices.specs.Filling.{FillsIn}
 use Rattle.salt_devices.specs.Leaving.{StandsFor}
 use Rattle.salt_devices.specs.Refusing.{Finds, Refuses}
-use Rattle.salt_devices.specs.Holding.{setup_in}
+use Rattle.salt_devices.specs.Holding.{net_in, setup_in}
 use Rattle.salt_devices.specs.Standing.{RestsAs, StandsHeld, StandsLeft}
 use Rattle.salt_devices.specs.declared.devices.Devices.{Devices}
 use Rattle.salt_disk.specs.Disks.{AreUnchanged, IsUnchanged, KeepsAll, SameShape, View}
 use Rattle.salt_disk.specs.declared.disks.DiskErr.{DiskErr}
 use Rattle.salt_engine.specs.Flights.{flight_of}
+use Rattle.salt_engine.specs.Netted.{LiesNet}
 use Rattle.salt_engine.specs.Standing.{LeavesOnDevices, CanReopenAt, serving_books}
 use Rattle.salt_engine.specs.Stored.{IsAlone}
 use Rattle.salt_engine.specs.declared.flights.InFlight.{InFlight}
 use Rattle.law_states.specs.Points.{Point}
+use Rattle.law_states.specs.States.{State}
+use Rattle.salt_ast.specs.declared.lines.Line.TheVariants.{Nothing}
+use Rattle.salt_model.specs.Arming.{armed_behind, armed_by_lines}
 use Rattle.salt_model.specs.Kept.{Kept, WellKept, nothing_kept}
 use Rattle.salt_model.specs.Lines.{AskInOrder}
 use Rattle.salt_model.specs.Played.{IsPlayed, Tells}
 use Rattle.salt_model.specs.Trace.{Start, Trace, lines_of, start_of}
 use Rattle.salt_model.specs.declared.events.Event.{Event}
 use Rattle.salt_model.specs.declared.events.Flight.{Flight}
+use Rattle.salt_net.specs.Turns.{Turning}
+use Rattle.salt_net.specs.declared.kinds.NetEvent.{NetEvent}
+use Rattle.salt_promise.specs.Counting.{Stops}
 use Rattle.salt_promise.specs.Doing.{IsFrontOf}
 use Rattle.salt_promise.specs.Promises.{Promises}
-use Rattle.salt_promise.specs.Runs.{AreAsBefore, IsNoRefusal, may_have_failed}
+use Rattle.salt_promise.specs.Runs.{AreAsBefore, IsNoRefusal, may_have_failed, net_left}
+use Rattle.salt_promise.specs.Status.{ends_between}
 use Rattle.salt_promise.specs.declared.status.Status.{Status}
-use Rattle.salt_promise.specs.declared.status.Status.TheVariants.{DeviceFull, Done, Memory, NotSalt, NumbersSpent, OtherShape, Usage, WriteFault}
+use Rattle.salt_promise.specs.declared.status.Status.TheVariants.{Broken, DeviceFull, Done, Memory, NotSalt, NumbersSpent, OtherShape, ReadFault, ScriptTooLong, TranscriptTooLong, Unread, Usage, WriteFault}
 use Rattle.salt_run.proofs.Images.{stands-alone}
 use Rattle.salt_run.proofs.Over.{ends-behind}
 use Rattle.salt_run.proofs.Replayed.{load-replays, script-replays}
+use Rattle.salt_run.proofs.Tallied.{armed-at-first, behind-along}
 use Rattle.salt_run.proofs.Unwritten.{front-lines, load-unwritten}
 use Rattle.salt_promise.specs.Given.{shape_of}
 use Rattle.salt_run.specs.Doing.{Streams}
-use Rattle.salt_run.specs.Ending.{EndsBehind, flight_at}
+use Rattle.salt_run.specs.Ending.{EndsBehind, IsNetLeft, flight_at, flight_left}
 use Rattle.salt_run.specs.Running.{DoTheirRests, FindsNothing, Replays, Runs, RunsOver}
 use Rattle.salt_run.specs.Summing.{IsSummary}
+use Rattle.salt_loop.proofs.Armed.{ends-unwritten, opened-stops}
 use Rattle.salt_loop.proofs.Counts.{run-added, run-opened, run-unwritten}
 use Rattle.salt_loop.proofs.Leaving.{answers-opening, full-reason}
-use Rattle.salt_loop.specs.Counted.{AreFaultsOf, AreStopsOf, CountsAdded, CountsRun}
-use Rattle.salt_loop.specs.Ending.{EndsFound, IsStatusOf, MayEndAt}
+use Rattle.salt_loop.specs.Counted.{AreFaultsOf, CountsAdded, CountsRun}
+use Rattle.salt_loop.specs.Ending.{EndsFound, IsStatusOf, MayEndAt, ServesBetween}
 use Rattle.salt_loop.specs.Loading.{IsPlayedLoad, asked_by_load}
-use Rattle.salt_loop.specs.Run.{IsRun}
+use Rattle.salt_loop.specs.Run.{IsFlightAt, IsRun}
 use Rattle.salt_loop.specs.Serving.{IsToBegin}
 use Rattle.salt_loop.specs.Stopping.{numbers_told, status_opening}
 use Rattle.salt_driver.proofs.AtFirst.{down-at-first}
 use Rattle.salt_stands.specs.Stands.{are_spent}
+use Rattle.salt_stands.specs.Turning.{turning}
+use Rattle.salt_driver.specs.Along.{armed_along}
 use Rattle.salt_driver.specs.Counting.{CountsOpening}
 use Rattle.salt_driver.specs.Opening.{FailsToFind, IsOpenedFirst, IsUnfound, start_over}
 use Rattle.salt_storage.specs.Answers.{IsRefusal, open_disk_err_of}
+use Rattle.salt_storage.specs.Netted.{net_begun, net_told}
 use Rattle.salt_storage.specs.Staying.{Setup}
 use Rattle.salt_storage.specs.Storing.{IsSoundKept}
 use Rattle.salt_storage.specs.Writing.{OfOpening}
@@ -62,7 +78,7 @@ use Rattle.salt_place.specs.declared.placement.Shape.{Shape}
 use Rattle.salt_promise.specs.declared.command.Command.{Command}
 use Rattle.salt_promise.specs.declared.command.Command.TheVariants.{Load, Script}
 use Rattle.std.proofs.Common.{ap, inl, inr, subst, sym, ◌∙◌}
-use Rattle.std.specs.Prelude.{Bool, IsSome, IsTrue, List, None, Option, [], false, refl, true, ℕ, ◌≡◌, ◌⊎◌}
+use Rattle.std.specs.Prelude.{Bool, IfSome, IsSome, IsTrue, List, None, Option, Some, [], false, if◌then◌else◌, option_map, refl, true, ℕ, ◌&&◌, ◌≡◌, ◌⊎◌}
 
 -- THE STATUS, and the one of its engine: the same, or the sink failed behind it
 
@@ -140,13 +156,15 @@ module _ (command : Command) (d : View) (started0 : Bool) (shape0 : Shape) (was 
     was-refused = elim x.refused [ inl h ↦ inl (refuses-first reason h) | inr m ↦ inr m ]
 
     pub nothing : (status : Status) (f : Option Flight) (s : Streams) → IsStatusOf reason status → IsUnfound story → ((start : Start) → WellKept start.kept → Replays command status f s story start) →
-        FindsNothing command d e status f s story
-    nothing status f s is unfound replays = record {
+        Stops status (armed_behind story (Some d.armed)) e.armed → FindsNothing command d e status f None s story
+    nothing status f s is unfound replays armed = record {
       reason = reason;
+      none = refl;
       is = is;
       refused = was-refused;
       unfound = unfound;
       replays = replays;
+      armed = armed;
       empty = x.empty;
       rests = λ k h told image left. subst (λ (s : Shape). StandsFor s image k) now (stands-alone shape started e k (rests k (finds-then k h)) told image left);
       full = λ dev full. by dev full is;
@@ -157,14 +175,87 @@ module _ (command : Command) (d : View) (started0 : Bool) (shape0 : Shape) (was 
         by dev full (inl same) = subst (λ (s : Shape). FillsIn e s OfOpening dev) now (x.full dev (full-reason reason dev (sym same ∙ full)))
         by dev full (inr w) = absurd (not-full status dev w.0 full)
 
--- a run over it begins
-pub begins-over : (k : Kept) (now early : Bool) (lies : ℕ → Point → Type 0) (flies : Option Flight) (story : List Event) → IsUnfound story → IsSoundKept k → IsOpenedFirst lies k now early → flies ≡ None →
-    (trace : Trace) × IsToBegin lies flies (start_over k now early) story trace
-begins-over k now early lies flies story unfound sound opens none =
-    let d = down-at-first k now early lies flies story unfound sound opens none in
-    (d.0, record { down = d.1; unasked = d.2 })
+-- a run over it begins, and these stops are armed there
+begins-over : (k : Kept) (now early over_net : Bool) (lies : ℕ → Point → Type 0) (flies : Option Flight) (d mid : View) (story : List Event) → IsUnfound story → IsSoundKept k →
+    IsOpenedFirst lies k now early over_net → flies ≡ None → CountsOpening d mid None [] story →
+    (trace : Trace) × IsToBegin lies flies (start_over k now early over_net) story trace × (armed_by_lines d.armed trace ≡ Some mid.armed)
+begins-over k now early over_net lies flies d mid story unfound sound opens none counts =
+    let x = down-at-first k now early over_net lies flies story unfound sound opens none in
+    (x.0, record { down = x.1; unasked = x.2 }, armed-at-first d mid (start_over k now early over_net) x.0 story x.1.tells x.2 counts)
+
+-- it can be opened, and nothing was sent yet
+opens-over : (lies : ℕ → Point → Type 0) (k : Kept) (can_stop early over_net : Bool) (setup : Setup) (net : Option Turning) (found : Option Numbers) → setup.over_net ≡ over_net → net ≡ net_begun setup →
+    IsOpenedFirst lies k can_stop early over_net → IsOpenedFirst (λ room p. lies room p × LiesNet setup net found p.state) k can_stop early over_net
+opens-over lies k can_stop early over_net setup net found over begun opens = λ p u. (opens p u, record { over = u.over_net ∙ sym over; begun = by found })
+  where
+    by : (found : Option Numbers) → IfSome found (λ numbers. net ≡ net_begun setup)
+    by None = tt
+    by (Some numbers) = begun
+
+-- an opening of what was found can be opened
+abbrev pub can_open : View → Opening Devices → ℕ → Point → Type 0
+can_open d o room p =
+    opening_lies (λ x k. StandsHeld x.shape x.started x.store x.numbers x.pending d k) (λ x a b. StandsLeft x.shape x.started x.store x.numbers x.pending d a b) d.can_stop o room p ×
+    LiesNet (setup_in o.storage.shape o.storage.over_net) (net_in o.storage.store) o.found p.state
+
+pub begins-found : (k : Kept) (early over_net : Bool) (o : Opening Devices) (y : Devices) (d mid : View) (story : List Event) → o.storage ≡ y → y.over_net ≡ over_net → net_in y.store ≡ net_begun (setup_in y.shape y.over_net) →
+    IsNew early k o.found o.stage o.single o.in_flight → StandsHeld y.shape y.started y.store y.numbers y.pending mid k → IsSoundKept k → IsUnfound story → CountsOpening d mid None [] story →
+    (trace : Trace) × IsToBegin (can_open mid o) (flight_of o.in_flight) (start_over k mid.can_stop early over_net) story trace × (armed_by_lines d.armed trace ≡ Some mid.armed)
+begins-found k early over_net o y d mid story same over begun new holding sound unfound counts =
+    begins-over k mid.can_stop early over_net (can_open mid o) (flight_of o.in_flight) d mid story unfound sound
+    (opens-over _ k mid.can_stop early over_net (setup_in o.storage.shape o.storage.over_net) (net_in o.storage.store) o.found (ap (λ (x : Devices). x.over_net) same ∙ over)
+    (subst (λ (x : Devices). net_in x.store ≡ net_begun (setup_in x.shape x.over_net)) (sym same) begun)
+    (opened-first (λ k. StandsHeld o.storage.shape o.storage.started o.storage.store o.storage.numbers o.storage.pending mid k)
+    (λ a b. StandsLeft o.storage.shape o.storage.started o.storage.store o.storage.numbers o.storage.pending mid a b) mid.can_stop o.found o.stage o.single o.in_flight early over_net k new
+    (subst (λ (x : Devices). StandsHeld x.shape x.started x.store x.numbers x.pending mid k) (sym same) holding) sound)) (ap flight_of new.none) counts
 
 -- AND ENDS
+
+-- what its devices are asked for
+abbrev pub setup_of : Database Devices → Setup
+setup_of x = by_half (λ o. setup_in o.storage.shape o.storage.over_net) (λ g. setup_in g.storage.shape g.storage.over_net) no_setup x
+
+-- WHAT IS GIVEN where it is given up
+
+pub and-both : (a b : Bool) → (a && b) ≡ true → (a ≡ true) × (b ≡ true)
+and-both true true is = (refl, refl)
+and-both true false is = absurd (cc is)
+and-both false b is = absurd (cc is)
+
+-- its net is what its commits have come to
+module _ {E : Type 0} (sees : E → Option Event → State → Type 0) (x : E) (setup : Setup) (shape : Shape) (early over_net : Bool) (asked : setup ≡ setup_in shape over_net) (start : Start) (status : Status)
+    (story : List Event) (trace : Trace) (net : Option (List NetEvent)) (serves : ServesBetween sees start status x story trace) where
+  given : (b : Bool) → (over_net && ends_between status) ≡ b → IsNetLeft b (sees x None) setup net → net ≡ (if b then Some (turning shape trace).events else None)
+  given false is left = left
+  given true is left =
+      let both = and-both over_net (ends_between status) is in
+      let s = serves both.1 in
+      let sent : Shape → Turning = s.point.state.net in
+      left s.point.state s.stands.state ∙ ap (λ (v : Setup). option_map (λ (t : Turning). t.events) (net_told v sent)) asked
+      ∙ ap (λ (o : Bool). option_map (λ (t : Turning). t.events) (if o then Some (sent shape) else None)) both.0 ∙ ap (λ (t : Turning). Some t.events) (sym (s.keeps.state.net shape))
+
+  pub sent-is : IsNetLeft (over_net && ends_between status) (sees x None) setup net → net ≡ net_left (Script shape early over_net) status trace
+  sent-is left = given (over_net && ends_between status) refl left
+
+-- nothing is in flight between two lines
+between-untold : (status : Status) (trace : Trace) (f : Option Flight) → ends_between status ≡ true → IsFlightAt status trace f → f ≡ None
+between-untold Done trace f is h = h
+between-untold ReadFault trace f is h = h
+between-untold ScriptTooLong trace f is h = h
+between-untold status trace f is h = absurd (cc is)
+
+-- nothing was in flight
+pub flight-none : (status : Status) → flight_at status None ≡ None
+flight-none (NumbersSpent boot decisions) = refl
+flight-none status = refl
+
+-- so what was in flight is told as ever
+pub flight-is : (over_net : Bool) (status : Status) (trace : Trace) (f told : Option Flight) → IsFlightAt status trace f → told ≡ flight_left (over_net && ends_between status) status f → told ≡ flight_at status f
+flight-is over_net status trace f told flies is = is ∙ by (over_net && ends_between status) refl
+  where
+    by : (b : Bool) → (over_net && ends_between status) ≡ b → flight_left b status f ≡ flight_at status f
+    by false e = refl
+    by true e = sym (ap (flight_at status) (between-untold status trace f (and-both over_net (ends_between status) e).1 flies) ∙ flight-none status)
 
 module _ (e : View) where
   -- what the devices hold, and what a stop leaves of them
@@ -195,11 +286,11 @@ module _ (e : View) where
   same_shape same = ap (λ (s : Setup). s.shape) same
 
   -- whether it is closed or open there
-  pub ends-there : (x : Database Devices) (target : Shape) → by_half (λ o. setup_in o.storage.shape o.storage.over_net) (λ g. setup_in g.storage.shape g.storage.over_net) no_setup x ≡ setup_in target false → (status : Status) (trace : Trace) → IsPlayed trace →
+  pub ends-there : (x : Database Devices) (target : Shape) (over : Bool) → setup_of x ≡ setup_in target over → (status : Status) (trace : Trace) → IsPlayed trace →
       FoundAt x status trace → EndsBehind e target status (flight_at status (database_flight x)) trace
-  ends-there (Closed o) target same status trace played f = ends-over o.storage target (same_shape same) o.found (opening_books o.stage) o.single o.in_flight status trace played f
-  ends-there (Open g) target same status trace played f = ends-over g.storage target (same_shape same) None (serving_books g.stage) g.single g.in_flight status trace played f
-  ends-there Moving target same status trace played f = absurd f.stands
+  ends-there (Closed o) target over same status trace played f = ends-over o.storage target (same_shape same) o.found (opening_books o.stage) o.single o.in_flight status trace played f
+  ends-there (Open g) target over same status trace played f = ends-over g.storage target (same_shape same) None (serving_books g.stage) g.single g.in_flight status trace played f
+  ends-there Moving target over same status trace played f = absurd f.stands
 
   -- and where the sink failed behind it
   told-none : (x : Database Devices) (numbers : Option Numbers) (room : ℕ) (p : Point) → LeftIn x numbers room p → LeftIn x None room p
@@ -221,13 +312,16 @@ module _ (e : View) where
 
 module _ (d e : View) (x : Database Devices) where
   module _ (promised : (trace : Trace) → IsPlayed trace → WellKept (start_of trace).kept → Promises trace) (start : Start) (sound : IsSoundKept start.kept) (unspent : are_spent start.kept.boot start.kept.decisions ≡ false)
-      (stops : start.can_stop ≡ d.can_stop) (over_net : start.over_net ≡ false) (s : Streams) (story : List Event) where
+      (stops : start.can_stop ≡ d.can_stop) (s : Streams) (story : List Event) where
     sound-start : (trace : Trace) → Tells start trace story → IsSoundKept (start_of trace).kept
     sound-start trace tells = subst (λ (k : Start). IsSoundKept k.kept) (sym tells.begins) sound
 
-    module _ (drained : (texts : List (List ℕ)) → DoTheirRests (AskInOrder texts)) (shape : Shape) (early : Bool) (is_early : start.early ≡ early) (asked : by_half (λ o. setup_in o.storage.shape o.storage.over_net) (λ g. setup_in g.storage.shape g.storage.over_net) no_setup x ≡ setup_in shape false) (stood : Finds d true shape start.kept) (status : Status)
-        (y : (run : IsRun start status (database_flight x) s.script s.left s.before story s.now) × FoundAt e x status run.played.trace) where
-      pub script-over : RunsOver (Script shape early) d e status (flight_at status (database_flight x)) s story
+    module _ (sees : Database Devices → Option Event → State → Type 0) (drained : (texts : List (List ℕ)) → DoTheirRests (AskInOrder texts)) (shape : Shape) (early over_net : Bool) (is_early : start.early ≡ early) (over : start.over_net ≡ over_net)
+        (asked : setup_of x ≡ setup_in shape over_net) (stood : Finds d true shape start.kept) (status : Status)
+        (y : (run : IsRun start status (database_flight x) s.script s.left s.before story s.now) × FoundAt e x status run.played.trace × Stops status (armed_by_lines d.armed run.played.trace) e.armed ×
+        ServesBetween sees start status x story run.played.trace) (net : Option (List NetEvent))
+        (told : Status) (same : told ≡ status) (left : IsNetLeft (over_net && ends_between told) (sees x None) (setup_of x) net) where
+      pub script-over : RunsOver (Script shape early over_net) d e status (flight_at status (database_flight x)) net s story
       script-over = record {
         start = start;
         stood = stood;
@@ -235,17 +329,22 @@ module _ (d e : View) (x : Database Devices) where
         unspent = unspent;
         stops = stops;
         early = is_early;
-        over_net = over_net;
+        over_net = over;
         may = may-end y.1.room y.1.point status y.1.may;
-        replays = script-replays promised shape early status (database_flight x) s story start sound.well y.0;
+        replays = script-replays promised shape early over_net status (database_flight x) s story start sound.well y.0;
+        sent = sent-is sees x (setup_of x) shape early over_net asked start status story y.0.played.trace net y.3
+            (subst (λ (t : Status). IsNetLeft (over_net && ends_between t) (sees x None) (setup_of x) net) same left);
+        armed = y.2;
         drains = drained y.0.played.texts y.0.played.trace y.0.played.tells.played (sound-start y.0.played.trace y.0.played.tells) y.0.played.reads;
-        ends = ends-there e x shape asked status y.0.played.trace y.0.played.tells.played y.1;
+        ends = ends-there e x shape over_net asked status y.0.played.trace y.0.played.tells.played y.1;
       }
 
-    module _ (calls done : ℕ) (is_early : start.early ≡ false) (drained : DoTheirRests (λ lines. IsFrontOf lines (asked_by_load calls))) (asked : by_half (λ o. setup_in o.storage.shape o.storage.over_net) (λ g. setup_in g.storage.shape g.storage.over_net) no_setup x ≡ setup_in (shape_of (Load calls)) false) (stood : Finds d true (shape_of (Load calls)) start.kept) (old status : Status) (how : IsBehind old status)
-        (summed : IsSummary status (summary_text calls done story) s.before s.now) (y : (run : IsPlayedLoad start old (database_flight x) calls done story) × FoundAt e x old run.trace) where
+    module _ (calls done : ℕ) (is_early : start.early ≡ false) (over : start.over_net ≡ false) (drained : DoTheirRests (λ lines. IsFrontOf lines (asked_by_load calls)))
+        (asked : setup_of x ≡ setup_in (shape_of (Load calls)) false) (stood : Finds d true (shape_of (Load calls)) start.kept) (old status : Status) (how : IsBehind old status)
+        (summed : IsSummary status (summary_text calls done story) s.before s.now)
+        (y : (run : IsPlayedLoad start old (database_flight x) calls done story) × FoundAt e x old run.trace × Stops old (armed_by_lines d.armed run.trace) e.armed) where
       abbrev Loaded : Status → Type 0
-      Loaded t = (r : IsPlayedLoad start t (database_flight x) calls done story) × FoundAt e x t r.trace
+      Loaded t = (r : IsPlayedLoad start t (database_flight x) calls done story) × FoundAt e x t r.trace × Stops t (armed_by_lines d.armed r.trace) e.armed
 
       loaded : Loaded status
       loaded = by how
@@ -254,9 +353,9 @@ module _ (d e : View) (x : Database Devices) where
           by (inl same) = subst Loaded (sym same) y
           by (inr w) =
               subst Loaded (sym w.0)
-              (load-unwritten start old (database_flight x) calls done story w.1 y.0, unwritten-there e x old y.0.trace w.1 y.1)
+              (load-unwritten start old (database_flight x) calls done story w.1 y.0, unwritten-there e x old y.0.trace w.1 y.1, ends-unwritten old w.1 y.2)
 
-      pub load-over : RunsOver (Load calls) d e status (flight_at status (database_flight x)) s story
+      pub load-over : RunsOver (Load calls) d e status (flight_at status (database_flight x)) None s story
       load-over = record {
         start = start;
         stood = stood;
@@ -264,11 +363,13 @@ module _ (d e : View) (x : Database Devices) where
         unspent = unspent;
         stops = stops;
         early = is_early;
-        over_net = over_net;
+        over_net = over;
         may = may-end loaded.1.room loaded.1.point status loaded.1.may;
         replays = load-replays promised calls done status (database_flight x) s story start sound.well loaded.0 summed;
+        sent = refl;
+        armed = loaded.2;
         drains = drained loaded.0.trace loaded.0.tells.played (sound-start loaded.0.trace loaded.0.tells) (front-lines status calls (lines_of loaded.0.trace) loaded.0.lines);
-        ends = ends-there e x (shape_of (Load calls)) asked status loaded.0.trace loaded.0.tells.played loaded.1;
+        ends = ends-there e x (shape_of (Load calls)) false asked status loaded.0.trace loaded.0.tells.played loaded.1;
       }
 
 -- a workload that was not begun
@@ -306,17 +407,27 @@ unfound-counts d e reason status story never g how = by how
     by (inr w) =
         subst (λ (t : Status). CountsRun d e t story) (sym w.0) (run-unwritten d e (status_opening reason) story (λ m. w.1 (memory-reason reason never m)) first)
 
--- nothing was in flight
-pub flight-none : (status : Status) → flight_at status None ≡ None
-flight-none (NumbersSpent boot decisions) = refl
-flight-none status = refl
+-- each stop was armed before it came, where nothing was found
+pub unfound-stops : (d e : View) (reason : OpenErr) (status : Status) (story : List Event) → (reason ≡ open_err.Halted halt.Stopped → ⊥) → CountsOpening d e (open_disk_err_of reason) [] story →
+    IsStatusOf reason status → Stops status (armed_behind story (Some d.armed)) e.armed
+unfound-stops d e reason status story never g how = by how
+  where
+    first : Stops (status_opening reason) (armed_behind story (Some d.armed)) e.armed
+    first =
+        let h = subst (λ (a : Option DiskErr). CountsOpening d e a [] story) (answers-opening reason never) g in
+        subst (λ (left : Option (List (ℕ × ℕ))). Stops (status_opening reason) left e.armed)
+        (ap (λ (es : List Event). armed_along Nothing es (Some d.armed)) (sym h.grows) ∙ behind-along story (Some d.armed)) (opened-stops d e (status_opening reason) [] story h Nothing)
+
+    by : IsStatusOf reason status → Stops status (armed_behind story (Some d.armed)) e.armed
+    by (inl same) = subst (λ (t : Status). Stops t (armed_behind story (Some d.armed)) e.armed) (sym same) first
+    by (inr w) = subst (λ (t : Status). Stops t (armed_behind story (Some d.armed)) e.armed) (sym w.0) (ends-unwritten (status_opening reason) (λ m. w.1 (memory-reason reason never m)) first)
 
 -- AS ITS CALLER KNOWS IT: the status is the outcome, and the flight is told by that
 
-pub as-told : (command : Command) (d e : View) (s : Streams) (story : List Event) (old status : Status) (f told : Option Flight) → status ≡ old → told ≡ flight_at status f →
-    Runs command d e old (flight_at old f) s story → Runs command d e status told s story
-as-told command d e s story old status f told same is h =
-    subst (λ (x : Option Flight). Runs command d e status x s story) (sym is) (subst (λ (t : Status). Runs command d e t (flight_at t f) s story) (sym same) h)
+pub as-told : (command : Command) (d e : View) (s : Streams) (story : List Event) (old status : Status) (f told : Option Flight) (net : Option (List NetEvent)) → status ≡ old → told ≡ flight_at status f →
+    Runs command d e old (flight_at old f) net s story → Runs command d e status told net s story
+as-told command d e s story old status f told net same is h =
+    subst (λ (x : Option Flight). Runs command d e status x net s story) (sym is) (subst (λ (t : Status). Runs command d e t (flight_at t f) net s story) (sym same) h)
 
 pub behind-outcome : (old mid status : Status) → mid ≡ old → (status ≡ mid) ⊎ ((status ≡ WriteFault) × (mid ≡ Memory → ⊥)) → IsBehind old status
 behind-outcome old mid status same h = subst (λ (t : Status). IsBehind t status) same h
@@ -324,7 +435,3 @@ behind-outcome old mid status same h = subst (λ (t : Status). IsBehind t status
 pub behind-faults : (d e : View) (story : List Event) (old status : Status) → IsBehind old status → CountsRun d e old story → AreFaultsOf status d.faults story e.faults
 behind-faults d e story old status (inl same) h = subst (λ (t : Status). AreFaultsOf t d.faults story e.faults) (sym same) h.faults
 behind-faults d e story old status (inr w) h = subst (λ (t : Status). AreFaultsOf t d.faults story e.faults) (sym w.0) (run-unwritten d e old story w.1 h).faults
-
-pub behind-stops : (d e : View) (story : List Event) (old status : Status) → IsBehind old status → CountsRun d e old story → AreStopsOf status d.armed story e.armed
-behind-stops d e story old status (inl same) h = subst (λ (t : Status). AreStopsOf t d.armed story e.armed) (sym same) h.stops
-behind-stops d e story old status (inr w) h = subst (λ (t : Status). AreStopsOf t d.armed story e.armed) (sym w.0) (run-unwritten d e old story w.1 h).stops

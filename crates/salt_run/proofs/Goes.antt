@@ -4,9 +4,11 @@ use Rattle.law_definitions.specs.Texts.{definition_in}
 use Rattle.salt_stands.specs.Fitting.{kept_in}
 use Rattle.salt_devices.specs.Refusing.{RefusedAs, Refuses}
 use Rattle.salt_disk.specs.Disks.{SameShape}
-use Rattle.salt_model.specs.Arming.{armed_behind}
 use Rattle.salt_model.specs.Kept.{Definition, Kept, WellKept, nothing_kept}
 use Rattle.salt_model.specs.Trace.{Trace}
+use Rattle.salt_net.specs.Agreed.{IsAgreed}
+use Rattle.salt_net.specs.Nets.{state_of}
+use Rattle.salt_net.specs.declared.kinds.NetEvent.{NetEvent}
 use Rattle.salt_promise.specs.Doing as promise
 use Rattle.salt_promise.specs.Given.{Run, shape_of}
 use Rattle.salt_promise.specs.Runs as promised
@@ -22,7 +24,6 @@ use Rattle.salt_run.proofs.Standing.{answers-salt, answers-shape, answers-spent}
 use Rattle.salt_run.proofs.Unopened.{IsEndOver, ended-spent, halted, unopened}
 use Rattle.salt_run.specs.Doing.{Does}
 use Rattle.salt_run.specs.Running.{FindsNothing, Runs}
-use Rattle.salt_promise.specs.Counting.{Stops}
 use Rattle.salt_loop.specs.Ending.{IsStatusOf}
 use Rattle.salt_stands.proofs.Pairs.{pair_same}
 use Rattle.salt_stands.specs.CoordinatorLog.{coordinator_generation, coordinator_in}
@@ -37,7 +38,7 @@ use Rattle.salt_place.specs.Placement.{IsParts}
 use Rattle.salt_place.specs.declared.placement.Shape.{Shape}
 use Rattle.salt_promise.specs.declared.command.Command.{Command}
 use Rattle.std.proofs.Common.{ap, inl, inr, subst, sym, ◌∙◌}
-use Rattle.std.specs.Prelude.{Bool, IsTrue, Some, [], false, refl, true, ℕ, ◌≡◌, ◌≤◌, ◌⊎◌}
+use Rattle.std.specs.Prelude.{Bool, IsTrue, List, [], false, refl, true, ℕ, ◌≡◌, ◌≤◌, ◌⊎◌}
 
 not-told : (told : Bool) → told ≡ false → IsTrue told → ⊥
 not-told told is t = let both : false ≡ true = sym is ∙ t in absurd (cc both)
@@ -58,12 +59,12 @@ ends-anyway halt.Memory status (inl is) full = subst EndsAnyway (sym is) (record
 
 module _ (reads : IsReader definition_in) (r : Run) (command : Command) (parts : IsParts (shape_of command).parts)
     (count : 26 ≤ r.before.devices.count) (shape : SameShape r.before.devices r.after.devices) (does : (trace : Trace) → Does command r.status (streams_of r) trace → promise.Does command r trace)
-    (stops : Stops r.status (armed_behind r.story (Some r.before.devices.armed)) r.after.devices.armed) where
+    (agrees : (events : List NetEvent) → IsAgreed (state_of events)) where
   abbrev Goes : Type 0
   Goes = promised.FindsNothing r command ⊎ promised.RunsOver r command
 
   -- NOTHING WAS FOUND
-  module _ (x : FindsNothing command r.before.devices r.after.devices r.status r.flight (streams_of r) r.story) where
+  module _ (x : FindsNothing command r.before.devices r.after.devices r.status r.flight r.net (streams_of r) r.story) where
     -- its reason is a refusal, and nothing was told
     refused : (reason : OpenErr) → x.reason ≡ reason → IsRefusal reason → r.story ≡ [] → Goes
     refused reason is some empty = inl (by-reason r command does reads parts count x empty reason is some)
@@ -72,7 +73,7 @@ module _ (reads : IsReader definition_in) (r : Run) (command : Command) (parts :
     mute : r.before.devices.told ≡ false → (k : Kept) → WellKept k → IsEndOver k r.status → Goes
     mute none k well ends =
         inr (unopened reads r command does x k well ends (λ told. absurd (not-told r.before.devices.told none told))
-        (λ told. absurd (not-told r.before.devices.told none (sym shape.told ∙ told))) stops)
+        (λ told. absurd (not-told r.before.devices.told none (sym shape.told ∙ told))))
 
     at-once : (reason : OpenErr) → x.reason ≡ reason → (IsLater reason → ⊥) → r.story ≡ []
     at-once reason is first = elim x.empty [ inl empty ↦ empty | inr later ↦ absurd (first (subst IsLater is later)) ]
@@ -102,7 +103,7 @@ module _ (reads : IsReader definition_in) (r : Run) (command : Command) (parts :
       opened h =
           inr (unopened reads r command does x (kept_in h.found) (well-here (shape_of command) r.before.devices.bytes h) (halted (kept_in h.found) e r.status status)
           (λ told. opens-here (shape_of command) r.before.devices.bytes reads h)
-          (x.rests (kept_in h.found) (λ told. record { image = r.before.devices.bytes; comes = λ dev low. refl; is = stands-here (shape_of command) r.before.devices.bytes h })) stops)
+          (x.rests (kept_in h.found) (λ told. record { image = r.before.devices.bytes; comes = λ dev low. refl; is = stands-here (shape_of command) r.before.devices.bytes h })))
 
       -- they are refused
       module _ (told : IsTrue r.before.devices.told) (h : RefusedHere (shape_of command) r.before.devices.bytes) where
@@ -121,7 +122,7 @@ module _ (reads : IsReader definition_in) (r : Run) (command : Command) (parts :
 
         answer : (a : Opening Definition) → AnswersTo (shape_of command) r.before.devices.bytes a → EndsRefused a r.status → Goes
         answer a answers ended =
-            inl (nothing r command does (x.replays any-start nothing-well) before.1 a (λ t. answers) ended (λ t. before.0))
+            inl (nothing r command does (x.replays any-start nothing-well) before.1 x.none a (λ t. answers) ended (λ t. before.0))
 
         by-refusal : (refusal : OpenErr) → IsRefusal refusal → RefusedAs (shape_of command) r.before.devices.bytes refusal → Goes
         by-refusal (NotSalt dev) some so = answer (opening.NotSalt dev) (answers-salt reads (shape_of command) r.before.devices.bytes dev so) (ends.salt dev)
@@ -142,6 +143,6 @@ module _ (reads : IsReader definition_in) (r : Run) (command : Command) (parts :
     found-nothing (NumbersSpent boot decisions) is = of-numbers boot decisions is
     found-nothing (Halted e) is = of-halt e is
 
-  pub goes : Runs command r.before.devices r.after.devices r.status r.flight (streams_of r) r.story → Goes
-  goes (inl x) = inr (over r reads command parts count x.may x (does x.replays.trace x.replays.does) stops)
+  pub goes : Runs command r.before.devices r.after.devices r.status r.flight r.net (streams_of r) r.story → Goes
+  goes (inl x) = inr (over r reads command parts count agrees x.may x (does x.replays.trace x.replays.does))
   goes (inr x) = found-nothing x x.reason refl

@@ -67,20 +67,21 @@ module _ (r : Run) (command : Command) (does : (trace : Trace) → Does command 
     begun : replays.trace ≡ from any-start
     begun = unbegun replays.trace replays.played.played (replays.played.told ∙ empty) ∙ ap from replays.played.begins
 
-    pub nothing : (answer : Opening Definition) → (IsTrue r.before.devices.told → AnswersTo (shape_of command) r.before.devices.bytes answer) → EndsRefused answer r.status →
+    pub nothing : r.net ≡ None → (answer : Opening Definition) → (IsTrue r.before.devices.told → AnswersTo (shape_of command) r.before.devices.bytes answer) → EndsRefused answer r.status →
         (IsTrue r.before.devices.told → AreAsBefore (may_have_failed r.status) r.before.devices r.after.devices) → promised.FindsNothing r command
-    nothing answer is ends before = record {
+    nothing none answer is ends before = record {
       answer = answer;
       is = is;
       ends = ends;
       story = empty;
       flight = untold r.status any-start r.flight (subst (λ (t : Trace). IsFlightTold r.status t r.flight) begun replays.flies);
+      net = none;
       does = subst (promise.Does command r) begun (does replays.trace replays.does);
       devices = before;
     }
 
   module _ (reads : IsReader definition_in) (parts : IsParts (shape_of command).parts) (count : 26 ≤ r.before.devices.count)
-      (x : FindsNothing command r.before.devices r.after.devices r.status r.flight (streams_of r) r.story) (empty : r.story ≡ []) where
+      (x : FindsNothing command r.before.devices r.after.devices r.status r.flight r.net (streams_of r) r.story) (empty : r.story ≡ []) where
     -- its refusal, by the bytes that were there
     module _ (reason : OpenErr) (is : x.reason ≡ reason) (some : reason ≡ open_err.Halted halt.Memory → ⊥) (refusal : IsRefusal reason) where
       refused : Refuses r.before.devices true (shape_of command) reason
@@ -89,7 +90,7 @@ module _ (r : Run) (command : Command) (does : (trace : Trace) → Does command 
       pub by-answer : (answer : Opening Definition) → ((bytes : ℕ → List ℕ) → RefusedAs (shape_of command) bytes reason → AnswersTo (shape_of command) bytes answer) →
           EndsRefused answer (status_opening reason) → EndsRefused answer WriteFault → promised.FindsNothing r command
       by-answer answer answers own failed =
-          nothing (x.replays any-start nothing-well) empty answer
+          nothing (x.replays any-start nothing-well) empty x.none answer
           (λ told. answers r.before.devices.bytes (refuses-held r.before.devices (shape_of command) parts count told reason refused))
           (ends (subst (λ (e : OpenErr). IsStatusOf e r.status) is x.is))
           (λ told. (x.unwritten reason refusal refused told).0)

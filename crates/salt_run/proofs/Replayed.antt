@@ -27,9 +27,9 @@ module _ (promised : (trace : Trace) → IsPlayed trace → WellKept (start_of t
   pub keeps : (start : Start) (trace : Trace) (story : List Event) → WellKept start.kept → Tells start trace story → Promises trace
   keeps start trace story well tells = promised trace tells.played (subst (λ (s : Start). WellKept s.kept) (sym tells.begins) well)
 
-  abbrev pub script-replays : (shape : Shape) (early : Bool) (status : Status) (f : Option Flight) (s : Streams) (story : List Event) (start : Start) → WellKept start.kept →
-      IsRun start status f s.script s.left s.before story s.now → Replays (Script shape early) status (flight_at status f) s story start
-  script-replays shape early status f s story start well x =
+  abbrev pub script-replays : (shape : Shape) (early over_net : Bool) (status : Status) (f : Option Flight) (s : Streams) (story : List Event) (start : Start) → WellKept start.kept →
+      IsRun start status f s.script s.left s.before story s.now → Replays (Script shape early over_net) status (flight_at status f) s story start
+  script-replays shape early over_net status f s story start well x =
       let p = x.played in
       record {
         trace = p.trace;

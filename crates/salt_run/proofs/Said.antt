@@ -4,7 +4,7 @@ use Rattle.salt_promise.specs.Given.{shape_of}
 use Rattle.salt_place.specs.Placement.{IsParts}
 use Rattle.salt_place.specs.declared.placement.PlaceKind.{PlaceKind}
 use Rattle.salt_values.specs.declared.limits.TheConstants.{PARTITIONS_MOST}
-use Rattle.salt_promise.specs.Words.{Given, Settings, all_given, command_of, command_said, count_said, early_given, early_said, folder_said, is_count, kind_said, load_said, parts_said, run_said, script_with, settings_given, settings_of, settings_said, values_of}
+use Rattle.salt_promise.specs.Words.{Given, Settings, all_given, command_of, command_said, count_said, early_given, folder_said, is_count, kind_said, load_said, net_given, once_said, parts_said, run_said, script_with, settings_given, settings_of, settings_said, values_of}
 use Rattle.salt_promise.specs.declared.command.Command.TheVariants.{Load, Script}
 use Rattle.salt_promise.specs.declared.command.Command.{Command}
 use Rattle.salt_promise.specs.declared.command.Setting.TheVariants.{Folder, Parts, Place}
@@ -44,22 +44,23 @@ parts-within [] n e =
 parts-within (count ∷ []) n e = count-within PARTITIONS_MOST count n e
 parts-within (count ∷ another ∷ counts) n e = absurd cc
 
-settings-parts : (o : Option ℕ) (f : Option (Option (List ℕ))) (kind : Option PlaceKind) (early : Option Bool) (s : Settings) → settings_of o f kind early ≡ Some s → o ≡ Some s.parts
-settings-parts (Some parts) (Some folder) (Some kind) (Some early) s e =
-    let same : Some (record { parts = parts; folder = folder; kind = kind; early = early }) ≡ Some s = e in
+settings-parts : (o : Option ℕ) (f : Option (Option (List ℕ))) (kind : Option PlaceKind) (early over : Option Bool) (s : Settings) → settings_of o f kind early over ≡ Some s → o ≡ Some s.parts
+settings-parts (Some parts) (Some folder) (Some kind) (Some early) (Some over) s e =
+    let same : Some (record { parts = parts; folder = folder; kind = kind; early = early; over_net = over }) ≡ Some s = e in
     ap (option_map (λ (x : Settings). x.parts)) same
-settings-parts (Some parts) (Some folder) (Some kind) None s e = absurd cc
-settings-parts (Some parts) (Some folder) None early s e = absurd cc
-settings-parts (Some parts) None kind early s e = absurd cc
-settings-parts None f kind early s e = absurd cc
+settings-parts (Some parts) (Some folder) (Some kind) (Some early) None s e = absurd cc
+settings-parts (Some parts) (Some folder) (Some kind) None over s e = absurd cc
+settings-parts (Some parts) (Some folder) None early over s e = absurd cc
+settings-parts (Some parts) None kind early over s e = absurd cc
+settings-parts None f kind early over s e = absurd cc
 
 given-within : (gs : Option (List Given)) (s : Settings) → option_and_then settings_given gs ≡ Some s → IsParts s.parts
 given-within None s e = absurd cc
-given-within (Some gs) s e = parts-within (values_of Parts gs) s.parts (settings-parts (parts_said (values_of Parts gs)) (folder_said (values_of Folder gs)) (kind_said (values_of Place gs)) (early_said (early_given gs)) s e)
+given-within (Some gs) s e = parts-within (values_of Parts gs) s.parts (settings-parts (parts_said (values_of Parts gs)) (folder_said (values_of Folder gs)) (kind_said (values_of Place gs)) (once_said (early_given gs)) (once_said (net_given gs)) s e)
 
 -- the limits of a command
 abbrev pub IsCommand : Command → Type 0
-IsCommand (Script shape early) = IsParts shape.parts
+IsCommand (Script shape early over_net) = IsParts shape.parts
 IsCommand (Load calls) = IsWithin CALLS_MOST calls
 
 run-within : (o : Option Settings) → ((s : Settings) → o ≡ Some s → IsParts s.parts) → (c : Command) → option_map script_with o ≡ Some c → IsCommand c
@@ -93,5 +94,5 @@ command-within words c e = said-within (map string_bytes words) c e
 
 -- it has one partition to eight
 pub parts-of-command : (c : Command) → IsCommand c → IsParts (shape_of c).parts
-parts-of-command (Script shape early) h = h
+parts-of-command (Script shape early over_net) h = h
 parts-of-command (Load calls) h = (omega arith, omega arith)

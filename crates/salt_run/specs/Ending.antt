@@ -3,17 +3,21 @@ use Rattle.salt_devices.specs.Filling.{Fills}
 use Rattle.salt_devices.specs.Leaving.{StandsFor}
 use Rattle.salt_disk.specs.Disks.{IsImage, View}
 use Rattle.law_states.specs.Points.{KeepsPoint, Point}
+use Rattle.law_states.specs.States.{State}
 use Rattle.salt_model.specs.Kept.{Kept}
 use Rattle.salt_model.specs.Trace.{Trace}
 use Rattle.salt_model.specs.declared.events.Flight.{Flight}
+use Rattle.salt_net.specs.declared.kinds.NetEvent.{NetEvent}
 use Rattle.salt_promise.specs.Ending.{AreSpentBehind, Flies, HasNumbers, IsInDoubt, IsLeftBehind}
 use Rattle.salt_promise.specs.Ways.{way_of}
 use Rattle.salt_promise.specs.declared.status.Status.{Status}
 use Rattle.salt_promise.specs.declared.status.Status.TheVariants.{DeviceFull, NumbersSpent}
 use Rattle.salt_loop.specs.Ending.{MayBeWritten}
+use Rattle.salt_storage.specs.Netted.{net_told}
+use Rattle.salt_storage.specs.Staying.{Setup}
 use Rattle.salt_storage.specs.Writing.{ToWrite}
 use Rattle.salt_place.specs.declared.placement.Shape.{Shape}
-use Rattle.std.specs.Prelude.{IsTrue, List, None, Option, ℕ, ◌≡◌}
+use Rattle.std.specs.Prelude.{Bool, IsTrue, List, None, Option, false, option_map, true, ℕ, ◌≡◌}
 
 -- an image of the devices stands for what is left, with the numbers that the status tells
 pub record StandsBehind (shape : Shape) (status : Status) (told : Option Flight) (trace : Trace) (image : ℕ → List ℕ) : Type 0 where
@@ -46,3 +50,13 @@ IsFlightTold status trace told = Flies (way_of status).flight trace told
 abbrev pub flight_at : Status → Option Flight → Option Flight
 flight_at (NumbersSpent boot decisions) flight = None
 flight_at status flight = flight
+
+-- how a database is given up: its net is given, or what was in flight is told
+abbrev pub flight_left : (given : Bool) → Status → Option Flight → Option Flight
+flight_left true status flight = None
+flight_left false status flight = flight_at status flight
+
+-- that net is what the commits of its run have come to
+abbrev pub IsNetLeft : (given : Bool) → (sees : State → Type 0) → Setup → Option (List NetEvent) → Type 0
+IsNetLeft true sees setup net = (s : State) → sees s → net ≡ option_map (λ t. t.events) (net_told setup s.net)
+IsNetLeft false sees setup net = net ≡ None

@@ -3,6 +3,7 @@ use Rattle.salt_devices.specs.Filling.{FillsIn}
 use Rattle.salt_devices.specs.Refusing.{Finds, Refuses}
 use Rattle.salt_disk.specs.Disks.{IsImage, View}
 use Rattle.salt_devices.specs.Leaving.{StandsFor}
+use Rattle.salt_model.specs.Arming.{armed_behind, armed_by_lines}
 use Rattle.salt_model.specs.Ends.{MayLeave}
 use Rattle.salt_model.specs.Everywhere.{Always, Each}
 use Rattle.salt_model.specs.Kept.{Kept, WellKept}
@@ -12,6 +13,7 @@ use Rattle.salt_model.specs.Trace.{Asked, Start, Trace, lines_of, start_of}
 use Rattle.salt_model.specs.declared.events.Event.{Event}
 use Rattle.salt_model.specs.declared.events.Flight.{Flight}
 use Rattle.salt_net.specs.declared.kinds.NetEvent.{NetEvent}
+use Rattle.salt_promise.specs.Counting.{Stops}
 use Rattle.salt_promise.specs.Promises.{Promises}
 use Rattle.salt_promise.specs.Runs.{AreAsBefore, IsNoRefusal, may_have_failed, net_left}
 use Rattle.salt_promise.specs.declared.status.Status.{Status}
@@ -31,7 +33,7 @@ use Rattle.salt_storage.specs.declared.halt.Halt.TheVariants as halt
 use Rattle.salt_storage.specs.declared.open.OpenErr.TheVariants.{Halted}
 use Rattle.salt_storage.specs.declared.open.OpenErr.{OpenErr}
 use Rattle.salt_promise.specs.declared.command.Command.{Command}
-use Rattle.std.specs.Prelude.{IsTrue, List, None, Option, [], false, true, ℕ, ◌≡◌, ◌⊎◌}
+use Rattle.std.specs.Prelude.{IsTrue, List, None, Option, Some, [], false, true, ℕ, ◌≡◌, ◌⊎◌}
 
 -- In each opening of a trace that is played from what may be kept, over such lines, no more statements are told than the programs that it
 -- found had left.
@@ -51,7 +53,7 @@ pub record Replays (command : Command) (status : Status) (flight : Option Flight
 
 -- A run over what the devices stood for when it began, blank ones for nothing, if they tell, with numbers that are not spent; and whether
 -- they can be stopped. Openings are early, and commits go over messages, where the command says so; then the net is what commits have come
--- to.
+-- to. Each stop was armed before it came.
 pub record RunsOver (command : Command) (old new : View) (status : Status) (flight : Option Flight) (net : Option (List NetEvent)) (s : Streams) (story : List Event) : Type 0 where
   pub start : Start
   pub stood : Finds old true (shape_of command) start.kept
@@ -63,6 +65,7 @@ pub record RunsOver (command : Command) (old new : View) (status : Status) (flig
   pub may : IsNoRefusal status
   pub replays : Replays command status flight s story start
   pub sent : net ≡ net_left command status replays.trace
+  pub armed : Stops status (armed_by_lines old.armed replays.trace) new.armed
   pub drains : Always DoesItsRests replays.trace
   pub ends : EndsBehind new (shape_of command) status flight replays.trace
 
@@ -76,6 +79,7 @@ pub record FindsNothing (command : Command) (old new : View) (status : Status) (
   pub unfound : IsUnfound story
   pub empty : (story ≡ []) ⊎ IsLater reason
   pub replays : (start : Start) → WellKept start.kept → Replays command status flight s story start
+  pub armed : Stops status (armed_behind story (Some old.armed)) new.armed
   pub rests : (k : Kept) → Finds old true (shape_of command) k → IsTrue new.told → (image : ℕ → List ℕ) → IsImage new image → StandsFor (shape_of command) image k
   pub full : (dev : ℕ) → status ≡ DeviceFull dev → FillsIn new (shape_of command) OfOpening dev
   pub unwritten : (refusal : OpenErr) → IsRefusal refusal → Refuses old true (shape_of command) refusal → IsTrue old.told → AreAsBefore (may_have_failed status) old new × (story ≡ [])

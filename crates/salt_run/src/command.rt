@@ -12,6 +12,7 @@ use crate::runs::{run_load, run_script};
 use law_definitions::definitions_are_read;
 use salt_disk::Disks;
 use salt_io::{Sink, Source};
+use salt_net::every_net_is_agreed;
 use salt_place::{PlaceKind, Placement};
 use salt_promise::{Command, Ended, Status};
 use salt_values::Key;
@@ -50,9 +51,10 @@ pub fn run<S: Source, K: Sink, D: Disks, F: Fn(PlaceKind, &Key, u32) -> u32>(
     }) }
     ensures untouched { result.status ≡ Status.Usage → (source.new ≡ source.old) × (sink.new ≡ sink.old) × (disks.new ≡ disks.old) }
 {
-    // For the proof alone: what holds of each story, and what reads definitions.
+    // For the proof alone: what holds of each story and of each net, and what reads definitions.
     played_keeps_promises();
     openings_do_their_rests();
+    every_net_is_agreed();
     definitions_are_read();
     match command_in(words) {
         Some(

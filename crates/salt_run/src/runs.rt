@@ -4,26 +4,28 @@ ghost use Rattle.salt_disk.specs.Settling.{AreSettled};
 ghost use Rattle.salt_disk.specs.Disks.{Rose};
 ghost use Rattle.salt_io.specs.Streams.{IsAtEnd};
 ghost use Rattle.salt_values.specs.declared.limits.TheConstants.{CALLS_MOST};
+ghost use Rattle.law_states.specs.States.{State};
 ghost use Rattle.salt_model.specs.Kept.{WellKept};
 ghost use Rattle.salt_model.specs.Lines.{AskInOrder};
 ghost use Rattle.salt_model.specs.Played.{IsPlayed};
 ghost use Rattle.salt_model.specs.Trace.{Trace, start_of};
 ghost use Rattle.salt_promise.specs.Given.{shape_of};
 ghost use Rattle.salt_run.specs.Doing.{streams};
-ghost use Rattle.salt_run.specs.Ending.{flight_at};
+ghost use Rattle.salt_run.specs.Ending.{IsNetLeft, flight_at, flight_left};
 ghost use Rattle.salt_promise.specs.Doing.{IsFrontOf};
 ghost use Rattle.salt_promise.specs.Promises.{Promises};
+ghost use Rattle.salt_promise.specs.Status.{ends_between};
 ghost use Rattle.salt_run.specs.Running.{DoTheirRests, Runs};
 ghost use Rattle.salt_run.specs.Summing.{IsSummary};
 ghost use Rattle.salt_devices.specs.Holding.{setup_in};
-ghost use Rattle.salt_loop.specs.Counted.{AreFaultsOf, AreStopsOf};
+ghost use Rattle.salt_loop.specs.Counted.{AreFaultsOf};
 ghost use Rattle.salt_loop.specs.Loading.{asked_by_load};
 ghost use Rattle.salt_loop.specs.Stopping.{outcome};
 ghost use Rattle.salt_storage.specs.Staying.{StaysWithin};
 ghost use Rattle.salt_workload.specs.Summary.{summary_text};
 ghost use Rattle.salt_place.specs.Placement.{GivesPlaceOf, IsParts, TakesEachKey};
 ghost use Rattle.salt_promise.specs.declared.command.Command.TheVariants.{Load, Script};
-ghost use Rattle.std.specs.Prelude.{List, Option, false, ℕ, ◌≡◌, ◌≢◌, ◌≤◌, ◌⊎◌};
+ghost use Rattle.std.specs.Prelude.{List, None, Option, false, true, ℕ, ◌&&◌, ◌≡◌, ◌≢◌, ◌≤◌, ◌⊎◌};
 
 use salt_database::{Database, Opening};
 use salt_devices::Devices;
@@ -35,7 +37,6 @@ use salt_model::{Flight, Story};
 use salt_net::Net;
 use salt_place::{PlaceKind, Placement, Shape};
 use salt_promise::{Command, Ended, Status};
-use salt_storage::Storage;
 use salt_values::Key;
 use salt_workload::print_summary;
 use sqlite_items::Items;
@@ -51,21 +52,26 @@ fn flight_at(status: Status, flight: Option<Flight>) -> Option<Flight>
     }
 }
 
-/// What a database leaves that is given up where its run ends so: the decision that was in flight, or between two lines the net that its
-/// commits have gone over, where they go over messages.
+/// Whether a run that ends so gives the net that its commits have gone over: where they go over messages, between two lines.
+fn gives_net(over_net: bool, status: Status) -> bool
+    ensures { result ≡ (over_net && ends_between status) }
+{
+    over_net && status.is_between()
+}
+
+/// What a database leaves that is given up where its run ends: the net that its commits have gone over, or the decision that was in flight.
 struct Leaving {
     flight: Option<Flight>,
     net: Option<Net>,
 }
 
 /// Gives a database up where its run ends.
-fn leave<S: Storage + Drop, D: Disks>(
-    database: Database<S>,
-    disks: &D,
-    status: Status,
-    over_net: bool,
-) -> Leaving {
-    if over_net && status.is_between() {
+fn leave<E: Openable, D: Disks>(database: E, disks: &D, status: Status, over_net: bool) -> Leaving
+    requires stands { over_net ≡ true → ends_between status ≡ true → (s : State) × E.sees (D.view disks.now) database None s }
+    ensures flight { result.flight ≡ flight_left (over_net && ends_between status) status (E.flight database) }
+    ensures net { IsNetLeft (over_net && ends_between status) (E.sees (D.view disks.now) database None) (E.asked database) result.net }
+{
+    if gives_net(over_net, status) {
         return Leaving {
             flight: None,
             net: database.into_net(disks),
@@ -117,7 +123,6 @@ pub fn run_script<S: Source, K: Sink, D: Disks, F: Fn(PlaceKind, &Key, u32) -> u
     ensures reads_later { S.faults source.old ≤ S.faults source.new }
     ensures writes_later { K.faults sink.old ≤ K.faults sink.new }
     ensures downs { AreFaultsOf result.status (D.view disks.old).faults result.story (D.view disks.new).faults }
-    ensures stops { over_net ≡ false → AreStopsOf result.status (D.view disks.old).armed result.story (D.view disks.new).armed }
     ensures within { StaysWithin (setup_in shape over_net) (setup_in shape over_net) (D.view disks.old) (D.view disks.new) }
 {
     let mut story = Items::new(alloc);
@@ -193,7 +198,6 @@ pub fn run_load<K: Sink, D: Disks, F: Fn(PlaceKind, &Key, u32) -> u32>(
     ensures no_write_fault { result.status ≢ Status.WriteFault → K.faults sink.new ≡ K.faults sink.old }
     ensures writes_later { K.faults sink.old ≤ K.faults sink.new }
     ensures downs { AreFaultsOf result.status (D.view disks.old).faults result.story (D.view disks.new).faults }
-    ensures stops { AreStopsOf result.status (D.view disks.old).armed result.story (D.view disks.new).armed }
     ensures within { StaysWithin (setup_in (shape_of (Load calls)) false) (setup_in (shape_of (Load calls)) false) (D.view disks.old) (D.view disks.new) }
 {
     let mut story = Items::new(alloc);

@@ -31,7 +31,7 @@ returns-clause-ok g c =
     let e = c.do_line-done.new.database in
     told-ok (g.E.Stepping.sees (view c.args.disks.now)) (g.E.Stepping.sees now) (g.E.Stepping.lies now e) (g.E.Stepping.left now e) (g.E.Stepping.fills now e) (g.E.Stepping.flight e) c.args.database.now e
     c.stands.ensures.idle c.stands.ensures.flown c.stands.ensures.left c.stands.ensures.told c.schema.result.now c.schema.ensures.serves c.schema.ensures.lies (option_copied c.args.text) c.args.story.now c.do_line-done.new.story c.events_behind.result.now
-    (g.K.Sink.held c.args.sink.now) (g.K.Sink.held c.write_done.new.sink) (c.events_behind.ensures ∙ ap (λ n. drop n c.do_line-done.new.story) c.len-told.ensures) c.do_line-done.result c.write_done.result c.do_line-done.ensures.ok c.write_done.ensures.written
+    (g.K.Sink.held c.args.sink.now) (g.K.Sink.held c.write_done.new.sink) (c.events_behind.ensures ∙ ap (λ n. drop n c.do_line-done.new.story) c.len-told.ensures) (view c.args.disks.now).armed now.armed c.do_line-done.result c.write_done.result c.do_line-done.ensures.ok c.write_done.ensures.written
 
 pub returns-clause-err : goal.returns-clause-err
 returns-clause-err g c =
@@ -40,7 +40,7 @@ returns-clause-err g c =
     let e = c.do_line-done.new.database in
     told-err (g.E.Stepping.sees (view c.args.disks.now)) (g.E.Stepping.sees now) (g.E.Stepping.lies now e) (g.E.Stepping.left now e) (g.E.Stepping.fills now e) (g.E.Stepping.flight e) c.args.database.now e
     c.stands.ensures.idle c.stands.ensures.flown c.stands.ensures.left c.stands.ensures.told c.schema.result.now c.schema.ensures.serves c.schema.ensures.lies (option_copied c.args.text) c.args.story.now c.do_line-done.new.story c.events_behind.result.now
-    (g.K.Sink.held c.args.sink.now) (g.K.Sink.held c.write_done.new.sink) (c.events_behind.ensures ∙ ap (λ n. drop n c.do_line-done.new.story) c.len-told.ensures) c.do_line-done.result c.write_done.result c.do_line-done.ensures.ok c.do_line-done.ensures.err c.do_line-done.ensures.later
+    (g.K.Sink.held c.args.sink.now) (g.K.Sink.held c.write_done.new.sink) (c.events_behind.ensures ∙ ap (λ n. drop n c.do_line-done.new.story) c.len-told.ensures) (view c.args.disks.now).armed now.armed c.do_line-done.result c.write_done.result c.do_line-done.ensures.ok c.do_line-done.ensures.err c.do_line-done.ensures.later
     c.write_done.ensures.written
 
 pub returns-clause-of_line : goal.returns-clause-of_line

@@ -4,7 +4,8 @@ use Rattle.salt_loop.proofs.Loads.{all-loaded, loading-begun, not-begun}
 use Rattle.salt_loop.proofs.Outcomes.{done-outcome, was-ok}
 use Rattle.salt_loop.proofs.loading.load.Goals as goal
 use Rattle.salt_loop.specs.Counted.{CountsAdded}
-use Rattle.salt_loop.specs.Stopping.{outcome, status_of}
+use Rattle.salt_loop.specs.Stopping.{answer_of, outcome, status_of}
+use Rattle.salt_driver.specs.Counting.{CountsOpening}
 use Rattle.salt_storage.proofs.Staying.{stays-behind}
 use Rattle.std.proofs.Common.{arith, subst}
 
@@ -12,11 +13,11 @@ pub start-requires-clause-down : goal.start-requires-clause-down
 start-requires-clause-down g c = let b = c.requires.begins in (b.0, b.1, b.2.down)
 
 pub returns-in-Err-clause-ended : goal.returns-in-Err-clause-ended
-returns-in-Err-clause-ended g c = λ start trace begins.
+returns-in-Err-clause-ended g c = λ start trace begins first is.
     let now = g.D.Disks.view c.start.new.disks in
     let e = c.start.new.database in
-    not-begun (g.E.Stepping.lies now e) (g.E.Stepping.left now e) (g.E.Stepping.fills now e) (g.E.Stepping.flight e) c.args.calls start trace c.start.new.story c.in-Err.stop c.in-Err.ensures.later begins.unasked
-    (c.in-Err.ensures.err start trace begins.down)
+    not-begun (g.E.Stepping.lies now e) (g.E.Stepping.left now e) (g.E.Stepping.fills now e) (g.E.Stepping.flight e) c.args.calls start trace c.args.story.now c.start.new.story (g.D.Disks.view c.args.disks.now) now
+    c.in-Err.stop c.in-Err.ensures.later begins.unasked c.in-Err.ensures.counts (c.in-Err.ensures.err start trace begins.down) first is
 
 pub returns-in-Err-clause-counts : goal.returns-in-Err-clause-counts
 returns-in-Err-clause-counts g c =
@@ -27,19 +28,20 @@ pub loop-i-init : goal.loop-i-init
 loop-i-init g c =
     let view = g.D.Disks.view in
     record {
-      over = λ start trace begins.
-          loading-begun (g.E.Stepping.sees (view c.start.new.disks)) c.args.calls start trace c.start.new.database c.args.story.now c.start.new.story begins.unasked
-          (was-ok c.start.result _ c.in_default.not-Err c.start.ensures.ok start trace begins.down);
+      over = λ start trace begins first is.
+          loading-begun (g.E.Stepping.sees (view c.start.new.disks)) c.args.calls start trace c.start.new.database c.args.story.now c.start.new.story (view c.args.disks.now) (view c.start.new.disks) begins.unasked
+          (subst (λ (s : Status). CountsOpening (view c.args.disks.now) (view c.start.new.disks) (answer_of s) c.args.story.now c.start.new.story) (done-outcome c.start.result c.in_default.not-Err) c.start.ensures.counts)
+          (was-ok c.start.result _ c.in_default.not-Err c.start.ensures.ok start trace begins.down) first is;
       within = c.start.ensures.within;
       counts = subst (λ (s : Status). CountsAdded (view c.args.disks.now) (view c.start.new.disks) s c.args.story.now c.start.new.story) (done-outcome c.start.result c.in_default.not-Err)
           (added-opened (view c.args.disks.now) (view c.start.new.disks) (outcome c.start.result) c.args.story.now c.start.new.story c.start.ensures.counts);
     }
 
 pub serve_load_line-requires-clause-stands : goal.serve_load_line-requires-clause-stands
-serve_load_line-requires-clause-stands g c = let b = c.requires.begins in (b.0, c.loop-i.invariant.over b.0 b.1 b.2)
+serve_load_line-requires-clause-stands g c = let b = c.requires.begins in (b.0, b.3, c.loop-i.invariant.over b.0 b.1 b.2 b.3 b.4)
 
 pub returns-in-Err-serve_load_line-clause-ended : goal.returns-in-Err-serve_load_line-clause-ended
-returns-in-Err-serve_load_line-clause-ended g c = λ start trace begins. c.in-Err-serve_load_line.ensures.err start (c.loop-i.invariant.over start trace begins)
+returns-in-Err-serve_load_line-clause-ended g c = λ start trace begins first is. c.in-Err-serve_load_line.ensures.err start first (c.loop-i.invariant.over start trace begins first is)
 
 pub returns-in-Err-serve_load_line-clause-within : goal.returns-in-Err-serve_load_line-clause-within
 returns-in-Err-serve_load_line-clause-within g c = stays-behind c.loop-i.invariant.within c.serve_load_line.ensures.within
@@ -54,7 +56,8 @@ pub loop-i-preserved : goal.loop-i-preserved
 loop-i-preserved g c =
     let view = g.D.Disks.view in
     record {
-      over = λ start trace begins. was-ok c.serve_load_line.result _ c.in_default-serve_load_line.not-Err c.serve_load_line.ensures.ok start (c.loop-i.invariant.over start trace begins);
+      over = λ start trace begins first is.
+          was-ok c.serve_load_line.result _ c.in_default-serve_load_line.not-Err c.serve_load_line.ensures.ok start first (c.loop-i.invariant.over start trace begins first is);
       within = stays-behind c.loop-i.invariant.within c.serve_load_line.ensures.within;
       counts = added-both (view c.args.disks.now) (view c.loop-i.disks) (view c.serve_load_line.new.disks) _ c.args.story.now c.loop-i.story c.serve_load_line.new.story c.loop-i.invariant.counts
           (subst (λ (s : Status). CountsAdded (view c.loop-i.disks) (view c.serve_load_line.new.disks) s c.loop-i.story c.serve_load_line.new.story)
@@ -62,10 +65,10 @@ loop-i-preserved g c =
     }
 
 pub returns-clause-ended : goal.returns-clause-ended
-returns-clause-ended g c = λ start trace begins.
+returns-clause-ended g c = λ start trace begins first is.
     let now = g.D.Disks.view c.loop-i.disks in
     let e = c.loop-i.database in
-    all-loaded (g.E.Stepping.sees now) start c.args.calls c.loop-i.i e c.loop-i.story (c.loop-i.invariant.over start trace begins) (g.E.Stepping.lies now e) (g.E.Stepping.left now e) (g.E.Stepping.fills now e)
+    all-loaded (g.E.Stepping.sees now) start c.args.calls c.loop-i.i e c.loop-i.story first now.armed (c.loop-i.invariant.over start trace begins first is) (g.E.Stepping.lies now e) (g.E.Stepping.left now e) (g.E.Stepping.fills now e)
     (g.E.Stepping.flight e) c.stands.ensures.idle c.stands.ensures.flown c.stands.ensures.left (omega arith) c.line_count.result c.line_count.ensures
 
 pub returns-clause-within : goal.returns-clause-within

@@ -1,9 +1,11 @@
 use Rattle.salt_loop.proofs.Counts.{halt-counted, line-counted}
-use Rattle.salt_loop.proofs.Continuing.{IfErr-both, on-ok-both}
+use Rattle.salt_loop.proofs.Armed.{ends-resumed, line-halts, line-stays, stays-resumed}
+use Rattle.salt_loop.proofs.Continuing.{err-resumed, ok-resumed}
 use Rattle.salt_loop.proofs.LoadSpelled.{account-spelled, transfer-spelled}
 use Rattle.salt_loop.proofs.Loads.{asked-by-load, ends-loading, line-loaded, loaded-behind}
 use Rattle.salt_loop.proofs.loading.load_one.Goals as goal
-use Rattle.salt_loop.specs.Stopping.{outcome}
+use Rattle.salt_loop.specs.Stopping.{outcome, status_of}
+use Rattle.salt_storage.specs.Answers.{disk_err_of}
 use Rattle.salt_storage.proofs.Staying.{stays-behind}
 
 pub step-requires-clause-served : goal.step-requires-clause-served
@@ -17,33 +19,50 @@ step-requires-clause-key g c =
     (asked-by-load (account-spelled read) (transfer-spelled read) c.args.calls c.args.i c.args.line.now c.requires.is).1
 
 pub step-requires-clause-stands : goal.step-requires-clause-stands
-step-requires-clause-stands g c = let s = c.requires.stands in (s.0, s.1.trace, s.1.serves)
+step-requires-clause-stands g c = let s = c.requires.stands in (s.0, s.2.trace, s.2.serves)
 
 pub returns-in-Ok-clause-ok : goal.returns-in-Ok-clause-ok
-returns-in-Ok-clause-ok g c = λ start loading.
-    let view = g.D.Disks.view in
-    line-loaded (g.E.Stepping.sees (view c.args.disks.now)) start c.args.calls c.args.i c.args.database.now c.args.story.now loading c.args.line.now c.requires.within c.requires.is (g.E.Stepping.sees (view c.step.new.disks)) c.step.new.engine
-    c.step.new.story (c.in-Ok.ensures.segment start loading.trace loading.serves)
+returns-in-Ok-clause-ok g c = λ start first loading.
+    let old = g.D.Disks.view c.args.disks.now in
+    let now = g.D.Disks.view c.step.new.disks in
+    let goes = c.in-Ok.ensures.segment start loading.trace loading.serves in
+    line-loaded (g.E.Stepping.sees old) start c.args.calls c.args.i c.args.database.now c.args.story.now first old.armed loading c.args.line.now c.requires.within c.requires.is (g.E.Stepping.sees now) c.step.new.engine
+    c.step.new.story now.armed goes
+    (line-stays c.args.line.now old now c.args.story.now c.step.new.story loading.trace goes.after goes.grows goes.armed c.in-Ok.ensures.counts)
 
 pub returns-in-Ok-clause-counts : goal.returns-in-Ok-clause-counts
-returns-in-Ok-clause-counts g c = line-counted (g.D.Disks.view c.args.disks.now) (g.D.Disks.view c.step.new.disks) c.args.story.now c.step.new.story c.in-Ok.ensures.counts
+returns-in-Ok-clause-counts g c = line-counted c.args.line.now (g.D.Disks.view c.args.disks.now) (g.D.Disks.view c.step.new.disks) c.args.story.now c.step.new.story c.in-Ok.ensures.counts
 
 pub resume-requires-clause-halted : goal.resume-requires-clause-halted
-resume-requires-clause-halted g c = let s = c.requires.stands in let b = c.in-Err.ensures.broken_off s.0 s.1.trace s.1.serves in (s.0, b.after, b.halts)
+resume-requires-clause-halted g c = let s = c.requires.stands in let b = c.in-Err.ensures.broken_off s.0 s.2.trace s.2.serves in (s.0, b.after, b.halts)
 
 pub returns-in-Err-clause-ok : goal.returns-in-Err-clause-ok
-returns-in-Err-clause-ok g c = on-ok-both c.resume.result c.resume.ensures.ok c.resume.ensures.memory (λ reopens some start loading.
-    let view = g.D.Disks.view in
+returns-in-Err-clause-ok g c =
+    let old = g.D.Disks.view c.args.disks.now in
+    let mid = g.D.Disks.view c.step.new.disks in
+    let now = g.D.Disks.view c.resume.new.disks in
+    ok-resumed c.in-Err.halt mid now c.step.new.story c.resume.new.story c.resume.result (λ reopens some counts start first loading.
     let b = c.in-Err.ensures.broken_off start loading.trace loading.serves in
-    loaded-behind (g.E.Stepping.sees (view c.args.disks.now)) start c.args.calls c.args.i c.args.database.now c.args.story.now loading c.args.line.now c.requires.within c.requires.is _ _ _ _ c.in-Err.halt c.step.new.story c.resume.new.story b
-    (g.E.Stepping.sees (view c.resume.new.disks)) c.resume.new.database some (reopens start b.after b.halts))
+    let r = reopens start b.after b.halts in
+    loaded-behind (g.E.Stepping.sees old) start c.args.calls c.args.i c.args.database.now c.args.story.now first old.armed loading c.args.line.now c.requires.within c.requires.is _ _ _ _ c.in-Err.halt c.step.new.story
+    c.resume.new.story b now.armed (g.E.Stepping.sees now) c.resume.new.database some r
+    (stays-resumed loading.trace b.after c.step.new.story c.resume.new.story old mid now r.after r.grows r.along.armed c.in-Err.halt
+    (line-halts c.args.line.now old mid c.args.story.now c.step.new.story loading.trace b.after b.grows b.armed (disk_err_of c.in-Err.halt) c.in-Err.ensures.counts) counts))
+    c.resume.ensures.ok c.resume.ensures.memory c.resume.ensures.counts
 
 pub returns-in-Err-clause-err : goal.returns-in-Err-clause-err
-returns-in-Err-clause-err g c = IfErr-both c.resume.result _ _ _ (λ stop ends later start loading.
-    let view = g.D.Disks.view in
+returns-in-Err-clause-err g c =
+    let old = g.D.Disks.view c.args.disks.now in
+    let mid = g.D.Disks.view c.step.new.disks in
+    let now = g.D.Disks.view c.resume.new.disks in
+    err-resumed c.in-Err.halt mid now c.step.new.story c.resume.new.story c.resume.result _ _ (λ stop ends later counts start first loading.
     let b = c.in-Err.ensures.broken_off start loading.trace loading.serves in
-    ends-loading (g.E.Stepping.sees (view c.args.disks.now)) start c.args.calls c.args.i c.args.database.now c.args.story.now loading c.args.line.now c.requires.within c.requires.is _ _ _ _ c.in-Err.halt c.step.new.story c.resume.new.story b
-    _ _ _ _ stop later (ends start b.after b.halts)) c.resume.ensures.err c.resume.ensures.later
+    let x = ends start b.after b.halts in
+    ends-loading (g.E.Stepping.sees old) start c.args.calls c.args.i c.args.database.now c.args.story.now first old.armed loading c.args.line.now c.requires.within c.requires.is _ _ _ _ c.in-Err.halt c.step.new.story
+    c.resume.new.story b now.armed _ _ _ _ stop later x
+    (ends-resumed loading.trace b.after c.step.new.story c.resume.new.story old mid now x.after x.grows x.along.armed c.in-Err.halt
+    (line-halts c.args.line.now old mid c.args.story.now c.step.new.story loading.trace b.after b.grows b.armed (disk_err_of c.in-Err.halt) c.in-Err.ensures.counts) (status_of stop) counts))
+    c.resume.ensures.err c.resume.ensures.later c.resume.ensures.counts
 
 pub returns-in-Err-clause-within : goal.returns-in-Err-clause-within
 returns-in-Err-clause-within g c = stays-behind c.step.ensures.within c.resume.ensures.within
@@ -51,5 +70,5 @@ returns-in-Err-clause-within g c = stays-behind c.step.ensures.within c.resume.e
 pub returns-in-Err-clause-counts : goal.returns-in-Err-clause-counts
 returns-in-Err-clause-counts g c =
     let view = g.D.Disks.view in
-    halt-counted (view c.args.disks.now) (view c.step.new.disks) (view c.resume.new.disks) (outcome c.resume.result) c.args.story.now c.step.new.story c.resume.new.story c.in-Err.halt
+    halt-counted c.args.line.now (view c.args.disks.now) (view c.step.new.disks) (view c.resume.new.disks) (outcome c.resume.result) c.args.story.now c.step.new.story c.resume.new.story c.in-Err.halt
     c.in-Err.ensures.counts c.resume.ensures.counts

@@ -1,3 +1,4 @@
+use Rattle.salt_model.specs.Arming.{armed_by_lines}
 use Rattle.salt_model.specs.EventTexts.{story_text}
 use Rattle.salt_model.specs.Trace.{Start, Trace}
 use Rattle.salt_model.specs.declared.events.Event.{Event}
@@ -14,7 +15,7 @@ use Rattle.salt_loop.specs.Serving.{EndsWriting, IsBegun, IsToBegin}
 use Rattle.salt_loop.specs.Stopping.{outcome, status_of}
 use Rattle.std.proofs.Common.{subst}
 use Rattle.std.proofs.lemmas.Result.{IfErr-weaker, on_ok_weaker}
-use Rattle.std.specs.Prelude.{List, Option, ℕ}
+use Rattle.std.specs.Prelude.{List, Option, Some, ℕ, ◌≡◌}
 
 pub start-done-requires-clause-down : goal.start-done-requires-clause-down
 start-done-requires-clause-down g c = let b = c.requires.begins in (b.0, b.1, b.2.down)
@@ -40,10 +41,10 @@ returns-clause-ok g c =
     let now = g.D.Disks.view c.start-done.new.disks in
     let e = c.start-done.new.database in
     ok-for-all Start Trace (λ start trace. IsToBegin (g.E.Stepping.lies old c.args.database.now) (g.E.Stepping.flight c.args.database.now) start c.args.story.now trace) c.write_done.result
-    (λ start trace. IsBegun (g.E.Stepping.sees now) start e c.start-done.new.story (g.K.Sink.held c.args.sink.now) (g.K.Sink.held c.write_done.new.sink)) (λ start trace begins.
+    (λ start trace. (first : List (ℕ × ℕ)) → armed_by_lines first trace ≡ Some old.armed → IsBegun (g.E.Stepping.sees now) start e c.start-done.new.story (g.K.Sink.held c.args.sink.now) (g.K.Sink.held c.write_done.new.sink) first now.armed) (λ start trace begins.
     begun-ok (g.E.Stepping.sees now) (g.E.Stepping.lies now e) (g.E.Stepping.left now e) (g.E.Stepping.fills now e) (g.E.Stepping.flight e) e c.stands.ensures.idle c.stands.ensures.flown c.stands.ensures.left c.stands.ensures.told
-    c.schema.result.now c.schema.ensures.serves c.schema.ensures.lies c.args.story.now c.start-done.new.story (g.K.Sink.held c.args.sink.now) (g.K.Sink.held c.write_done.new.sink) start trace begins.unasked
-    c.start-done.result c.write_done.result (on_ok_weaker c.start-done.result (λ opened. opened start trace begins.down) c.start-done.ensures.ok)
+    c.schema.result.now c.schema.ensures.serves c.schema.ensures.lies c.args.story.now c.start-done.new.story (g.K.Sink.held c.args.sink.now) (g.K.Sink.held c.write_done.new.sink) start trace begins.unasked old now
+    c.start-done.result c.write_done.result (on_ok_weaker c.start-done.result (λ opened. opened start trace begins.down) c.start-done.ensures.ok) c.start-done.ensures.counts
     (subst (λ (es : List Event). EndsWriting c.start-done.result (story_text c.schema.result.now es) (g.K.Sink.held c.args.sink.now) (g.K.Sink.held c.write_done.new.sink) c.write_done.result)
     c.as_slice.ensures c.write_done.ensures.written))
 
@@ -53,12 +54,12 @@ returns-clause-stops g c =
     let now = g.D.Disks.view c.start-done.new.disks in
     let e = c.start-done.new.database in
     err-for-all Start Trace (λ start trace. IsToBegin (g.E.Stepping.lies old c.args.database.now) (g.E.Stepping.flight c.args.database.now) start c.args.story.now trace) c.write_done.result
-    (λ start trace stop. (script rest : Option (List ℕ)) → EndsServing (g.E.Stepping.lies now e) (g.E.Stepping.left now e) (g.E.Stepping.fills now e) (g.E.Stepping.flight e) start (status_of stop) script rest
-    (g.K.Sink.held c.args.sink.now) c.start-done.new.story (g.K.Sink.held c.write_done.new.sink)) (λ start trace begins.
+    (λ start trace stop. (script rest : Option (List ℕ)) (first : List (ℕ × ℕ)) → armed_by_lines first trace ≡ Some old.armed → EndsServing (g.E.Stepping.sees now) (g.E.Stepping.lies now e) (g.E.Stepping.left now e) (g.E.Stepping.fills now e) (g.E.Stepping.flight e) start (status_of stop) script rest
+    (g.K.Sink.held c.args.sink.now) e c.start-done.new.story (g.K.Sink.held c.write_done.new.sink) first now.armed) (λ start trace begins.
     begun-err (g.E.Stepping.sees now) (g.E.Stepping.lies now e) (g.E.Stepping.left now e) (g.E.Stepping.fills now e) (g.E.Stepping.flight e) e c.stands.ensures.idle c.stands.ensures.flown c.stands.ensures.left c.stands.ensures.told
-    c.schema.result.now c.schema.ensures.serves c.schema.ensures.lies c.args.story.now c.start-done.new.story (g.K.Sink.held c.args.sink.now) (g.K.Sink.held c.write_done.new.sink) start trace begins.unasked
+    c.schema.result.now c.schema.ensures.serves c.schema.ensures.lies c.args.story.now c.start-done.new.story (g.K.Sink.held c.args.sink.now) (g.K.Sink.held c.write_done.new.sink) start trace begins.unasked old now
     c.start-done.result c.write_done.result (on_ok_weaker c.start-done.result (λ opened. opened start trace begins.down) c.start-done.ensures.ok)
-    (IfErr-weaker c.start-done.result _ _ (λ stop ends. ends start trace begins.down) c.start-done.ensures.err) c.start-done.ensures.later
+    (IfErr-weaker c.start-done.result _ _ (λ stop ends. ends start trace begins.down) c.start-done.ensures.err) c.start-done.ensures.later c.start-done.ensures.counts
     (subst (λ (es : List Event). EndsWriting c.start-done.result (story_text c.schema.result.now es) (g.K.Sink.held c.args.sink.now) (g.K.Sink.held c.write_done.new.sink) c.write_done.result)
     c.as_slice.ensures c.write_done.ensures.written))
 

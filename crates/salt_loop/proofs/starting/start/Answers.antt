@@ -21,7 +21,7 @@ returns-in-Err-clause-err g c = λ start trace down.
     let left = g.E.Stepping.left view e in
     let fills = g.E.Stepping.fills view e in
     let flies = g.E.Stepping.flight e in
-    subst (λ (s : Stop). EndsOpening lies left fills flies s start trace c.open.new.story) (sym c.stop_opening.ensures.is)
+    subst (λ (s : Stop). EndsOpening lies left fills flies s start trace c.args.story.now c.open.new.story) (sym c.stop_opening.ensures.is)
     (ends-early lies left fills flies c.in-Err.e start trace c.args.story.now c.open.new.story (c.in-Err.ensures.err start trace down))
 
 pub returns-in-Err-clause-later : goal.returns-in-Err-clause-later

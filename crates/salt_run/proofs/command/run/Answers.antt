@@ -14,8 +14,9 @@ run_script-requires-clause-parts g c =
     let x = c.in-Some-Script.field-0-is in
     let y = c.in-Some-Script.shape-is in
     let z = c.in-Some-Script.early-is in
-    let is : command_of c.args.words.now ≡ Some (Script c.in-Some-Script.shape c.in-Some-Script.early) = cc in
-    command-within c.args.words.now (Script c.in-Some-Script.shape c.in-Some-Script.early) is
+    let w = c.in-Some-Script.over_net-is in
+    let is : command_of c.args.words.now ≡ Some (Script c.in-Some-Script.shape c.in-Some-Script.early c.in-Some-Script.over_net) = cc in
+    command-within c.args.words.now (Script c.in-Some-Script.shape c.in-Some-Script.early c.in-Some-Script.over_net) is
 
 pub returns-in-Some-Script-clause-runs : goal.returns-in-Some-Script-clause-runs
 returns-in-Some-Script-clause-runs g c =
@@ -24,7 +25,8 @@ returns-in-Some-Script-clause-runs g c =
     let x = c.in-Some-Script.field-0-is in
     let y = c.in-Some-Script.shape-is in
     let z = c.in-Some-Script.early-is in
-    let is : command_of c.args.words.now ≡ Some (Script c.in-Some-Script.shape c.in-Some-Script.early) = cc in
+    let w = c.in-Some-Script.over_net-is in
+    let is : command_of c.args.words.now ≡ Some (Script c.in-Some-Script.shape c.in-Some-Script.early c.in-Some-Script.over_net) = cc in
     let e = c.run_script.new in
     let h = c.run_script.ensures in
     let r : Run = record {
@@ -34,9 +36,10 @@ returns-in-Some-Script-clause-runs g c =
       status = c.run_script.result.status;
       flight = c.run_script.result.flight;
       story = c.run_script.result.story;
+      net = c.run_script.result.net;
     } in
-    script-runs (record { each = c.definitions_are_read.ensures }) r c.requires.devices h.read_fault h.no_read_fault h.reads_later h.write_fault h.no_write_fault h.writes_later h.downs h.stops
-    c.in-Some-Script.shape c.in-Some-Script.early is (command-within c.args.words.now (Script c.in-Some-Script.shape c.in-Some-Script.early) is) h.within h.done h.runs
+    script-runs (record { each = c.definitions_are_read.ensures }) r c.requires.devices h.read_fault h.no_read_fault h.reads_later h.write_fault h.no_write_fault h.writes_later h.downs c.every_net_is_agreed.ensures
+    c.in-Some-Script.shape c.in-Some-Script.early c.in-Some-Script.over_net is (command-within c.args.words.now (Script c.in-Some-Script.shape c.in-Some-Script.early c.in-Some-Script.over_net) is) h.within h.done h.runs
 
 pub run_load-requires-clause-drained : goal.run_load-requires-clause-drained
 run_load-requires-clause-drained g c = c.openings_do_their_rests.ensures.load c.in-Some-Load.calls
@@ -60,6 +63,7 @@ returns-in-Some-Load-clause-runs g c =
       status = c.run_load.result.status;
       flight = c.run_load.result.flight;
       story = c.run_load.result.story;
+      net = c.run_load.result.net;
     } in
-    load-runs (record { each = c.definitions_are_read.ensures }) r c.requires.devices (λ read. absurd (h.unread read)) (λ other. refl) still h.write_fault h.no_write_fault h.writes_later h.downs h.stops
+    load-runs (record { each = c.definitions_are_read.ensures }) r c.requires.devices (λ read. absurd (h.unread read)) (λ other. refl) still h.write_fault h.no_write_fault h.writes_later h.downs c.every_net_is_agreed.ensures
     c.in-Some-Load.calls is (command-within c.args.words.now (Load c.in-Some-Load.calls) is) h.within refl (h.runs left)

@@ -14,8 +14,8 @@ returns-in_err-next-clause-stops g c =
     let e = c.in_err-next.field-0.0 in
     let v = g.D.Disks.view c.args.disks.now in
     let old = c.args.database.now in
-    if_err_gives c.from_residual.result (stop_of e) _ c.from_residual.ensures.1 (λ start script before serving.
-    reading-stops (g.E.Stepping.sees v) start script before old c.args.self.now.lines (g.S.Source.left c.args.source.now) c.args.story.now (g.K.Sink.held c.args.sink.now) serving
+    if_err_gives c.from_residual.result (stop_of e) _ c.from_residual.ensures.1 (λ start script before first serving.
+    reading-stops (g.E.Stepping.sees v) start script before old c.args.self.now.lines (g.S.Source.left c.args.source.now) c.args.story.now (g.K.Sink.held c.args.sink.now) first v.armed serving
     (g.E.Stepping.lies v old) (g.E.Stepping.left v old) (g.E.Stepping.fills v old) (g.E.Stepping.flight old) c.stands.ensures.idle c.stands.ensures.flown c.stands.ensures.left (g.S.Source.left c.next_line.new.source) e
     (λ is. (c.next_line.ensures.fault_open (c.in_err-next.was ∙ ap Err is), c.next_line.ensures.cut_off (c.in_err-next.was ∙ ap Err is))) (λ is. c.next_line.ensures.too_long (c.in_err-next.was ∙ ap Err is)))
 
@@ -23,11 +23,11 @@ pub returns-in_err-next-clause-counts : goal.returns-in_err-next-clause-counts
 returns-in_err-next-clause-counts g c = reading-counted (g.D.Disks.view c.args.disks.now) c.args.story.now c.from_residual.result c.in_err-next.field-0.0 c.from_residual.ensures.1
 
 pub returns-in-End-clause-goes : goal.returns-in-End-clause-goes
-returns-in-End-clause-goes g c = λ start script before serving.
+returns-in-End-clause-goes g c = λ start script before first serving.
     let was = c.in_ok-next.was ∙ ap Ok c.in-End.is in
     let v = g.D.Disks.view c.args.disks.now in
     let old = c.args.database.now in (
-      done-ends (g.E.Stepping.sees v) start script before old c.args.self.now.lines (g.S.Source.left c.args.source.now) c.args.story.now (g.K.Sink.held c.args.sink.now) serving
+      done-ends (g.E.Stepping.sees v) start script before old c.args.self.now.lines (g.S.Source.left c.args.source.now) c.args.story.now (g.K.Sink.held c.args.sink.now) first v.armed serving
           (g.E.Stepping.lies v old) (g.E.Stepping.left v old) (g.E.Stepping.fills v old) (g.E.Stepping.flight old) c.stands.ensures.idle c.stands.ensures.flown c.stands.ensures.left (g.S.Source.left c.next_line.new.source)
           (c.next_line.ensures.end was),
       (c.next_line.ensures.of (c.next_line.ensures.end_told was)).1,
@@ -37,7 +37,7 @@ pub returns-in-End-clause-counts : goal.returns-in-End-clause-counts
 returns-in-End-clause-counts g c = added-none (g.D.Disks.view c.args.disks.now) c.args.story.now
 
 pub tell_line-requires-clause-stands : goal.tell_line-requires-clause-stands
-tell_line-requires-clause-stands g c = let s = c.requires.stands in (s.0, s.3.trace, s.3.serves)
+tell_line-requires-clause-stands g c = let s = c.requires.stands in (s.0, s.4.trace, s.4.serves)
 
 pub returns-in_err-tell_line-clause-stops : goal.returns-in_err-tell_line-clause-stops
 returns-in_err-tell_line-clause-stops g c =
@@ -52,10 +52,10 @@ returns-in_err-tell_line-clause-stops g c =
     (next-taken c.in_ok-next.next c.next_line.new.line.items (rest_of c.args.self.now.lines (g.S.Source.left c.args.source.now)) (rest_of c.next_line.new.self (g.S.Source.left c.next_line.new.source))
     c.args.self.now.lines.taken c.next_line.new.self not_end
     (λ is. c.next_line.ensures.line (c.in_ok-next.was ∙ ap Ok is)) (λ is. c.next_line.ensures.long (c.in_ok-next.was ∙ ap Ok is))) in
-    if_err_gives c.from_residual-in_err-tell_line.result e _ c.from_residual-in_err-tell_line.ensures.1 (λ start script before serving.
-    telling-ends (g.E.Stepping.sees (g.D.Disks.view c.args.disks.now)) start script before c.args.database.now c.args.self.now.lines (g.S.Source.left c.args.source.now) c.args.story.now (g.K.Sink.held c.args.sink.now) serving
+    if_err_gives c.from_residual-in_err-tell_line.result e _ c.from_residual-in_err-tell_line.ensures.1 (λ start script before first serving.
+    telling-ends (g.E.Stepping.sees (g.D.Disks.view c.args.disks.now)) start script before c.args.database.now c.args.self.now.lines (g.S.Source.left c.args.source.now) c.args.story.now (g.K.Sink.held c.args.sink.now) first (g.D.Disks.view c.args.disks.now).armed serving
     c.next_line.new.self (g.S.Source.left c.next_line.new.source) c.next_line.ensures.of (option_copied c.text_of-text.result) taken c.tell_line.new.story
-    (g.E.Stepping.lies now new) (g.E.Stepping.left now new) (g.E.Stepping.fills now new) (g.E.Stepping.flight new) (g.K.Sink.held c.tell_line.new.sink) (g.S.Source.left c.next_line.new.source) e c.in_err-tell_line.ensures.of_line
+    (g.E.Stepping.sees now) new (g.E.Stepping.lies now new) (g.E.Stepping.left now new) (g.E.Stepping.fills now new) (g.E.Stepping.flight new) (g.K.Sink.held c.tell_line.new.sink) (g.S.Source.left c.next_line.new.source) now.armed e c.in_err-tell_line.ensures.of_line
     (c.in_err-tell_line.ensures.err start serving.trace serving.serves))
 
 pub returns-in_err-tell_line-clause-counts : goal.returns-in_err-tell_line-clause-counts
@@ -65,7 +65,7 @@ returns-in_err-tell_line-clause-counts g c =
     c.from_residual-in_err-tell_line.ensures.1 c.in_err-tell_line.ensures.counts
 
 pub returns-clause-goes : goal.returns-clause-goes
-returns-clause-goes g c = λ start script before serving.
+returns-clause-goes g c = λ start script before first serving.
     let now = g.D.Disks.view c.tell_line.new.disks in
     let not_end : c.in_ok-next.next ≡ End → ⊥ = c.in_default.not-End in
     let taken : HasTaken (option_copied c.text_of-text.result) (rest_of c.args.self.now.lines (g.S.Source.left c.args.source.now)) (rest_of c.next_line.new.self (g.S.Source.left c.next_line.new.source))
@@ -75,6 +75,6 @@ returns-clause-goes g c = λ start script before serving.
     (next-taken c.in_ok-next.next c.next_line.new.line.items (rest_of c.args.self.now.lines (g.S.Source.left c.args.source.now)) (rest_of c.next_line.new.self (g.S.Source.left c.next_line.new.source))
     c.args.self.now.lines.taken c.next_line.new.self not_end
     (λ is. c.next_line.ensures.line (c.in_ok-next.was ∙ ap Ok is)) (λ is. c.next_line.ensures.long (c.in_ok-next.was ∙ ap Ok is))) in
-    line-done (g.E.Stepping.sees (g.D.Disks.view c.args.disks.now)) start script before c.args.database.now c.args.self.now.lines (g.S.Source.left c.args.source.now) c.args.story.now (g.K.Sink.held c.args.sink.now) serving
-    c.next_line.new.self (g.S.Source.left c.next_line.new.source) c.next_line.ensures.of (option_copied c.text_of-text.result) taken c.tell_line.new.story (g.E.Stepping.sees now) c.tell_line.new.database (g.K.Sink.held c.tell_line.new.sink)
+    line-done (g.E.Stepping.sees (g.D.Disks.view c.args.disks.now)) start script before c.args.database.now c.args.self.now.lines (g.S.Source.left c.args.source.now) c.args.story.now (g.K.Sink.held c.args.sink.now) first (g.D.Disks.view c.args.disks.now).armed serving
+    c.next_line.new.self (g.S.Source.left c.next_line.new.source) c.next_line.ensures.of (option_copied c.text_of-text.result) taken c.tell_line.new.story (g.E.Stepping.sees now) c.tell_line.new.database (g.K.Sink.held c.tell_line.new.sink) now.armed
     (c.in_ok-tell_line.ensures.ok start serving.trace serving.serves)
