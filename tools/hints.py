@@ -414,7 +414,7 @@ def of_state(line, known):
     if line.kind == "crash":
         return "these disks can't be stopped: stops are for a run in memory"
     if line.kind == "net":
-        return "commits don't go over messages yet"
+        return "commits go over messages with --net alone"
     program = "b" + "".join(words_of(line.command)[1:]) if line.kind == "go" else None
     unit = open_unit(known, line.session, program)
     if unit and unit.waits and unit.waits[-1].ended is None:
