@@ -9,7 +9,7 @@ use Rattle.salt_model.specs.declared.events.Why.TheVariants as why
 use Rattle.salt_loop.specs.Counted.{AreFaults, AreFaultsOf, AreMet, CountsAdded, CountsNothing, CountsResumed, CountsRun}
 use Rattle.salt_io.specs.declared.lines.LineErr.{LineErr}
 use Rattle.salt_promise.specs.declared.status.Status.{Status}
-use Rattle.salt_promise.specs.declared.status.Status.TheVariants.{DeviceFull, DiskFault, Done, Memory, NotSalt, NumbersSpent, OtherShape, ReadFault, ScriptTooLong, Usage, WriteFault}
+use Rattle.salt_promise.specs.declared.status.Status.TheVariants.{Broken, DeviceFull, DiskFault, Done, Memory, NotSalt, NumbersSpent, OtherShape, ReadFault, ScriptTooLong, TranscriptTooLong, Unread, Usage, WriteFault}
 use Rattle.salt_loop.specs.Stopping.{answer_of, outcome, status_of, stop_of}
 use Rattle.salt_loop.specs.declared.stop.Stop.{Stop}
 use Rattle.salt_driver.proofs.Counted.{counts-none}
@@ -114,6 +114,9 @@ pub memory-short : (status : Status) → answer_of status ≡ Some disk.Memory �
 memory-short Memory h = refl
 memory-short Done h = absurd cc
 memory-short Usage h = absurd cc
+memory-short Broken h = absurd cc
+memory-short Unread h = absurd cc
+memory-short TranscriptTooLong h = absurd cc
 memory-short ReadFault h = absurd cc
 memory-short WriteFault h = absurd cc
 memory-short DiskFault h = absurd cc
@@ -128,6 +131,9 @@ pub no-stop : (status : Status) → stops_in (answer_of status) ≡ 0
 no-stop Memory = refl
 no-stop Done = refl
 no-stop Usage = refl
+no-stop Broken = refl
+no-stop Unread = refl
+no-stop TranscriptTooLong = refl
 no-stop ReadFault = refl
 no-stop WriteFault = refl
 no-stop DiskFault = refl

@@ -11,7 +11,7 @@ use Rattle.salt_model.specs.declared.events.Flight.{Flight}
 use Rattle.salt_promise.specs.Counting.{Stops}
 use Rattle.salt_promise.specs.Status.{ends_between}
 use Rattle.salt_promise.specs.declared.status.Status.{Status}
-use Rattle.salt_promise.specs.declared.status.Status.TheVariants.{DeviceFull, Memory, NotSalt, NumbersSpent, OtherShape, Usage, WriteFault}
+use Rattle.salt_promise.specs.declared.status.Status.TheVariants.{Broken, DeviceFull, Memory, NotSalt, NumbersSpent, OtherShape, TranscriptTooLong, Unread, Usage, WriteFault}
 use Rattle.salt_loop.specs.Run.{IsFlightAt, IsRun, leave_of}
 use Rattle.salt_loop.specs.Stopping.{numbers_told, status_of, status_opening}
 use Rattle.salt_loop.specs.declared.stop.Stop.{Stop}
@@ -33,6 +33,9 @@ MayBeWritten p w = IsWrittenAt p w ⊎ ((p.state.units.phase ≡ Fallen) × (w �
 -- how a run may end over what was found: by no refusal of that; and by spent numbers only where it is down, and they are spent
 abbrev pub MayEndAt : ℕ → Point → Status → Type 0
 MayEndAt room p Usage = ⊥
+MayEndAt room p Broken = ⊥
+MayEndAt room p Unread = ⊥
+MayEndAt room p TranscriptTooLong = ⊥
 MayEndAt room p (NotSalt dev) = ⊥
 MayEndAt room p (OtherShape kept asked) = ⊥
 MayEndAt room p (NumbersSpent boot decisions) = (p.state.units.phase ≡ Fallen) × AreSpentAt room p boot decisions

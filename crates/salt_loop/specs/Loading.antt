@@ -12,7 +12,7 @@ use Rattle.salt_model.specs.declared.events.Flight.{Flight}
 use Rattle.salt_promise.specs.Counting.{Stops}
 use Rattle.salt_promise.specs.Doing.{IsFrontOf}
 use Rattle.salt_promise.specs.declared.status.Status.{Status}
-use Rattle.salt_promise.specs.declared.status.Status.TheVariants.{DeviceFull, DiskFault, Done, Memory, NotSalt, NumbersSpent, OtherShape, ReadFault, ScriptTooLong, Usage, WriteFault}
+use Rattle.salt_promise.specs.declared.status.Status.TheVariants.{Broken, DeviceFull, DiskFault, Done, Memory, NotSalt, NumbersSpent, OtherShape, ReadFault, ScriptTooLong, TranscriptTooLong, Unread, Usage, WriteFault}
 use Rattle.salt_loop.specs.Ending.{EndsFound}
 use Rattle.salt_loop.specs.Run.{IsFlightAt, leave_of}
 use Rattle.salt_stands.specs.Unspent.{OpensUnspent}
@@ -37,6 +37,9 @@ AreLoadLines (NumbersSpent boot decisions) calls lines = IsFrontOf lines (asked_
 AreLoadLines (NotSalt dev) calls lines = lines ≡ []
 AreLoadLines (OtherShape kept asked) calls lines = lines ≡ []
 AreLoadLines Usage calls lines = ⊥
+AreLoadLines Broken calls lines = ⊥
+AreLoadLines Unread calls lines = ⊥
+AreLoadLines TranscriptTooLong calls lines = ⊥
 AreLoadLines ReadFault calls lines = ⊥
 AreLoadLines ScriptTooLong calls lines = ⊥
 

@@ -12,7 +12,7 @@ use Rattle.salt_promise.specs.Doing.{AreLinesIn, AreLoadLines, Does}
 use Rattle.salt_promise.specs.Given.{Run, shape_of}
 use Rattle.salt_promise.specs.declared.command.Command.TheVariants.{Load, Script}
 use Rattle.salt_promise.specs.declared.command.Command.{Command}
-use Rattle.salt_promise.specs.declared.status.Status.TheVariants.{DeviceFull, DiskFault, Done, Memory, NotSalt, NumbersSpent, OtherShape, ReadFault, ScriptTooLong, Usage, WriteFault}
+use Rattle.salt_promise.specs.declared.status.Status.TheVariants.{Broken, DeviceFull, DiskFault, Done, Memory, NotSalt, NumbersSpent, OtherShape, ReadFault, ScriptTooLong, TranscriptTooLong, Unread, Usage, WriteFault}
 use Rattle.salt_promise.specs.declared.status.Status.{Status}
 use Rattle.salt_promise.specs.Runs.{EndsRefused, FindsNothing, IsNoRefusal, RunsAs, RunsOver, ends_reading, ends_writing}
 use Rattle.salt_promise.specs.Ways.{FirstLines, LinesWithin, way_of}
@@ -73,6 +73,9 @@ module _ (r : Run) (command : Command) (x : RunsAs r command) (m : MeetsNothing 
   by o Done e = inl refl
   by o Memory e = inr refl
   by o Usage e = absurd (subst IsNoRefusal e o.may)
+  by o Broken e = absurd (subst IsNoRefusal e o.may)
+  by o Unread e = absurd (subst IsNoRefusal e o.may)
+  by o TranscriptTooLong e = absurd (subst IsNoRefusal e o.may)
   by o ReadFault e = absurd (m.reads (subst (λ s. FailsOnly (ends_reading s) r.before.source r.after.source) e x.source).1)
   by o WriteFault e = absurd (m.writes (subst (λ s. FailsOnly (ends_writing s) r.before.sink r.after.sink) e x.sink).1)
   by o DiskFault e = absurd (m.devices (rose r.story r.before.devices.faults r.after.devices.faults (subst (λ s. Downs s r.before.devices.faults r.story r.after.devices.faults) e x.downs)))

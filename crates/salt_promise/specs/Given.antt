@@ -15,6 +15,9 @@ pub record Stream : Type 0 where
   pub bytes : Option (List ℕ)
   pub faults : ℕ
 
+abbrev pub stream : Option (List ℕ) → ℕ → Stream
+stream bytes faults = record { bytes = bytes; faults = faults }
+
 -- what a run reads from, writes to, and keeps its database on
 pub record World : Type 1 where
   pub source : Stream
@@ -22,7 +25,7 @@ pub record World : Type 1 where
   pub devices : View
 
 abbrev pub world : (left : Option (List ℕ)) → (reads : ℕ) → (held : Option (List ℕ)) → (writes : ℕ) → View → World
-world left reads held writes devices = record { source = record { bytes = left; faults = reads }; sink = record { bytes = held; faults = writes }; devices = devices }
+world left reads held writes devices = record { source = stream left reads; sink = stream held writes; devices = devices }
 
 -- the shape of the devices that a command asks for
 abbrev pub shape_of : Command → Shape

@@ -15,7 +15,7 @@ use Rattle.salt_promise.specs.Doing.{Does}
 use Rattle.salt_promise.specs.Ending.{Ends, Flies}
 use Rattle.salt_promise.specs.Given.{Run, early_of, over_net_of, shape_of}
 use Rattle.salt_promise.specs.declared.command.Command.{Command}
-use Rattle.salt_promise.specs.declared.status.Status.TheVariants.{DiskFault, Memory, NotSalt, NumbersSpent, OtherShape, ReadFault, Usage, WriteFault}
+use Rattle.salt_promise.specs.declared.status.Status.TheVariants.{Broken, DiskFault, Memory, NotSalt, NumbersSpent, OtherShape, ReadFault, TranscriptTooLong, Unread, Usage, WriteFault}
 use Rattle.salt_promise.specs.declared.status.Status.{Status}
 use Rattle.salt_promise.specs.Promises.{Promises}
 use Rattle.salt_promise.specs.Status.{ends_between}
@@ -78,6 +78,9 @@ pub record FindsNothing (r : Run) (command : Command) : Type 0 where
 
 abbrev pub IsNoRefusal : Status → Type 0
 IsNoRefusal Usage = ⊥
+IsNoRefusal Broken = ⊥
+IsNoRefusal Unread = ⊥
+IsNoRefusal TranscriptTooLong = ⊥
 IsNoRefusal (NotSalt dev) = ⊥
 IsNoRefusal (OtherShape kept asked) = ⊥
 IsNoRefusal status = ⊤

@@ -1,6 +1,6 @@
 -- How a run may end, by its status: one table.
 use Rattle.salt_model.specs.Ends.{AnyPlace, AtDevices, AtLineEnd, AtOutput, InAnOpening, Leave, NotBegun}
-use Rattle.salt_promise.specs.declared.status.Status.TheVariants.{DeviceFull, DiskFault, Done, Memory, NotSalt, NumbersSpent, OtherShape, ReadFault, ScriptTooLong, Usage, WriteFault}
+use Rattle.salt_promise.specs.declared.status.Status.TheVariants.{Broken, DeviceFull, DiskFault, Done, Memory, NotSalt, NumbersSpent, OtherShape, ReadFault, ScriptTooLong, TranscriptTooLong, Unread, Usage, WriteFault}
 use Rattle.salt_promise.specs.declared.status.Status.{Status}
 
 -- which lines are done: all; those whose end was read; those that end within a script's most bytes; some first ones; or none
@@ -36,6 +36,9 @@ abbrev pub way_of : Status → Way
 way_of Done = way AtLineEnd AllLines Whole Untold
 way_of Memory = way AnyPlace FirstLines Front MayBeTold
 way_of Usage = way NotBegun NoLines Whole Untold
+way_of Broken = way NotBegun NoLines Whole Untold
+way_of Unread = way NotBegun NoLines Whole Untold
+way_of TranscriptTooLong = way NotBegun NoLines Whole Untold
 way_of ReadFault = way AtLineEnd LinesRead Whole Untold
 way_of WriteFault = way AtOutput FirstLines Short Told
 way_of DiskFault = way InAnOpening FirstLines Whole Told

@@ -182,8 +182,17 @@ folder_named [] = None
 folder_named (word ∷ words) =
     if bytes_eq word (codes "run") then option_and_then (λ (settings : Settings). settings.folder) (settings_said words) else None
 
+-- the word `audit` alone, which asks for no run
+abbrev pub says_audit : List (List ℕ) → Bool
+says_audit [] = false
+says_audit (word ∷ []) = bytes_eq word (codes "audit")
+says_audit (word ∷ another ∷ words) = false
+
 abbrev pub command_of : List (String Global) → Option Command
 command_of words = command_said (map string_bytes words)
+
+abbrev pub asks_audit : List (String Global) → Bool
+asks_audit words = says_audit (map string_bytes words)
 
 abbrev pub folder_of : List (String Global) → Option (List ℕ)
 folder_of words = folder_named (map string_bytes words)

@@ -13,7 +13,7 @@ pub enum Status {
     Done,
     /// 1: memory ran out.
     Memory,
-    /// 2: the words are no command; nothing was read or written.
+    /// 2: the words are no command, nor `audit`; nothing was read or written.
     Usage,
     /// 3: the source failed.
     ReadFault,
@@ -31,6 +31,12 @@ pub enum Status {
     ScriptTooLong,
     /// 10: the boot or the decision number is at least 2^63.
     NumbersSpent { boot: u64, decisions: u64 },
+    /// 11: the transcript breaks a law.
+    Broken,
+    /// 12: the transcript is no text of a formed story.
+    Unread,
+    /// 13: the transcript has more than 67,108,864 bytes.
+    TranscriptTooLong,
 }
 
 impl Status {
@@ -60,6 +66,9 @@ impl Status {
             Status::OtherShape { .. } => 8,
             Status::ScriptTooLong => 9,
             Status::NumbersSpent { .. } => 10,
+            Status::Broken => 11,
+            Status::Unread => 12,
+            Status::TranscriptTooLong => 13,
         }
     }
 }
@@ -98,6 +107,11 @@ impl fmt::Display for Status {
             Status::ScriptTooLong => write!(f, "the script is longer than 16777216 bytes"),
             Status::NumbersSpent { boot, decisions } => {
                 write!(f, "numbers are spent: boot {boot}, decisions {decisions}")
+            }
+            Status::Broken => write!(f, "a law is broken"),
+            Status::Unread => write!(f, "not a transcript"),
+            Status::TranscriptTooLong => {
+                write!(f, "the transcript is longer than 67108864 bytes")
             }
         }
     }

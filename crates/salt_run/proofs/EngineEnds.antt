@@ -38,7 +38,7 @@ use Rattle.salt_promise.specs.Promises.{Promises}
 use Rattle.salt_promise.specs.Runs.{AreAsBefore, IsNoRefusal, may_have_failed, net_left}
 use Rattle.salt_promise.specs.Status.{ends_between}
 use Rattle.salt_promise.specs.declared.status.Status.{Status}
-use Rattle.salt_promise.specs.declared.status.Status.TheVariants.{Broken, DeviceFull, Done, Memory, NotSalt, NumbersSpent, OtherShape, ReadFault, ScriptTooLong, TranscriptTooLong, Unread, Usage, WriteFault}
+use Rattle.salt_promise.specs.declared.status.Status.TheVariants.{Broken, DeviceFull, Done, Memory, NotSalt, NumbersSpent, OtherShape, TranscriptTooLong, Unread, Usage, WriteFault}
 use Rattle.salt_run.proofs.Images.{stands-alone}
 use Rattle.salt_run.proofs.Over.{ends-behind}
 use Rattle.salt_run.proofs.Replayed.{load-replays, script-replays}
@@ -91,6 +91,9 @@ not-full status dev w f = let both : WriteFault ≡ DeviceFull dev = sym w ∙ f
 -- over what was found it ends by no refusal of that
 may-end : (room : ℕ) (p : Point) (status : Status) → MayEndAt room p status → IsNoRefusal status
 may-end room p Usage h = h
+may-end room p Broken h = h
+may-end room p Unread h = h
+may-end room p TranscriptTooLong h = h
 may-end room p (NotSalt dev) h = h
 may-end room p (OtherShape kept asked) h = h
 may-end room p status h = tt

@@ -12,7 +12,7 @@ use Rattle.salt_promise.specs.Runs.{AreAsBefore, EndsRefused, may_have_failed}
 use Rattle.salt_promise.specs.Runs as promised
 use Rattle.salt_promise.specs.Standing.{AnswersTo, IsReader}
 use Rattle.salt_promise.specs.declared.status.Status.{Status}
-use Rattle.salt_promise.specs.declared.status.Status.TheVariants.{DeviceFull, DiskFault, Done, Memory, NotSalt, NumbersSpent, OtherShape, ReadFault, ScriptTooLong, Usage, WriteFault}
+use Rattle.salt_promise.specs.declared.status.Status.TheVariants.{Broken, DeviceFull, DiskFault, Done, Memory, NotSalt, NumbersSpent, OtherShape, ReadFault, ScriptTooLong, TranscriptTooLong, Unread, Usage, WriteFault}
 use Rattle.salt_run.proofs.EngineEnds.{any-start, refused-so}
 use Rattle.salt_run.proofs.Promised.{streams_of}
 use Rattle.salt_run.proofs.Standing.{answers-salt, answers-shape, answers-spent, refuses-held}
@@ -49,6 +49,9 @@ untold Done k told h = h
 untold Memory k told (inl h) = h
 untold Memory k told (inr h) = h
 untold Usage k told h = h
+untold Broken k told h = h
+untold Unread k told h = h
+untold TranscriptTooLong k told h = h
 untold ReadFault k told h = h
 untold WriteFault k told h = h
 untold DiskFault k told h = h

@@ -8,7 +8,7 @@ use Rattle.salt_model.specs.declared.events.Event.{Event}
 use Rattle.salt_model.specs.declared.events.Flight.{Flight}
 use Rattle.salt_promise.specs.Doing.{IsFrontOf}
 use Rattle.salt_promise.specs.declared.status.Status.{Status}
-use Rattle.salt_promise.specs.declared.status.Status.TheVariants.{DeviceFull, DiskFault, Done, Memory, NotSalt, NumbersSpent, OtherShape, ReadFault, ScriptTooLong, Usage, WriteFault}
+use Rattle.salt_promise.specs.declared.status.Status.TheVariants.{Broken, DeviceFull, DiskFault, Done, Memory, NotSalt, NumbersSpent, OtherShape, ReadFault, ScriptTooLong, TranscriptTooLong, Unread, Usage, WriteFault}
 use Rattle.salt_loop.proofs.Leaving.{at-devices, complete-flight}
 use Rattle.salt_loop.specs.Loading.{AreLoadLines, IsPlayedLoad, asked_by_load}
 use Rattle.salt_loop.specs.Run.{IsFlightAt, leave_of}
@@ -42,6 +42,9 @@ front-lines (NumbersSpent boot decisions) calls lines h = h
 front-lines (NotSalt dev) calls lines h = (asked_by_load calls, ap (λ (xs : List Asked). xs ++ asked_by_load calls) (sym h))
 front-lines (OtherShape kept asked) calls lines h = (asked_by_load calls, ap (λ (xs : List Asked). xs ++ asked_by_load calls) (sym h))
 front-lines Usage calls lines h = absurd h
+front-lines Broken calls lines h = absurd h
+front-lines Unread calls lines h = absurd h
+front-lines TranscriptTooLong calls lines h = absurd h
 front-lines ReadFault calls lines h = absurd h
 front-lines ScriptTooLong calls lines h = absurd h
 
@@ -56,6 +59,9 @@ module _ (trace : Trace) (played : IsPlayed trace) (calls : ℕ) where
   leaves-output (NotSalt dev) some l h = inr (at-devices trace (ap is_serving (at-start trace played h l).0))
   leaves-output (OtherShape kept asked) some l h = inr (at-devices trace (ap is_serving (at-start trace played h l).0))
   leaves-output Usage some l h = absurd l
+  leaves-output Broken some l h = absurd l
+  leaves-output Unread some l h = absurd l
+  leaves-output TranscriptTooLong some l h = absurd l
   leaves-output ReadFault some l h = absurd l
   leaves-output ScriptTooLong some l h = absurd l
 
@@ -70,6 +76,9 @@ module _ (trace : Trace) (played : IsPlayed trace) (calls : ℕ) where
   flies-output (NotSalt dev) told some l h f = f ∙ sym (ap flight_told (at-start trace played h l).1)
   flies-output (OtherShape kept asked) told some l h f = f ∙ sym (ap flight_told (at-start trace played h l).1)
   flies-output Usage told some l h f = absurd l
+  flies-output Broken told some l h f = absurd l
+  flies-output Unread told some l h f = absurd l
+  flies-output TranscriptTooLong told some l h f = absurd l
   flies-output ReadFault told some l h f = absurd l
   flies-output ScriptTooLong told some l h f = absurd l
 

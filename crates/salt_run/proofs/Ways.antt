@@ -4,7 +4,7 @@ use Rattle.salt_promise.specs.Workload.{load_lines}
 use Rattle.salt_model.specs.Trace.{Asked, Tree}
 use Rattle.salt_promise.specs.Doing as promise
 use Rattle.salt_promise.specs.Ways.{way_of}
-use Rattle.salt_promise.specs.declared.status.Status.TheVariants.{Done, Usage}
+use Rattle.salt_promise.specs.declared.status.Status.TheVariants.{Broken, Done, TranscriptTooLong, Unread, Usage}
 use Rattle.salt_promise.specs.declared.status.Status.{Status}
 use Rattle.salt_loop.specs.Loading.{AreLoadLines}
 use Rattle.salt_loop.specs.Run.{AreLinesOf}
@@ -20,4 +20,7 @@ lines-way status (Some script) left texts end h = h
 -- no workload ends for wrong words
 pub load-lines-way : (status : Status) (calls : ℕ) (lines : List Asked) → AreLoadLines status calls lines → promise.AreLoadLines (way_of status).lines (map Tree (load_lines calls)) lines
 load-lines-way Usage calls lines h = absurd h
+load-lines-way Broken calls lines h = absurd h
+load-lines-way Unread calls lines h = absurd h
+load-lines-way TranscriptTooLong calls lines h = absurd h
 load-lines-way status calls lines h = h

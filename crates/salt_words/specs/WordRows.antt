@@ -1,9 +1,9 @@
 -- Words that say a command and words that say none, computed from the definitions.
 use Rattle.salt_place.specs.declared.placement.PlaceKind.TheVariants.{Bands, Remainder}
-use Rattle.salt_promise.specs.Words.{all_given, command_said, folder_named}
+use Rattle.salt_promise.specs.Words.{all_given, command_said, folder_named, says_audit}
 use Rattle.salt_promise.specs.declared.command.Command.TheVariants.{Load, Script}
 use Rattle.salt_promise.specs.declared.command.Command.{Command}
-use Rattle.std.specs.Prelude.{List, None, Option, Some, [], codes, false, refl, true, ℕ, ◌∷◌, ◌≡◌}
+use Rattle.std.specs.Prelude.{Bool, List, None, Option, Some, [], codes, false, refl, true, ℕ, ◌∷◌, ◌≡◌}
 
 -- the lines of a script over so many partitions
 abbrev over : ℕ → Command
@@ -228,3 +228,17 @@ load_with_a_setting = refl
 setting_of_no_run : said (codes "--parts=2" ∷ codes "run" ∷ []) ≡ (None, None)
 unfolding all_given
 setting_of_no_run = refl
+
+-- The word `audit` alone asks for no run, and no other words ask what it does.
+
+abbrev asked : List (List ℕ) → Bool × Option Command
+asked words = (says_audit words, command_said words)
+
+audit_alone : asked (codes "audit" ∷ []) ≡ (true, None)
+audit_alone = refl
+
+audit_with_a_word : asked (codes "audit" ∷ codes "file" ∷ []) ≡ (false, None)
+audit_with_a_word = refl
+
+no_audit : says_audit (codes "run" ∷ []) ≡ false
+no_audit = refl

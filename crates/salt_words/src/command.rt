@@ -1,6 +1,6 @@
 //! The command that words say.
 
-ghost use Rattle.salt_promise.specs.Words.{command_of, folder_of};
+ghost use Rattle.salt_promise.specs.Words.{asks_audit, command_of, folder_of};
 ghost use Rattle.std.specs.Option.{option_copied};
 ghost use Rattle.std.specs.Prelude.{◌≡◌};
 
@@ -30,6 +30,16 @@ pub fn command_in(words: &[String]) -> Option<Command>
             Some(Command::Load(count_in(CALLS_MOST, calls.as_str())?))
         }
         _ => None,
+    }
+}
+
+/// Whether the words are `audit` alone. It takes no memory.
+pub fn asks_audit(words: &[String]) -> bool
+    ensures { result ≡ asks_audit words.now }
+{
+    match words {
+        [word] => word.as_bytes() == b"audit".as_slice(),
+        _ => false,
     }
 }
 
