@@ -62,6 +62,9 @@ pub fn statuses(alloc: Global) -> Result<Vec<u8>, AllocError> {
             boot: 5,
             decisions: 9_223_372_036_854_775_808,
         },
+        Status::Broken,
+        Status::Unread,
+        Status::TranscriptTooLong,
     ] {
         let line = format!(in alloc; "{} salt: {status}\n", status.number())?;
         text.extend_from_slice(line.as_bytes())?;

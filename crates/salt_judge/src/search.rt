@@ -3,9 +3,9 @@
 ghost use Rattle.salt_audit.specs.Standing.{begun_in};
 ghost use Rattle.salt_values.specs.declared.id.Id.{Id};
 ghost use Rattle.salt_judge.specs.Reads.{chained, near, parts_near, program_in, sources_in};
-ghost use Rattle.salt_audit.specs.Marks.{AreMarks};
+ghost use Rattle.salt_audit.specs.Marks.{AreMarks, is_marked};
 ghost use Rattle.salt_judge.specs.Searching.{AreSettled, IsLinked, are_free, is_new, visited, visited_all};
-ghost use Rattle.std.specs.Prelude.{[], IfOk, None, OnOk, OnSome, if◌then◌else◌, is_some, not, slice_get, ◌&&◌, ◌+◌, ◌++◌, ◌<◌, ◌^◌, ◌∷◌, ◌≡◌};
+ghost use Rattle.std.specs.Prelude.{[], IfOk, IfSome, None, OnOk, OnSome, if◌then◌else◌, is_some, not, slice_get, ◌&&◌, ◌+◌, ◌++◌, ◌<◌, ◌^◌, ◌∷◌, ◌≡◌};
 
 use crate::reads::{Reads, Sources};
 use crate::salted::{is_free, program_in};
@@ -167,7 +167,7 @@ pub fn unsettled_from(
 ) -> Result<Option<Found>, AllocError>
     requires { program_in ledger.now unit ≡ None }
     ensures free { IfOk result (λ found. IsLinked ledger.now reads.now → AreSettled ledger.now reads.now settled.now → is_some found ≡ are_free ledger.now reads.now (chained ledger.now reads.now unit)) }
-    ensures marks { IfOk result (λ found. OnSome found (λ f. AreMarks f.marks f.ids)) }
+    ensures marks { IfOk result (λ found. IfSome found (λ f. AreMarks f.marks f.ids)) }
 {
     let mut ids = Items::new(alloc);
     let mut marks = no_marks(alloc);

@@ -2,7 +2,7 @@
 use Rattle.salt_books.specs.declared.books.Books.{Books}
 use Rattle.salt_database.proofs.Lying.{opened-first}
 use Rattle.salt_database.specs.Finding.{IsNew}
-use Rattle.salt_database.specs.Halves.{IfEither, by_half, database_flight, database_left, database_lies, no_setup, opening_lies}
+use Rattle.salt_database.specs.Halves.{IfEither, by_half, database_flight, database_fresh, database_left, database_lies, no_setup, opening_lies}
 use Rattle.salt_database.specs.Standing.{opening_books}
 use Rattle.salt_database.specs.declared.database.Database.{Database}
 use Rattle.salt_database.specs.declared.database.Database.TheVariants.{Closed, Moving, Open}
@@ -38,7 +38,7 @@ use Rattle.salt_promise.specs.Promises.{Promises}
 use Rattle.salt_promise.specs.Runs.{AreAsBefore, IsNoRefusal, may_have_failed, net_left}
 use Rattle.salt_promise.specs.Status.{ends_between}
 use Rattle.salt_promise.specs.declared.status.Status.{Status}
-use Rattle.salt_promise.specs.declared.status.Status.TheVariants.{Broken, DeviceFull, Done, Memory, NotSalt, NumbersSpent, OtherShape, TranscriptTooLong, Unread, Usage, WriteFault}
+use Rattle.salt_promise.specs.declared.status.Status.TheVariants.{Broken, DeviceFull, Done, Memory, NotSalt, NumbersSpent, OtherShape, ReadFault, ScriptTooLong, TranscriptTooLong, Unread, Usage, WriteFault}
 use Rattle.salt_run.proofs.Images.{stands-alone}
 use Rattle.salt_run.proofs.Over.{ends-behind}
 use Rattle.salt_run.proofs.Replayed.{load-replays, script-replays}
@@ -68,7 +68,7 @@ use Rattle.salt_storage.specs.Answers.{IsRefusal, open_disk_err_of}
 use Rattle.salt_storage.specs.Netted.{net_begun, net_told}
 use Rattle.salt_storage.specs.Staying.{Setup}
 use Rattle.salt_storage.specs.Storing.{IsSoundKept}
-use Rattle.salt_storage.specs.Writing.{OfOpening}
+use Rattle.salt_storage.specs.Writing.{OfOpening, ToWrite}
 use Rattle.salt_storage.specs.declared.found.Numbers.{Numbers}
 use Rattle.salt_storage.specs.declared.halt.Halt.TheVariants as halt
 use Rattle.salt_storage.specs.declared.open.OpenErr.{OpenErr}
@@ -206,7 +206,8 @@ pub begins-found : (k : Kept) (early over_net : Bool) (o : Opening Devices) (y :
     (trace : Trace) × IsToBegin (can_open mid o) (flight_of o.in_flight) (start_over k mid.can_stop early over_net) story trace × (armed_by_lines d.armed trace ≡ Some mid.armed)
 begins-found k early over_net o y d mid story same over begun new holding sound unfound counts =
     begins-over k mid.can_stop early over_net (can_open mid o) (flight_of o.in_flight) d mid story unfound sound
-    (opens-over _ k mid.can_stop early over_net (setup_in o.storage.shape o.storage.over_net) (net_in o.storage.store) o.found (ap (λ (x : Devices). x.over_net) same ∙ over)
+    (opens-over (CanReopenAt (λ k. StandsHeld o.storage.shape o.storage.started o.storage.store o.storage.numbers o.storage.pending mid k)
+    (λ a b. StandsLeft o.storage.shape o.storage.started o.storage.store o.storage.numbers o.storage.pending mid a b) mid.can_stop o.found (opening_books o.stage) o.single o.in_flight) k mid.can_stop early over_net (setup_in o.storage.shape o.storage.over_net) (net_in o.storage.store) o.found (ap (λ (x : Devices). x.over_net) same ∙ over)
     (subst (λ (x : Devices). net_in x.store ≡ net_begun (setup_in x.shape x.over_net)) (sym same) begun)
     (opened-first (λ k. StandsHeld o.storage.shape o.storage.started o.storage.store o.storage.numbers o.storage.pending mid k)
     (λ a b. StandsLeft o.storage.shape o.storage.started o.storage.store o.storage.numbers o.storage.pending mid a b) mid.can_stop o.found o.stage o.single o.in_flight early over_net k new
@@ -282,17 +283,31 @@ module _ (e : View) where
 
   abbrev FoundAt : Database Devices → Status → Trace → Type 0
   FoundAt x status trace =
-      EndsFound (λ room p. database_lies held left e.can_stop x room p) (LeftIn x) (λ w dev. IfEither (λ o. FillsIn e o.storage.shape w dev) (λ g. FillsIn e g.storage.shape w dev) x)
+      EndsFound (λ room p. database_lies held left e.can_stop x room p × database_fresh (λ y. setup_in y.shape y.over_net) (λ y. net_in y.store) x p.state) (LeftIn x) (λ w dev. IfEither (λ o. FillsIn e o.storage.shape w dev) (λ g. FillsIn e g.storage.shape w dev) x)
       status trace
 
   same_shape : {was is : Setup} → was ≡ is → was.shape ≡ is.shape
   same_shape same = ap (λ (s : Setup). s.shape) same
 
+  -- what was sent until then does not matter
+  unsent : (lies more : ℕ → Point → Type 0) (left_at : Option Numbers → ℕ → Point → Type 0) (fills : ToWrite → ℕ → Type 0) (status : Status) (trace : Trace) →
+      EndsFound (λ room p. lies room p × more room p) left_at fills status trace → EndsFound lies left_at fills status trace
+  unsent lies more left_at fills status trace f = record {
+    room = f.room;
+    point = f.point;
+    keeps = f.keeps;
+    boots = f.boots;
+    may = f.may;
+    again = λ some. (f.again some).0;
+    stands = f.stands;
+    full = f.full;
+  }
+
   -- whether it is closed or open there
   pub ends-there : (x : Database Devices) (target : Shape) (over : Bool) → setup_of x ≡ setup_in target over → (status : Status) (trace : Trace) → IsPlayed trace →
       FoundAt x status trace → EndsBehind e target status (flight_at status (database_flight x)) trace
-  ends-there (Closed o) target over same status trace played f = ends-over o.storage target (same_shape same) o.found (opening_books o.stage) o.single o.in_flight status trace played f
-  ends-there (Open g) target over same status trace played f = ends-over g.storage target (same_shape same) None (serving_books g.stage) g.single g.in_flight status trace played f
+  ends-there (Closed o) target over same status trace played f = ends-over o.storage target (same_shape same) o.found (opening_books o.stage) o.single o.in_flight status trace played (unsent _ _ _ _ status trace f)
+  ends-there (Open g) target over same status trace played f = ends-over g.storage target (same_shape same) None (serving_books g.stage) g.single g.in_flight status trace played (unsent _ _ _ _ status trace f)
   ends-there Moving target over same status trace played f = absurd f.stands
 
   -- and where the sink failed behind it

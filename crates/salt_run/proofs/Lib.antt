@@ -1,3 +1,4 @@
+mod Audited
 mod Behind
 mod Images
 mod Over

@@ -1,3 +1,4 @@
+pub mod Auditing
 pub mod Doing
 pub mod Ending
 pub mod Running

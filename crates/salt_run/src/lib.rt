@@ -1,6 +1,7 @@
 //! The top call: a script in, its story out.
 #![tactic(auto)]
 
+mod audits;
 mod command;
 mod promises;
 mod runs;

@@ -11,7 +11,7 @@ use Rattle.std.proofs.Common.{List, ap, sym, ◌∙◌, ◌≡◌}
 pub returns : goal.returns
 returns c =
     let old = c.args.judge.now in
-    let new : Judge = record { ledger = c.take_event.new.ledger; reads = c.take_reads.new.reads; meetings = c.take_meetings.new.meetings; settled = c.unsalted-salted.new.settled } in
+    let new : Judge = record { ledger = c.take_event.new.ledger; reads = c.take_reads.new.reads; meetings = c.take_meetings.new.meetings; settled = c.unsalted.new.settled } in
     let e = c.args.event.now in
     let known : Known old new e = record {
       formed = λ trace h. sym (c.judging_is_exact.ensures old.ledger.state trace e h.knows) ∙ c.requires.formed;

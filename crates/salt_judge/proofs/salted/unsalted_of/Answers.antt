@@ -1,7 +1,6 @@
 use Rattle.salt_judge.proofs.Searching.{no_program, of_program}
 use Rattle.salt_judge.proofs.salted.unsalted_of.Goals as goal
-use Rattle.salt_judge.specs.Reads.{program_in}
-use Rattle.std.proofs.Common.{false, sym, true, ◌∙◌}
+use Rattle.std.proofs.Common.{sym, ◌∙◌}
 
 pub returns-then-is_some-clause-units : goal.returns-then-is_some-clause-units
 returns-then-is_some-clause-units c = λ linked settled.

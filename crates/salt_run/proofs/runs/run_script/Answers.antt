@@ -35,8 +35,8 @@ serve-done-requires-clause-begins g c =
     c.in-Ok.ensures.counts in
     (start_over f.kept mid.can_stop c.args.early c.args.over_net, b.0, b.1, d.armed, b.2)
 
-pub leave-requires-clause-stands : goal.leave-requires-clause-stands
-leave-requires-clause-stands g c = λ over between.
+pub leave-flight-requires : goal.leave-flight-requires
+leave-flight-requires g c =
     let f = c.in-Ok.ensures.found in
     let d = g.D.Disks.view c.args.disks.now in
     let mid = g.D.Disks.view c.find.new.disks in
@@ -44,8 +44,7 @@ leave-requires-clause-stands g c = λ over between.
     (ap (λ (s : Setup). s.over_net) c.find.ensures.within.asked ∙ c.new-devices.ensures.over_net) c.in-Ok.ensures.net (c.new-opening.ensures.is_new f.kept f.is f.sound) f.holding f.sound c.find.ensures.unfound
     c.in-Ok.ensures.counts in
     let y = c.serve-done.ensures.ended (start_over f.kept mid.can_stop c.args.early c.args.over_net) b.0 b.1 d.armed b.2 in
-    let s = y.3 (sym (ap ends_between c.status_behind-status.ensures) ∙ between) in
-    (s.point.state, s.stands.state)
+    record { stands = λ over between. let s = y.3 (sym (ap ends_between c.status_behind-status.ensures) ∙ between) in (s.point.state, s.stands.state) }
 
 pub returns-in-Ok-clause-runs : goal.returns-in-Ok-clause-runs
 returns-in-Ok-clause-runs g c =
@@ -65,14 +64,14 @@ returns-in-Ok-clause-runs g c =
     c.in-Ok.ensures.counts in
     let y = c.serve-done.ensures.ended start b.0 b.1 d.armed b.2 in
     let trace = y.0.played.trace in
-    let net = c.leave.result.net in
-    as-told (Script c.args.shape c.args.early c.args.over_net) d e s c.serve-done.new.story done status flies c.leave.result.flight net c.status_behind-status.ensures
-    (flight-is c.args.over_net status trace flies c.leave.result.flight (subst (λ (t : Status). IsFlightAt t trace flies) (sym c.status_behind-status.ensures) y.0.played.flies) c.leave.ensures.flight)
+    let net = c.leave-flight.result.net in
+    as-told (Script c.args.shape c.args.early c.args.over_net) d e s c.serve-done.new.story done status flies c.leave-flight.result.flight net c.status_behind-status.ensures
+    (flight-is c.args.over_net status trace flies c.leave-flight.result.flight (subst (λ (t : Status). IsFlightAt t trace flies) (sym c.status_behind-status.ensures) y.0.played.flies) c.leave-flight.ensures.flight)
     (inl (script-over d e x c.requires.promised start f.sound ((λ i. are_spent (sym f.is.boot i) (sym f.is.decisions i)) ∙ f.unspent) c.find.ensures.within.shape.can_stop s c.serve-done.new.story
     _ c.requires.drained c.args.shape c.args.early c.args.over_net refl refl
     (c.serve-done.ensures.within.asked ∙ (λ i. setup_in (c.new-opening.ensures.storage i).shape (c.new-opening.ensures.storage i).over_net) ∙ c.find.ensures.within.asked ∙ (λ i. setup_in (c.new-devices.ensures.shape i) (c.new-devices.ensures.over_net i)))
     (found-is (Script c.args.shape c.args.early c.args.over_net) d z.started z.shape c.new-devices.ensures.started c.new-devices.ensures.shape f.kept f.found) done y net
-    status c.status_behind-status.ensures c.leave.ensures.net))
+    status c.status_behind-status.ensures c.leave-flight.ensures.net))
 
 pub returns-in-Ok-clause-downs : goal.returns-in-Ok-clause-downs
 returns-in-Ok-clause-downs g c =
