@@ -1,5 +1,6 @@
 //! Scripts and their stories, and what became of them.
 
+use crate::audits::is_sound;
 use crate::devices::{Devices, ROOM};
 use crate::outcome::Outcome;
 use salt_run::Status;
@@ -59,6 +60,8 @@ pub struct Cases {
     case: Case,
     /// How many scripts told their stories.
     told: u64,
+    /// How many of their stories are audited yes.
+    sound: u64,
     /// What the others told.
     others: Vec<u8>,
 }
@@ -141,14 +144,17 @@ impl Cases {
             start: Case::new(alloc),
             case: Case::new(alloc),
             told: 0,
+            sound: 0,
             others: Vec::new(alloc),
         }
     }
 
-    /// What the scripts told that told another story, and how many told theirs.
+    /// What the scripts told that told another story; how many told theirs, and of how many of these an audit says yes.
     pub fn text(self) -> Result<Vec<u8>, AllocError> {
-        let told = self.told;
-        let count = format!(in self.alloc; "{told} scripts tell their stories\n")?;
+        let (told, sound) = (self.told, self.sound);
+        let count = format!(in self.alloc;
+            "{told} scripts tell their stories\n{sound} of these are audited yes\n"
+        )?;
         let mut text = self.others;
         text.extend_from_slice(count.as_bytes())?;
         Ok(text)
@@ -200,6 +206,9 @@ impl Cases {
         self.case = Case::new(self.alloc);
         let Some(story) = other_story(self.alloc, &whole)? else {
             self.told = self.told.saturating_add(1);
+            if is_sound(self.alloc, &whole.story)? {
+                self.sound = self.sound.saturating_add(1);
+            }
             return Ok(());
         };
         self.others.extend_from_slice(&whole.script)?;

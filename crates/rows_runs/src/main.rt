@@ -11,10 +11,11 @@
 //! | `=` | the script's end; all that follow begin with it, and their stories with its story |
 //! | `/` | the script's end; those that follow begin with nothing |
 //!
-//! Then runs by words, and over devices that are foreign, full or changed: what each tells. Then runs of which calls stop or fail, one after
+//! How many of those stories are audited yes stands behind them. Then runs by words, audits of transcripts, and runs over devices that are foreign, full or changed: what each tells. Then runs of which calls stop or fail, one after
 //! another, or streams are cut: of each table how many of its runs end as they must.
 #![tactic(auto)]
 
+mod audits;
 mod bytes_turned;
 mod cases;
 mod devices;
@@ -25,6 +26,7 @@ mod streams;
 mod tables;
 mod words;
 
+use audits::audits;
 use bytes_turned::{cut_devices, turned_bytes};
 use cases::Cases;
 use others::by_devices;
@@ -116,6 +118,7 @@ enum Part {
     Stories,
     Statuses,
     Words,
+    Audits,
     Devices,
     TurnedBytes,
     CutDevices,
@@ -128,10 +131,11 @@ enum Part {
     MostBytes,
 }
 
-const PARTS: [Part; 30] = [
+const PARTS: [Part; 31] = [
     Part::Stories,
     Part::Statuses,
     Part::Words,
+    Part::Audits,
     Part::Devices,
     Part::TurnedBytes,
     Part::CutDevices,
@@ -204,6 +208,7 @@ fn lines_of(rt: &HostRuntime, part: Part) -> Result<Vec<u8>, AllocError> {
         Part::Stories => stories(rt),
         Part::Statuses => statuses(alloc),
         Part::Words => by_words(alloc),
+        Part::Audits => audits(alloc),
         Part::Devices => by_devices(alloc),
         Part::TurnedBytes => turned_bytes(alloc),
         Part::CutDevices => cut_devices(alloc),

@@ -9,7 +9,7 @@ use std::alloc::{AllocError, Global};
 const SCRIPT: &str = "create table t (id int key)\n";
 
 /// Words that are no command, a run, and workloads.
-const WORDS: [&[&str]; 24] = [
+const WORDS: [&[&str]; 26] = [
     &[],
     &["run", "run"],
     &["run", "--parts", "9"],
@@ -24,6 +24,8 @@ const WORDS: [&[&str]; 24] = [
     &["load", "20001"],
     &["load", "+1"],
     &["load", "1", "1"],
+    &["audit", "audit"],
+    &["Audit"],
     &["run"],
     &["run", "--parts=8"],
     &["run", "--parts", "1", "--dir=data"],
