@@ -5,7 +5,7 @@ use Rattle.salt_model.specs.Isolation.{is_committed_standing}
 use Rattle.salt_model.specs.Locks as locks
 use Rattle.salt_model.specs.Locks.{taken_in, touches}
 use Rattle.salt_model.specs.Trace.{Trace}
-use Rattle.salt_model.specs.Units.{kind_of, program_of, standing}
+use Rattle.salt_model.specs.Units.{Never, Over, Standing, kind_of, program_of, standing}
 use Rattle.salt_model.specs.Words.{Every}
 use Rattle.salt_model.specs.declared.events.End.TheVariants.{Committed}
 use Rattle.salt_model.specs.declared.events.End.{End}
@@ -40,9 +40,26 @@ is_ending (Some d) = d.committed
 abbrev pub has_committed : BTreeMap Id Ending → Id → Bool
 has_committed endings u = is_ending (get id_cmp endings u)
 
+-- the unit has ended, and not by a commit
+abbrev pub is_given_up : Standing → Bool
+is_given_up (Over (Committed n)) = false
+is_given_up (Over end) = true
+is_given_up s = false
+
+-- what the unit has done may still count, or does
+abbrev pub counts : Trace → Id → Bool
+counts trace u = not (is_given_up (standing u trace))
+
+abbrev pub counts_met : Trace → law.Meeting → Bool
+counts_met trace x = counts trace x.part
+
+-- what was reached that counts
+abbrev pub counted : Trace → List locks.Taken
+counted trace = filter (λ (t : locks.Taken). counts trace t.unit) (taken_in trace)
+
 -- what the statements of parts of programs reached that are not released
 abbrev pub live : Trace → List locks.Taken
-live trace = filter (λ (t : locks.Taken). law.is_unreleased trace (program_of t.unit trace)) (taken_in trace)
+live trace = filter (λ (t : locks.Taken). law.is_unreleased trace (program_of t.unit trace)) (counted trace)
 
 abbrev pub HasBegun : Trace → locks.Taken → Type 0
 HasBegun trace t = is_some (kind_of t.unit trace) ≡ true
@@ -50,7 +67,8 @@ HasBegun trace t = is_some (kind_of t.unit trace) ≡ true
 pub record HoldsMeetings (m : Meetings) (trace : Trace) : Type 0 where
   pub taken : live trace ≡ map touch_told m.taken.items
   pub begun : Every (HasBegun trace) (taken_in trace)
-  pub met : law.meetings trace ≡ map met_told m.met
+  pub fresh : (u : Id) → kind_of u trace ≡ None → standing u trace ≡ Never
+  pub met : filter (counts_met trace) (law.meetings trace) ≡ filter (counts_met trace) (map met_told m.met)
   pub committed : (u : Id) → is_committed_standing (standing u trace) ≡ has_committed m.endings u
 
 -- THE STEP
@@ -74,7 +92,13 @@ met_if_acid l a reach taken = if is_none (program_in l a) then met_of a reach ta
 abbrev pub is_live : Ledger → Reads → Touch → Bool
 is_live l s t = not (is_free s.released (program_in l t.unit))
 
+abbrev pub is_commit : End → Bool
+is_commit (Committed n) = true
+is_commit end = false
+
+-- a part that is given up is met no more
 abbrev pub taken_by : Event → Ledger → Reads → List Touch → List Touch
+taken_by (Ended v end) l s taken = if is_commit end then taken else filter (λ (t : Touch). not (is_same_id t.unit v)) taken
 taken_by (Did u st x) l s taken = taken ++ (if is_free s.released (program_in l u) then [] else touches_of u (reach_by l u st))
 taken_by (Released bs) l s taken = filter (is_live l s) taken
 taken_by Ready l s taken = filter (is_live l s) taken
@@ -83,10 +107,6 @@ taken_by e l s taken = taken
 abbrev pub met_by : Event → Ledger → List Touch → List Met → List Met
 met_by (Did a st x) l taken met = met_if_acid l a (reach_by l a st) taken ++ met
 met_by e l taken met = met
-
-abbrev pub is_commit : End → Bool
-is_commit (Committed n) = true
-is_commit end = false
 
 abbrev pub committed_by : Event → BTreeMap Id Ending → Id → Bool
 committed_by (Began v kind) endings u = if is_same_id u v then false else has_committed endings u

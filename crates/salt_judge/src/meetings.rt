@@ -4,11 +4,12 @@ ghost use Rattle.salt_model.specs.Locks.{is_read, touches};
 ghost use Rattle.salt_values.specs.Id.{is_same_id};
 ghost use Rattle.salt_values.specs.declared.id.Id.{Id};
 ghost use Rattle.salt_judge.specs.Meetings.{IsMetAfter, committed_by, has_committed, is_commit, is_live, met_by, met_if_acid, met_of, taken_by, touches_of, unwhole_by};
+ghost use Rattle.salt_judge.specs.declared.met.Touch.{Touch};
 ghost use Rattle.salt_judge.specs.ReadAfter.{reach_by};
 ghost use Rattle.salt_judge.specs.Reads.{is_free, program_in};
 ghost use Rattle.std.specs.List.{filter};
 ghost use Rattle.std.specs.Option.{option_copied};
-ghost use Rattle.std.specs.Prelude.{IfOk, OnOk, [], if◌then◌else◌, ◌++◌, ◌∷◌, ◌≡◌};
+ghost use Rattle.std.specs.Prelude.{IfOk, OnOk, [], if◌then◌else◌, not, ◌++◌, ◌∷◌, ◌≡◌};
 
 use crate::met::{Ending, Meetings, Met, Touch};
 use crate::readers::reach_of;
@@ -17,7 +18,7 @@ use crate::salted::{is_free, program_in};
 use salt_ast::Statement;
 use salt_eval::ViewErr;
 use salt_model::{End, Event, Mode, Reach};
-use salt_values::{Id, Ids};
+use salt_values::{Id, Ids, is_same_id};
 use salt_verdict::{Ledger, add_if};
 use sqlite_items::Items;
 use std::alloc::{AllocError, Global};
@@ -181,6 +182,27 @@ fn forget(ledger: &Ledger, reads: &Reads, taken: &mut Vec<Touch>)
     taken.retain(|touch| is_live(ledger, reads, touch));
 }
 
+fn is_commit(end: &End) -> bool
+    ensures { result ≡ is_commit end.now }
+{
+    matches!(end, End::Committed(_))
+}
+
+fn forget_unit(taken: &mut Vec<Touch>, unit: Id)
+    ensures { taken.new.items ≡ filter (λ (t : Touch). not (is_same_id t.unit unit)) taken.old.items }
+{
+    taken.retain(|touch| !is_same_id(touch.unit, unit));
+}
+
+/// Forgets what a unit has done, if it ends by no commit.
+fn give_up(taken: &mut Vec<Touch>, unit: Id, end: &End)
+    ensures { taken.new.items ≡ (if is_commit end.now then taken.old.items else filter (λ (t : Touch). not (is_same_id t.unit unit)) taken.old.items) }
+{
+    if !is_commit(end) {
+        forget_unit(taken, unit);
+    }
+}
+
 fn note_touch(
     alloc: Global,
     ledger: &Ledger,
@@ -202,18 +224,16 @@ fn note_touch(
             forget(ledger, reads, &mut meetings.taken);
             Ok(())
         }
+        Event::Ended { unit, end } => {
+            give_up(&mut meetings.taken, *unit, end);
+            Ok(())
+        }
         Event::Ready => {
             forget(ledger, reads, &mut meetings.taken);
             Ok(())
         }
         _ => Ok(()),
     }
-}
-
-fn is_commit(end: &End) -> bool
-    ensures { result ≡ is_commit end.now }
-{
-    matches!(end, End::Committed(_))
 }
 
 fn put_ending(

@@ -28,7 +28,7 @@ pub struct Ending {
 /// What is known behind the events so far of who met what.
 #[derive(Drop)]
 pub struct Meetings {
-    /// Of the parts of programs that are not released.
+    /// Of the parts of programs that are not released, but for parts that are given up.
     pub taken: Vec<Touch>,
     /// The latest first.
     pub met: Items<Met>,
