@@ -8,7 +8,7 @@ use Rattle.law_story.proofs.Due.{finishes-asks, finishes-turns}
 use Rattle.law_story.proofs.Hiding.{hides}
 use Rattle.law_story.proofs.Ids.{is_same_id-refl}
 use Rattle.law_story.proofs.Lists.{In, either, has-in, in-has}
-use Rattle.law_story.proofs.Sound.{bases_in, due-in, older-not}
+use Rattle.law_story.proofs.Sound.{bases_in, due-in}
 use Rattle.law_story.proofs.Upheld.{OfBoots, holds, may-fit}
 use Rattle.law_story.proofs.WellKept.{of-start}
 use Rattle.salt_model.specs.After.{kept}
@@ -19,7 +19,7 @@ use Rattle.salt_model.specs.Phases.{Serving, phase}
 use Rattle.salt_model.specs.Played.{IsPlayed}
 use Rattle.salt_model.specs.Programs.{accepted_in, finished_in, named_early}
 use Rattle.salt_model.specs.Trace.{Asked, Trace, from, start_of, ◌asks◌, ◌says◌, ◌turns◌}
-use Rattle.salt_model.specs.Turns.{after_end, can_go, finishes, next_to_go, owes_turn, settle}
+use Rattle.salt_model.specs.Turns.{after_end, can_go, finishes, next_to_go, owes_turn}
 use Rattle.salt_model.specs.Units.{is_waiting, program_unit}
 use Rattle.salt_model.specs.declared.events.Cause.{Cause}
 use Rattle.salt_model.specs.declared.events.End.TheVariants.{Branched, Committed}

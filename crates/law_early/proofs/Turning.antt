@@ -4,7 +4,7 @@ use Rattle.salt_model.specs.Trace.{Trace, from, ◌asks◌, ◌says◌, ◌turns
 use Rattle.salt_model.specs.Turns.{next_to_go, next_turn, owes_turn, turn_owed}
 use Rattle.salt_promise.specs.EarlyOpenings.{GivesTurns, IsOwed, OwesNoTurn, least_named}
 use Rattle.salt_values.specs.declared.id.Id.{Id}
-use Rattle.std.proofs.Common.{subst, sym, ◌∙◌}
+use Rattle.std.proofs.Common.{subst}
 use Rattle.std.specs.Option.{option_or}
 use Rattle.std.specs.Prelude.{Bool, None, Option, Some, false, if◌then◌else◌, refl, true, ◌≡◌}
 

@@ -1,5 +1,5 @@
 -- Generations of a store.
-use Rattle.law_generations.specs.AsIf.{IsAsIf, IsNewName}
+use Rattle.law_generations.specs.AsIf.{IsAsIf}
 use Rattle.salt_bytes.specs.Partition.{PartitionHeader}
 use Rattle.salt_model.specs.Tables.{no_rows, with_changes}
 use Rattle.salt_stands.proofs.Generations.{checkpoint_tables}

@@ -27,7 +27,7 @@ use Rattle.salt_values.specs.declared.id.Id.{Id}
 use Rattle.std.proofs.Common.{ap, inl, inr, subst, sym, ◌∙◌}
 use Rattle.std.specs.Bool.{then_some}
 use Rattle.std.specs.List.{filter, filter_map}
-use Rattle.std.specs.Prelude.{Bool, IsTrue, List, None, Option, Some, [], cond, false, map, not, option_map, refl, true, ℕ, ⊤, ◌&&◌, ◌++◌, ◌+◌, ◌==◌, ◌||◌, ◌↔◌, ◌∷◌, ◌≡◌, ◌⊎◌}
+use Rattle.std.specs.Prelude.{Bool, IsTrue, List, None, Option, Some, [], cond, false, map, not, option_map, refl, true, ℕ, ⊤, ◌&&◌, ◌+◌, ◌==◌, ◌||◌, ◌∷◌, ◌≡◌, ◌⊎◌}
 use Rattle.salt_model.specs.declared.locks.Family.TheVariants as family
 
 -- owners of locks

@@ -1,20 +1,20 @@
 -- Continuations in the order of their programs: where one stands, and what is left where it is replaced or taken out.
 use Rattle.law_states.proofs.Ascending.{older-strict}
 use Rattle.law_states.specs.Rising.{Rising}
-use Rattle.law_story.proofs.Ids.{is_same_id-refl, is_same_id-sym, is_same_id-true}
+use Rattle.law_story.proofs.Ids.{is_same_id-sym, is_same_id-true}
 use Rattle.law_story.proofs.Lists.{either}
 use Rattle.salt_books.specs.Bases.{AreInOrder, bases_in}
 use Rattle.salt_model.specs.Kept.{cont_in}
 use Rattle.salt_model.specs.Words.{Every}
-use Rattle.salt_stands.specs.OpenConts.{is_not_of, replace_cont, without_cont}
+use Rattle.salt_stands.specs.OpenConts.{replace_cont, without_cont}
 use Rattle.salt_values.specs.Id.{is_older, is_same_id}
 use Rattle.salt_values.specs.declared.cont.Cont.{Cont}
 use Rattle.salt_values.specs.declared.id.Id.{Id}
 use Rattle.std.proofs.Common.{ap, arith, refl, subst, sym, ◌∙◌}
 use Rattle.std.proofs.lemmas.Bool.{both_ways, cases_order}
-use Rattle.std.specs.List.{filter, find, remove}
+use Rattle.std.specs.List.{find, remove}
 use Rattle.std.specs.List.Sorted.{IsPartitionPoint, IsPartitionedBy}
-use Rattle.std.specs.Prelude.{Bool, List, None, Option, Some, [], cond, false, get_or, is_some, length, map, not, set, suc, true, zero, ℕ, ◌+◌, ◌++◌, ◌<◌, ◌==◌, ◌∷◌, ◌≡◌, ◌≤◌}
+use Rattle.std.specs.Prelude.{Bool, List, None, Some, [], cond, false, get_or, is_some, length, not, set, suc, true, zero, ℕ, ◌+◌, ◌++◌, ◌<◌, ◌∷◌, ◌≡◌}
 
 -- of two names of which one is older neither is the other
 older-other : (a b : Id) → is_older a b ≡ true → is_same_id b a ≡ false

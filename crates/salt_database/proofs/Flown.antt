@@ -31,7 +31,7 @@ use Rattle.salt_schema.specs.Refusals.{table_refusal}
 use Rattle.salt_stands.specs.OpenConts.{make_move}
 use Rattle.salt_values.specs.declared.id.Id.{Id}
 use Rattle.std.proofs.Common.{ap, subst, sym, ◌∙◌}
-use Rattle.std.specs.Prelude.{List, None, Option, Some, ℕ, ◌≡◌}
+use Rattle.std.specs.Prelude.{List, None, Some, ℕ, ◌≡◌}
 
 module _ (x : Recovery) (i : InFlight) (f : Event) (s : State) (h : Flies x i f s) where
   module _ (u : Id) (is : i ≡ asked.Commit u) where

@@ -4,7 +4,7 @@ use Rattle.salt_ast.specs.declared.lines.Line.{Line}
 use Rattle.salt_driver.specs.Along.{ArmsAlong, GoesAlong, armed_along}
 use Rattle.salt_driver.specs.Standing.{IsInside}
 use Rattle.salt_model.specs.Arming.{armed_by, armed_by_lines}
-use Rattle.salt_model.specs.Trace.{Trace, line_of, ◌asks◌, ◌says◌, ◌turns◌}
+use Rattle.salt_model.specs.Trace.{Trace, line_of, ◌says◌, ◌turns◌}
 use Rattle.salt_model.specs.Words.{Every}
 use Rattle.salt_model.specs.declared.events.Event.{Event}
 use Rattle.std.proofs.Common.{ap, sym, ◌∙◌}

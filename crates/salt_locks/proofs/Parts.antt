@@ -1,7 +1,7 @@
 -- A part of a list, from one place to another.
 use Rattle.std.proofs.Common.{ap, arith, refl, sym, ◌∙◌}
 use Rattle.std.specs.List.{filter, find}
-use Rattle.std.specs.Prelude.{Bool, List, Option, Some, [], drop, false, get_or, length, suc, take, true, zero, ℕ, ◌+◌, ◌-◌, ◌<◌, ◌∷◌, ◌≡◌, ◌≤◌}
+use Rattle.std.specs.Prelude.{Bool, List, Some, [], drop, false, get_or, length, suc, take, true, zero, ℕ, ◌+◌, ◌-◌, ◌<◌, ◌∷◌, ◌≡◌, ◌≤◌}
 
 one_more : {X : Type 0} (xs : List X) (at n : ℕ) (d : X) → at < length xs → take (suc n) (drop at xs) ≡ get_or xs at d ∷ take n (drop (suc at) xs)
 one_more [] at n d h = absurd (omega (arith, h))

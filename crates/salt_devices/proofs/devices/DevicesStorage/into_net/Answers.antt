@@ -1,4 +1,3 @@
-use Rattle.salt_commit.specs.Messages.{IsAtRest}
 use Rattle.salt_devices.proofs.Standing.{the_net}
 use Rattle.salt_devices.proofs.devices.DevicesStorage.into_net.Goals as goal
 use Rattle.salt_devices.specs.Holding.{net_in}
