@@ -18,7 +18,7 @@ use Rattle.salt_storage.specs.Answers.{disk_err_of}
 use Rattle.salt_storage.specs.declared.halt.Halt.TheVariants as halt
 use Rattle.salt_storage.specs.declared.halt.Halt.{Halt}
 use Rattle.std.proofs.Common.{ap, append-nil, append_assoc, arith, inl, inr, subst, sym, ◌∙◌}
-use Rattle.std.specs.Prelude.{Err, List, None, Ok, Option, Result, Some, [], refl, ℕ, ◌+◌, ◌++◌, ◌∷◌, ◌≡◌, ◌≤◌, ◌⊎◌}
+use Rattle.std.specs.Prelude.{Err, List, None, Ok, Option, Result, Some, [], refl, ℕ, ◌++◌, ◌∷◌, ◌≡◌, ◌≤◌, ◌⊎◌}
 use Rattle.std.specs.Result.{IsErrAnd}
 
 -- FAULTS

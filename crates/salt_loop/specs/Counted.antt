@@ -3,14 +3,13 @@ use Rattle.salt_disk.specs.Disks.{Rose, View}
 use Rattle.salt_model.specs.declared.events.Event.TheVariants.{Down}
 use Rattle.salt_model.specs.declared.events.Event.{Event}
 use Rattle.salt_model.specs.declared.events.Why.TheVariants as why
-use Rattle.salt_model.specs.Arming.{armed_behind}
 use Rattle.salt_promise.specs.declared.status.Status.{Status}
 use Rattle.salt_promise.specs.declared.status.Status.TheVariants.{DeviceFull, DiskFault, Memory}
 use Rattle.salt_loop.specs.Stopping.{answer_of}
 use Rattle.salt_driver.specs.Counting.{CountsFall, CountsStops}
 use Rattle.salt_storage.specs.declared.halt.Halt.TheVariants as halt
 use Rattle.salt_storage.specs.declared.halt.Halt.{Halt}
-use Rattle.std.specs.Prelude.{List, None, Some, [], ℕ, ◌++◌, ◌∷◌, ◌≡◌, ◌≤◌}
+use Rattle.std.specs.Prelude.{List, None, [], ℕ, ◌++◌, ◌∷◌, ◌≡◌, ◌≤◌}
 
 -- up to an event the faults do not fall; before a fall by a fault they rise
 abbrev pub AreMet : Event → ℕ → ℕ → Type 0
@@ -26,12 +25,6 @@ AreFaults first (e ∷ es) last = (n : ℕ) × AreMet e first n × AreFaults n e
 abbrev pub AreFaultsOf : Status → ℕ → List Event → ℕ → Type 0
 AreFaultsOf DiskFault first story last = (n : ℕ) × AreFaults first story n × (n ≤ last) × Rose n last
 AreFaultsOf status first story last = AreFaults first story last
-
--- By a story whose lines arm no pairs of messages: each stop was armed before it came; and unless memory ran out, these are armed at last.
-pub record AreStopsOf (status : Status) (first : List (ℕ × ℕ)) (story : List Event) (last : List (ℕ × ℕ)) : Type 0 where
-  pub stops : List (ℕ × ℕ)
-  pub behind : armed_behind story (Some first) ≡ Some stops
-  pub are : (status ≡ Memory → ⊥) → last ≡ stops
 
 -- Over a run; which stops are armed at its end is told by the lines of its trace.
 pub record CountsRun (old new : View) (status : Status) (story : List Event) : Type 0 where
