@@ -7,18 +7,18 @@ use crate::deeds::{deed_of, is_done};
 use crate::kept::Kept;
 use crate::kinds::{Deed, Message, NetEvent, NodeStatus};
 use crate::nodes::{are_nodes, is_node_of};
+use crate::polls::Polls;
 use crate::reaction::{asking, hearing, refusing, resending, starting};
 use salt_values::{Id, next_number};
 use std::alloc::{AllocError, Global};
-use std::collections::BTreeMap;
 
 /// All messages that were ever sent, and what is kept of each unit by its name.
 #[derive(Drop)]
 pub struct Book {
     pub sent: Vec<Message>,
-    pub polls: BTreeMap<Id, Kept>,
+    pub polls: Polls,
     pub restarts: u64,
-    ghost begun: { AreBegun polls restarts },
+    ghost begun: { AreBegun polls.by_name restarts },
 }
 
 impl Book {
@@ -37,7 +37,7 @@ impl Book {
     {
         Book {
             sent: Vec::new(alloc),
-            polls: BTreeMap::new(alloc),
+            polls: Polls::new(alloc),
             restarts: 0,
         }
     }
@@ -46,7 +46,7 @@ impl Book {
     fn ballot(&self, unit: Id) -> Option<Ballot>
         ensures { option_map poll_of result ≡ (state_in self.now).polls unit }
     {
-        match self.polls.get(&unit) {
+        match self.polls.get(unit) {
             Some(kept) => Some(kept.since(self.restarts)),
             None => None,
         }
@@ -148,10 +148,10 @@ impl Book {
             begun: self.restarts,
         };
         match self.polls.insert(unit, kept) {
-            Ok(_) => Ok(()),
-            Err(_) => {
+            Ok(()) => Ok(()),
+            Err(e) => {
                 self.sent.truncate(before);
-                Err(AllocError)
+                Err(e)
             }
         }
     }

@@ -12,6 +12,7 @@ mod leader;
 mod net;
 mod nodes;
 mod pace;
+mod polls;
 mod reaction;
 mod waiting;
 
