@@ -63,6 +63,15 @@ may_be_nodes p (s ∷ ss) few = by (has_changes s) (may_be_nodes (suc p) ss (ome
         ap (λ (b : Bool). b && (not (has_node (suc p) rest) && are_nodes rest)) one ∙ ap (λ (b : Bool). not b && are_nodes rest) (none_below (suc p) (suc p) ss (omega arith)) ∙ h
     by false h = h
 
+-- there are no more nodes than shares
+pub nodes_few : (p : ℕ) (ss : List (List Change)) → length (nodes_from p ss) ≤ length ss
+nodes_few p [] = omega arith
+nodes_few p (s ∷ ss) = by (has_changes s) (nodes_few (suc p) ss)
+  where
+    by : (b : Bool) → length (nodes_from (suc p) ss) ≤ length ss → length (if b then suc p ∷ nodes_from (suc p) ss else nodes_from (suc p) ss) ≤ suc (length ss)
+    by true h = omega (arith, h)
+    by false h = omega (arith, h)
+
 -- a share with changes has its node, and each node is that of a share
 named_share : (q : ℕ) (ss : List (List Change)) (p : ℕ) → has_changes (share_at ss p) ≡ true → has_node (suc (q + p)) (nodes_from q ss) ≡ true
 named_share q [] p some = absurd cc

@@ -2,24 +2,22 @@
 
 ghost use Rattle.salt_commit.specs.Messages.{nodes_of};
 ghost use Rattle.salt_net.specs.Flags.{are_nodes};
-ghost use Rattle.std.specs.Prelude.{IfOk, length, true, ◌≡◌, ◌≤◌};
+ghost use Rattle.std.specs.Prelude.{length, true, ◌≡◌, ◌≤◌};
 
 use salt_net::Nodes;
 use salt_values::Changes;
-use sqlite_items::Items;
-use std::alloc::{AllocError, Global};
 
 /// The nodes of the partitions whose share has changes, in order: partition p is node p + 1. A unit may have them.
-pub fn nodes_of(alloc: Global, shares: &[Changes]) -> Result<Nodes, AllocError>
+pub fn nodes_of(shares: &[Changes]) -> Nodes
     requires { length shares.now ≤ 8 }
-    ensures nodes { IfOk result (λ nodes. nodes ≡ nodes_of shares.now) }
+    ensures nodes { result ≡ nodes_of shares.now }
     ensures may { are_nodes (nodes_of shares.now) ≡ true }
 {
-    let mut nodes = Items::new(alloc);
+    let mut nodes = Nodes::new();
     for number in 0..shares.len() {
         if !shares[number].is_empty() {
-            nodes.push(number as u8 + 1)?;
+            nodes.push(number as u8 + 1);
         }
     }
-    Ok(nodes)
+    nodes
 }

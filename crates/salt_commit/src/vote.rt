@@ -118,7 +118,7 @@ pub fn vote_all<D: Disks>(
     ensures voted { HaveVoted (D.view disks.old) (D.view disks.new) parts.old.items parts.new.items unit shares.now (result_err result) }
     ensures way { OnOk result (IsOnTheWay unit (nodes_of shares.now) (first_of unit (nodes_of shares.now) messages.old) messages.new) }
 {
-    let nodes = nodes_of(alloc, shares)?;
+    let nodes = nodes_of(shares);
     begin(messages, unit, nodes)?;
     let mut steps: u64 = 0;
     'vote: while is_voting(messages, unit) {

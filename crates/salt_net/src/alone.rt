@@ -7,7 +7,7 @@ ghost use Rattle.salt_net.specs.Turns.{commits};
 ghost use Rattle.salt_net.specs.declared.kinds.NetEvent.TheVariants.{Start};
 ghost use Rattle.std.specs.Prelude.{[], OnOk, true, ◌≡◌};
 
-use crate::kinds::Nodes;
+use crate::nodes::Nodes;
 use crate::pace::Messages;
 use salt_values::{Id, next_number};
 use std::alloc::AllocError;

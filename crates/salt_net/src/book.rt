@@ -6,7 +6,7 @@ use crate::ballot::Ballot;
 use crate::deeds::{deed_of, is_done};
 use crate::kept::Kept;
 use crate::kinds::{Deed, Message, NetEvent, NodeStatus};
-use crate::nodes::{are_nodes, is_node_of};
+use crate::nodes::{Nodes, are_nodes, is_node_of};
 use crate::polls::Polls;
 use crate::reaction::{asking, hearing, refusing, resending, starting};
 use salt_values::{Id, next_number};
@@ -147,7 +147,7 @@ impl Book {
             ballot,
             begun: self.restarts,
         };
-        match self.polls.insert(unit, kept) {
+        match self.polls.insert(unit, &kept) {
             Ok(()) => Ok(()),
             Err(e) => {
                 self.sent.truncate(before);
@@ -157,9 +157,9 @@ impl Book {
     }
 
     /// A unit of these nodes is started.
-    fn start(&mut self, unit: Id, nodes: &[u8]) -> Result<(), AllocError>
-        requires { can_happen (state_in self.old) (Start unit nodes.now) ≡ true }
-        ensures ok { OnOk result (state_in self.new ≡ after (state_in self.old) (Start unit nodes.now)) }
+    fn start(&mut self, unit: Id, nodes: Nodes) -> Result<(), AllocError>
+        requires { can_happen (state_in self.old) (Start unit nodes) ≡ true }
+        ensures ok { OnOk result (state_in self.new ≡ after (state_in self.old) (Start unit nodes)) }
         ensures err { OnErr result (state_in self.new ≡ state_in self.old) }
     {
         let before = self.sent.len();
@@ -257,7 +257,7 @@ impl Book {
         ensures err { OnErr result (state_in self.new ≡ state_in self.old) }
     {
         match event {
-            NetEvent::Start { unit, nodes } => self.start(*unit, nodes.as_slice()),
+            NetEvent::Start { unit, nodes } => self.start(*unit, *nodes),
             NetEvent::Deliver(number) => self.deliver(*number),
             NetEvent::Refuse { unit, node } => self.refuse(*unit, *node),
             NetEvent::Resend(unit) => self.resend(*unit),

@@ -17,8 +17,9 @@ mod reaction;
 mod waiting;
 
 pub use alone::commit_alone;
-pub use kinds::{Deed, Message, NetErr, NetEvent, NodeStatus, Nodes};
+pub use kinds::{Deed, Message, NetErr, NetEvent, NodeStatus};
 pub use laws::{deeds_are_changes, every_commit_ends, every_net_is_agreed};
 pub use net::Net;
+pub use nodes::Nodes;
 pub use pace::{Left, Messages};
 pub use waiting::{Twist, Waiting};

@@ -47,13 +47,13 @@ impl Polls {
     }
 
     /// Keeps this of a unit.
-    pub fn insert(&mut self, unit: Id, kept: Kept) -> Result<(), AllocError>
-        ensures ok { OnOk result (Writes self.old.by_name self.new.by_name unit kept) }
+    pub fn insert(&mut self, unit: Id, kept: &Kept) -> Result<(), AllocError>
+        ensures ok { OnOk result (Writes self.old.by_name self.new.by_name unit kept.now) }
         ensures err { OnErr result (IsUnchanged self.old.by_name self.new.by_name) }
     {
-        match self.by_name.insert(unit, kept) {
+        match self.by_name.insert(unit, *kept) {
             Ok(_) => {
-                self.last = Some((unit, kept));
+                self.last = Some((unit, *kept));
                 Ok(())
             }
             Err(_) => Err(AllocError),

@@ -6,11 +6,11 @@ ghost use Rattle.std.specs.Prelude.{◌≡◌};
 
 use salt_disk::MemDisks;
 use salt_io::{StdSink, StdSource};
-use salt_net::{Message, Net, NetErr, NetEvent, Nodes};
+use salt_net::{Message, Net, NetErr, NetEvent};
 use salt_place::{PlaceKind, Placement, place_of};
 use salt_run::{Status, run};
 use salt_values::{Id, Key};
-use std::alloc::{AllocError, Global};
+use std::alloc::AllocError;
 use std::process::ExitCode;
 use std::rt::Env;
 use std::{env, io};
@@ -97,27 +97,6 @@ fn show_event(rt: &HostRuntime, event: &NetEvent) -> Result<(), ShowErr> {
     }
 }
 
-/// An event like this.
-fn copied(alloc: Global, event: &NetEvent) -> Result<NetEvent, AllocError> {
-    Ok(match event {
-        NetEvent::Start { unit, nodes } => NetEvent::Start {
-            unit: *unit,
-            nodes: Nodes::from_slice(alloc, nodes.as_slice())?,
-        },
-        NetEvent::Deliver(number) => NetEvent::Deliver(*number),
-        NetEvent::Refuse { unit, node } => NetEvent::Refuse {
-            unit: *unit,
-            node: *node,
-        },
-        NetEvent::Resend(unit) => NetEvent::Resend(*unit),
-        NetEvent::Ask { unit, node } => NetEvent::Ask {
-            unit: *unit,
-            node: *node,
-        },
-        NetEvent::Restart(node) => NetEvent::Restart(*node),
-    })
-}
-
 /// Prints what happened, each event with the messages that it sends, and behind it which units have not ended at each node.
 fn show_net(rt: &HostRuntime, net: &Net) -> Result<(), ShowErr> {
     let alloc = rt.alloc();
@@ -125,7 +104,7 @@ fn show_net(rt: &HostRuntime, net: &Net) -> Result<(), ShowErr> {
     let mut told: usize = 0;
     for event in net.done() {
         show_event(rt, event)?;
-        again.step(copied(alloc, event)?)?;
+        again.step(*event)?;
         let sent = again.sent();
         while let Some(message) = sent.get(told) {
             show_message(rt, told, *message)?;

@@ -10,11 +10,11 @@ use Rattle.std.proofs.Common.{None, Some, ap, arith, refl, subst, sym, ◌∙◌
 use Rattle.std.proofs.lemmas.Result.{err_from_is_err_and}
 
 pub begin-requires-clause-nodes : goal.begin-requires-clause-nodes
-begin-requires-clause-nodes g c = ap are_nodes c.in_ok-nodes.ensures.nodes ∙ c.in_ok-nodes.ensures.may
+begin-requires-clause-nodes g c = ap are_nodes c.nodes_of-nodes.ensures.nodes ∙ c.nodes_of-nodes.ensures.may
 
 pub vote-init : goal.vote-init
 vote-init g c =
-    let same = c.in_ok-nodes.ensures.nodes in
+    let same = c.nodes_of-nodes.ensures.nodes in
     votes_first (g.D.Disks.view c.args.disks.now) c.args.parts.now.items c.args.unit c.args.shares.now (first_of c.args.unit (nodes_of c.args.shares.now) c.args.messages.now) c.begin.new.messages
     (subst (λ l. IsOnTheWay c.args.unit l (first_of c.args.unit l c.args.messages.now) c.begin.new.messages) same c.in_ok-begin.ensures.way) c.in_ok-begin.ensures.idle
     (subst (λ l. IsUndecided c.args.unit l c.begin.new.messages) same c.in_ok-begin.ensures.undecided)
@@ -50,16 +50,10 @@ vote-preserved g c =
     (subst (λ nx. DidNext nx (g.D.Disks.view l.disks) e l.parts.items c.do_next.new.parts.items c.args.unit c.args.shares.now None) c.next_of-next.ensures c.in_ok-do_next.ensures)
     (c.in_ok-pass.ensures.way (nodes_of c.args.shares.now) (first_of c.args.unit (nodes_of c.args.shares.now) c.args.messages.now) l.invariant.way) (c.in_ok-pass.ensures.held y.1 y.0)
 
-pub returns-in_err-nodes-clause-voted : goal.returns-in_err-nodes-clause-voted
-returns-in_err-nodes-clause-voted g c =
-    let d = g.D.Disks.view c.args.disks.now in
-    let p = err_from_is_err_and c.from_residual.result c.from_residual.ensures.1 in
-    rw (p.1, p.2) (goes_lacking d d c.args.parts.now.items c.args.parts.now.items c.args.unit c.args.shares.now (λ k. Idle) (all_idle d c.args.parts.now.items c.args.unit c.args.shares.now))
-
 pub returns-in_err-begin-clause-voted : goal.returns-in_err-begin-clause-voted
 returns-in_err-begin-clause-voted g c =
     let d = g.D.Disks.view c.args.disks.now in
-    let p = err_from_is_err_and c.from_residual-in_err-begin.result c.from_residual-in_err-begin.ensures.1 in
+    let p = err_from_is_err_and c.from_residual.result c.from_residual.ensures.1 in
     rw (p.1, p.2) (goes_lacking d d c.args.parts.now.items c.args.parts.now.items c.args.unit c.args.shares.now (λ k. Idle) (all_idle d c.args.parts.now.items c.args.unit c.args.shares.now))
 
 pub returns-in_err-mind_doubt-clause-voted : goal.returns-in_err-mind_doubt-clause-voted
