@@ -97,20 +97,28 @@ fn show_event(rt: &HostRuntime, event: &NetEvent) -> Result<(), ShowErr> {
     }
 }
 
-/// Prints what happened, each event with the messages that it sends, and behind it which units have not ended at each node.
-fn show_net(rt: &HostRuntime, net: &Net) -> Result<(), ShowErr> {
-    let alloc = rt.alloc();
-    let mut again = Net::new(alloc);
-    let mut told: usize = 0;
+/// Prints the messages from a number on.
+fn show_messages(rt: &HostRuntime, first: usize, sent: &[Message]) -> Result<(), ShowErr> {
+    for number in first..sent.len() {
+        show_message(rt, number, sent[number])?;
+    }
+    Ok(())
+}
+
+/// Prints what happened, each event with the messages that it sends.
+fn show_events(rt: &HostRuntime, net: &Net) -> Result<(), ShowErr> {
+    let mut again = Net::new(rt.alloc());
     for event in net.done() {
+        let told = again.sent().len();
         show_event(rt, event)?;
         again.step(*event)?;
-        let sent = again.sent();
-        while let Some(message) = sent.get(told) {
-            show_message(rt, told, *message)?;
-            told += 1;
-        }
+        show_messages(rt, told, again.sent())?;
     }
+    Ok(())
+}
+
+/// Prints which units have not ended at each of their nodes.
+fn show_left(rt: &HostRuntime, net: &Net) -> Result<(), ShowErr> {
     for event in net.done() {
         if let NetEvent::Start { unit, nodes: _ } = event {
             if !net.is_done(*unit) {
@@ -142,7 +150,8 @@ fn show(rt: &HostRuntime) -> Result<Status, ShowErr> {
         &place,
     );
     if let Some(net) = &ended.net {
-        show_net(rt, net)?;
+        show_events(rt, net)?;
+        show_left(rt, net)?;
     }
     Ok(ended.status)
 }
