@@ -3,7 +3,7 @@
 
 A unit changes a row in each of so many partitions. Prints the instructions of a unit without `--net` and with it, what begins and ends a run taken off; the bytes that the
 list of events takes for a unit, and those of memory that a unit takes more in all. Ends with 1 where the stories differ, units cost over 1.3 times as much, or the events of a
-unit that changes one row take over 400 bytes.
+unit that changes two rows take over 400 bytes.
 
     bench/net.py [--program PATH] [--units N]
 """
@@ -15,7 +15,7 @@ from timing import instructions, made
 CHANGED = [1, 2, 4, 8]
 PARTS = 8
 RATIO = 1.3
-EVENT = 48
+EVENT = 32
 MOST = 400
 LIMIT = 600
 
@@ -89,7 +89,7 @@ def main():
         more = unit_memory(program, 10 * words.units, changed)
         print(f"{changed:12} {direct:10,.0f} {over:14,.0f} {over / direct:6.2f} {EVENT * events_of(changed):33} {more:7,.0f}", flush=True)
         failed |= over / direct > RATIO
-    failed |= EVENT * events_of(1) > MOST
+    failed |= EVENT * events_of(2) > MOST
     return failed
 
 
