@@ -7,7 +7,7 @@ use Rattle.std.specs.Prelude.{List, None, Option, Some, [], codes, false, refl, 
 
 -- the lines of a script over so many partitions
 abbrev over : ℕ → Command
-over parts = Script (record { parts = parts; kind = Remainder }) false
+over parts = Script (record { parts = parts; kind = Remainder }) false false
 
 -- the command, and the folder of a run
 abbrev said : List (List ℕ) → Option Command × Option (List ℕ)
