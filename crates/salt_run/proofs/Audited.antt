@@ -6,8 +6,8 @@ use Rattle.salt_promise.specs.declared.status.Status.{Status}
 use Rattle.salt_run.specs.Auditing.{Audits, EndsAudit, IsFound, IsTold, line_telling, status_telling}
 use Rattle.salt_audit.specs.declared.verdict.Verdict.TheVariants as verdict
 use Rattle.salt_audit.specs.declared.verdict.Verdict.{Verdict}
-use Rattle.salt_transcript.specs.declared.source.TheConstants.{TRANSCRIPT_MOST}
-use Rattle.std.proofs.Common.{List, None, Option, Some, length, refl, subst, ℕ, ◌<◌, ◌≡◌, ◌≤◌}
+use Rattle.salt_transcript.specs.Stopping.{IsTooLong}
+use Rattle.std.proofs.Common.{List, None, Option, Some, refl, subst, ℕ, ◌≡◌, ◌≤◌}
 use Rattle.std.specs.Prelude.{IfSome}
 
 -- a verdict whose line is written, or in which the sink failed, or memory ran out
@@ -56,7 +56,7 @@ audits_nothing source source_now sink same = record { ends = refl; reads = same;
 pub audits_fault : (source source_now sink : Stream) → source.faults ≤ source_now.faults → Rose source.faults source_now.faults → Audits ReadFault source source_now sink sink
 audits_fault source source_now sink later rose = record { ends = refl; reads = (later, rose); writes = refl }
 
-pub audits_long : (source source_now sink : Stream) → IfSome source.bytes (λ all. TRANSCRIPT_MOST < length all) → source_now.faults ≡ source.faults →
+pub audits_long : (source source_now sink : Stream) → IfSome source.bytes IsTooLong → source_now.faults ≡ source.faults →
     Audits TranscriptTooLong source source_now sink sink
 audits_long source source_now sink long same = record { ends = (long, refl); reads = same; writes = refl }
 

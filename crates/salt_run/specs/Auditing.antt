@@ -8,9 +8,9 @@ use Rattle.salt_promise.specs.Given.{Stream}
 use Rattle.salt_promise.specs.Runs.{ends_reading, ends_writing}
 use Rattle.salt_promise.specs.declared.status.Status.TheVariants.{Broken, Done, Memory, ReadFault, TranscriptTooLong, Unread, WriteFault}
 use Rattle.salt_promise.specs.declared.status.Status.{Status}
+use Rattle.salt_transcript.specs.Stopping.{IsTooLong}
 use Rattle.salt_transcript.specs.Wording.{verdict_text}
-use Rattle.salt_transcript.specs.declared.source.TheConstants.{TRANSCRIPT_MOST}
-use Rattle.std.specs.Prelude.{IfSome, List, Option, [], length, ℕ, ◌++◌, ◌<◌, ◌∷◌, ◌≡◌, ◌≤◌}
+use Rattle.std.specs.Prelude.{IfSome, List, Option, [], ℕ, ◌++◌, ◌∷◌, ◌≡◌}
 
 -- how a run ends that tells a verdict
 abbrev pub status_telling : Verdict → Status
@@ -22,11 +22,11 @@ status_telling (verdict.Unformed event) = Unread
 abbrev pub line_telling : Verdict → List ℕ
 line_telling v = verdict_text v ++ 10 ∷ []
 
--- this is the verdict on the bytes, which are within their most, and no other is
+-- this is the verdict on the bytes, and no other is; it is found within the most bytes of a transcript
 pub record IsFound (v : Verdict) (bytes : List ℕ) : Type 0 where
   pub is : IsVerdict bytes v
   pub only : (other : Verdict) → IsVerdict bytes other → other ≡ v
-  pub within : length bytes ≤ TRANSCRIPT_MOST
+  pub within : IsTooLong bytes → ⊥
 
 -- the source's bytes have this verdict, where it tells them, and its line is written
 pub record Tells (bytes before now : Option (List ℕ)) (status : Status) : Type 0 where
@@ -45,7 +45,7 @@ abbrev pub EndsAudit : Status → (bytes before now : Option (List ℕ)) → Typ
 EndsAudit Done bytes before now = Tells bytes before now Done
 EndsAudit Broken bytes before now = Tells bytes before now Broken
 EndsAudit Unread bytes before now = Tells bytes before now Unread
-EndsAudit TranscriptTooLong bytes before now = IfSome bytes (λ all. TRANSCRIPT_MOST < length all) × (now ≡ before)
+EndsAudit TranscriptTooLong bytes before now = IfSome bytes IsTooLong × (now ≡ before)
 EndsAudit WriteFault bytes before now = TellsShort bytes before now
 EndsAudit ReadFault bytes before now = now ≡ before
 EndsAudit Memory bytes before now = now ≡ before

@@ -1,7 +1,9 @@
+mod Coming
 mod Cutting
 mod Ending
 mod Finding
 mod Longest
 mod Onward
-mod Pieces
+mod ReadIn
+mod Stopping
 mod Taking

@@ -21,7 +21,7 @@ use Rattle.salt_model.specs.declared.events.Event.{Event}
 use Rattle.salt_model.specs.declared.shown.Item.TheVariants as item
 use Rattle.salt_model.specs.declared.shown.Item.{Item}
 use Rattle.salt_transcript.specs.Fronts.{GoesOnNowhere}
-use Rattle.std.proofs.Common.{Bool, List, None, Some, [], ap, append-nil, append_assoc, arith, codes, false, flat_map, inl, inr, length, map, refl, subst, sym, true, true≢false, ℕ, ◌+◌, ◌++◌, ◌<◌, ◌==◌, ◌^◌, ◌∙◌, ◌∷◌, ◌≡◌, ◌≤◌, ◌⊎◌}
+use Rattle.std.proofs.Common.{Bool, List, None, Some, [], ap, append-nil, append_assoc, arith, codes, false, flat_map, inl, inr, length, map, refl, subst, sym, true, true≢false, ℕ, ◌+◌, ◌++◌, ◌<◌, ◌==◌, ◌∙◌, ◌∷◌, ◌≡◌, ◌≤◌, ◌⊎◌}
 use Rattle.std.proofs.lemmas.Bool.Decides.{nat_tests}
 use Rattle.std.proofs.lemmas.List.{append_cancel_left, length-append}
 use Rattle.std.specs.Fmt.{decimal}
@@ -71,16 +71,6 @@ showable_all : (schema : List TableDef) (js : List Item) → Every (IsPrintableI
 showable_all schema [] g h = tt
 showable_all schema (j ∷ js) g h = ((g.0, h.0), showable_all schema js g.1 h.1)
 
--- so many items have as many bytes at least
-items_bytes : (schema : List TableDef) (js : List Item) → length js ≤ length (flat_map (item_text schema) js)
-items_bytes schema [] = omega arith
-items_bytes schema (j ∷ js) =
-    let more = items_bytes schema js in
-    let parts = length-append (item_text schema j) (flat_map (item_text schema) js) in
-    let ended = ap length (item_ended schema j) in
-    let line = length-append (item_line schema j) (10 ∷ []) in
-    omega (arith, more, parts, ended, line)
-
 -- no line in front goes on behind all these items
 module _ (schema : List TableDef) (all : List Item) (rest : List ℕ) (nowhere : GoesOnNowhere schema all rest) where
   no_item_goes : (j : Item) (js : List Item) (x : List ℕ) → Inline (item_line schema j) → IsShowable schema j → rest ≡ flat_map (item_text schema) (j ∷ js) ++ x → ⊥
@@ -105,11 +95,11 @@ module _ (schema : List TableDef) (all : List Item) (rest : List ℕ) (nowhere :
   -- THEIR COUNT
 
   count_stuck : (is js : List Item) (n : ℕ) (z : List ℕ) → AreLines schema is → AreLines schema js → Every (IsShowable schema) js → Inline (codes "shown " ++ decimal n) →
-      IsSized n → length all + length js ≡ n + length is → flat_map (item_text schema) is ++ rest ≡ flat_map (item_text schema) js ++ (count_line n ++ z) → ⊥
+      IsSized (length all) → length all + length js ≡ n + length is → flat_map (item_text schema) is ++ rest ≡ flat_map (item_text schema) js ++ (count_line n ++ z) → ⊥
   count_stuck [] [] n z g h p inline sized even e =
       let same : n ≡ length all = omega (arith, even) in
       nowhere (codes "shown " ++ decimal n) z [] (Some (event.Shown all)) (record { inline = inline; text = e ∙ append_assoc (codes "shown " ++ decimal n) (10 ∷ []) z })
-      (counts (subst IsSized same sized) (ap (λ (k : ℕ). codes "shown " ++ decimal k) same))
+      (counts sized (ap (λ (k : ℕ). codes "shown " ++ decimal k) same))
   count_stuck [] (j ∷ js) n z g h p inline sized even e = no_item_goes j js (count_line n ++ z) h.0 p.0 e
   count_stuck (i ∷ is) [] n z g h p inline sized even e =
       no_count schema i n (flat_map (item_text schema) is ++ rest) z (sym (append_assoc (item_text schema i) (flat_map (item_text schema) is) rest) ∙ e)
@@ -133,50 +123,43 @@ module _ (schema : List TableDef) (all : List Item) (rest : List ℕ) (nowhere :
         no_item schema i e (flat_map (item_text schema) is ++ rest) z p.sizes (λ js q. subst ShowsNothing q shows)
         (sym (append_assoc (item_text schema i) (flat_map (item_text schema) is) rest) ∙ text)
 
-    shown_stuck : (js : List Item) (z : List ℕ) → IsPrintable schema (event.Shown js) → length (event_text schema (event.Shown js) ++ z) < 2 ^ 64 →
+    shown_stuck : (js : List Item) (z : List ℕ) → IsPrintable schema (event.Shown js) → IsSized (length all) →
         flat_map (item_text schema) all ++ rest ≡ event_text schema (event.Shown js) ++ z → ⊥
-    shown_stuck js z p short e =
+    shown_stuck js z p sized e =
         let items = flat_map (item_text schema) js in
         let count = codes "shown " ++ decimal (length js) in
         let shows = showable_all schema js p.form p.sizes in
         let text : event_text schema (event.Shown js) ++ z ≡ items ++ (count_line (length js) ++ z) =
         ap (λ (l : List ℕ). l ++ z) (append_assoc items count (10 ∷ [])) ∙ append_assoc items (count_line (length js)) z in
-        let long = ap length text in
-        let parts = length-append items (count_line (length js) ++ z) in
-        let bytes = items_bytes schema js in
-        let within : length js ≤ length (event_text schema (event.Shown js) ++ z) = omega (arith, long, parts, bytes) in
         count_stuck all js (length js) z (are_lines whole schema naming all showable) (are_lines whole schema naming js shows) shows
         (last_inline (map (item_line schema) js) count (whole schema (event.Shown js) (record { naming = naming; events = (p, tt) })))
-        (below (length js) (length (event_text schema (event.Shown js) ++ z)) (2 ^ 64) within short) (omega arith) (e ∙ text)
-      where
-        below : (a b m : ℕ) → a ≤ b → b < m → a < m
-        below a b m g h = omega arith
+        sized (omega arith) (e ∙ text)
 
-    event_stuck : (e : Event) (z : List ℕ) → IsPrintable schema e → length (event_text schema e ++ z) < 2 ^ 64 → flat_map (item_text schema) all ++ rest ≡ event_text schema e ++ z → ⊥
-    event_stuck (event.Shown js) z p short text = shown_stuck js z p short text
-    event_stuck (event.Began u k) z p short text = plain_stuck all (event.Began u k) z refl tt p text
-    event_stuck (event.Did u st a) z p short text = plain_stuck all (event.Did u st a) z refl tt p text
-    event_stuck (event.Waits u os) z p short text = plain_stuck all (event.Waits u os) z refl tt p text
-    event_stuck (event.Ended u d) z p short text = plain_stuck all (event.Ended u d) z refl tt p text
-    event_stuck (event.Accepted b) z p short text = plain_stuck all (event.Accepted b) z refl tt p text
-    event_stuck (event.Finished b) z p short text = plain_stuck all (event.Finished b) z refl tt p text
-    event_stuck (event.Released bs) z p short text = plain_stuck all (event.Released bs) z refl tt p text
-    event_stuck (event.Early bs) z p short text = plain_stuck all (event.Early bs) z refl tt p text
-    event_stuck (event.Down w) z p short text = plain_stuck all (event.Down w) z refl tt p text
-    event_stuck (event.Opened boot n) z p short text = plain_stuck all (event.Opened boot n) z refl tt p text
-    event_stuck event.Ready z p short text = plain_stuck all event.Ready z refl tt p text
-    event_stuck (event.Defined n text) z p short is = plain_stuck all (event.Defined n text) z refl tt p is
-    event_stuck (event.Refused r) z p short text = plain_stuck all (event.Refused r) z refl tt p text
-    event_stuck (event.Armed pairs) z p short text = plain_stuck all (event.Armed pairs) z refl tt p text
+    event_stuck : (e : Event) (z : List ℕ) → IsPrintable schema e → IsSized (length all) → flat_map (item_text schema) all ++ rest ≡ event_text schema e ++ z → ⊥
+    event_stuck (event.Shown js) z p sized text = shown_stuck js z p sized text
+    event_stuck (event.Began u k) z p sized text = plain_stuck all (event.Began u k) z refl tt p text
+    event_stuck (event.Did u st a) z p sized text = plain_stuck all (event.Did u st a) z refl tt p text
+    event_stuck (event.Waits u os) z p sized text = plain_stuck all (event.Waits u os) z refl tt p text
+    event_stuck (event.Ended u d) z p sized text = plain_stuck all (event.Ended u d) z refl tt p text
+    event_stuck (event.Accepted b) z p sized text = plain_stuck all (event.Accepted b) z refl tt p text
+    event_stuck (event.Finished b) z p sized text = plain_stuck all (event.Finished b) z refl tt p text
+    event_stuck (event.Released bs) z p sized text = plain_stuck all (event.Released bs) z refl tt p text
+    event_stuck (event.Early bs) z p sized text = plain_stuck all (event.Early bs) z refl tt p text
+    event_stuck (event.Down w) z p sized text = plain_stuck all (event.Down w) z refl tt p text
+    event_stuck (event.Opened boot n) z p sized text = plain_stuck all (event.Opened boot n) z refl tt p text
+    event_stuck event.Ready z p sized text = plain_stuck all event.Ready z refl tt p text
+    event_stuck (event.Defined n text) z p sized is = plain_stuck all (event.Defined n text) z refl tt p is
+    event_stuck (event.Refused r) z p sized text = plain_stuck all (event.Refused r) z refl tt p text
+    event_stuck (event.Armed pairs) z p sized text = plain_stuck all (event.Armed pairs) z refl tt p text
 
 -- STORIES
 
-unless : (m n : ℕ) → (m < n → ⊥) → n ≤ m
+unless : (m n : ℕ) → (n ≤ m → ⊥) → m < n
 unless m n never = by (nat_lt m n) refl
   where
-    by : (t : Bool) → nat_lt m n ≡ t → n ≤ m
-    by true is = let less : m < n = grind (arith, nat_tests, is) in absurd (never less)
-    by false is = grind (arith, nat_tests, is)
+    by : (t : Bool) → nat_lt m n ≡ t → m < n
+    by true is = grind (arith, nat_tests, is)
+    by false is = let more : n ≤ m = grind (arith, nat_tests, is) in absurd (never more)
 
 text_app : (trace : Trace) (as_ bs : List Event) → text_on trace (as_ ++ bs) ≡ text_on trace as_ ++ text_on (told_on trace as_) bs
 text_app trace [] bs = refl
@@ -220,7 +203,7 @@ pub record Laws : Type 0 where
   pub agree : StoriesAgree
   pub named : SoundAreNamed
 
-module _ (laws : Laws) (bytes : List ℕ) (short : length bytes < 2 ^ 64) (a : List Event) (is : List Item) (rest : List ℕ) (sure : found_in a ≡ sound)
+module _ (laws : Laws) (bytes : List ℕ) (a : List Event) (is : List Item) (sized : IsSized (length is)) (rest : List ℕ) (sure : found_in a ≡ sound)
     (g : Begins bytes (so a is) rest) (nowhere : GoesOnNowhere (tables_of a) is rest) where
   lines_are : (js : List Item) → Every (IsShowable (tables_of a)) js → AreLines (tables_of a) js
   lines_are js h = are_lines laws.whole (tables_of a) (laws.named a sure) js h
@@ -237,18 +220,11 @@ module _ (laws : Laws) (bytes : List ℕ) (short : length bytes < 2 ^ 64) (a : L
       let p = (printable_app (retold []) a (c ∷ cs) h.events).1.0 in
       let text : flat_map (item_text schema) is ++ rest ≡ event_text schema c ++ z =
       behind bytes a is js (c ∷ cs) rest less g h ∙ append_assoc (event_text schema c) (text_on (told (retold a) c) cs) (flat_map (item_text (tables_of (a ++ c ∷ cs))) js ++ less) in
-      let all = ap length (g.text ∙ append_assoc (text_on (retold []) a) (flat_map (item_text schema) is) rest) in
-      let parts = length-append (text_on (retold []) a) (flat_map (item_text schema) is ++ rest) in
-      let same = ap length text in
-      let few : length (event_text schema c ++ z) ≤ length bytes = omega (arith, all, parts, same) in
-      event_stuck schema is rest nowhere laws.whole (laws.named a sure) g.items c z p (lower (length (event_text schema c ++ z)) (length bytes) (2 ^ 64) few short) text
-    where
-      lower : (k b m : ℕ) → k ≤ b → b < m → k < m
-      lower k b m f h = omega arith
+      event_stuck schema is rest nowhere laws.whole (laws.named a sure) g.items c z p sized text
 
 -- a story that this one goes on with
-nearer : (laws : Laws) (bytes : List ℕ) (b : List Event) (c : Event) (cs : List Event) (is js : List Item) (rest less : List ℕ) → found_in (b ++ c ∷ cs) ≡ sound →
-    Begins bytes (so (b ++ c ∷ cs) is) rest → Begins bytes (so b js) less → length rest ≤ length less
+nearer : (laws : Laws) (bytes : List ℕ) (b : List Event) (c : Event) (cs : List Event) (is js : List Item) (rest less : List ℕ) → found_in b ≡ sound →
+    Begins bytes (so (b ++ c ∷ cs) is) rest → Begins bytes (so b js) less → length rest < length less
 nearer laws bytes b c cs is js rest less sure g h =
     let schema = tables_of b in
     let z = text_on (told (retold b) c) cs ++ (flat_map (item_text (tables_of (b ++ c ∷ cs))) is ++ rest) in
@@ -257,24 +233,38 @@ nearer laws bytes b c cs is js rest less sure g h =
     behind bytes b js is (c ∷ cs) less rest h g ∙ append_assoc (event_text schema c) (text_on (told (retold b) c) cs) (flat_map (item_text (tables_of (b ++ c ∷ cs))) is ++ rest) in
     let first = length-append (text_on (told (retold b) c) cs) (flat_map (item_text (tables_of (b ++ c ∷ cs))) is ++ rest) in
     let second = length-append (flat_map (item_text (tables_of (b ++ c ∷ cs))) is) rest in
-    let named = laws.named b (sound_front b (c ∷ cs) sure) in
-    unless (length less) (length rest)
-    (λ (shorter : length less < length rest). clash laws.whole schema named js c less z h.items p text (omega (arith, first, second, shorter)))
+    let named = laws.named b sure in
+    unless (length rest) (length less)
+    (λ (no_more : length less ≤ length rest). clash laws.whole schema named js c less z h.items p text (omega (arith, first, second, no_more)))
 
-pub longest : (laws : Laws) (bytes : List ℕ) (s : SoFar) (rest : List ℕ) → length bytes < 2 ^ 64 → found_in s.story ≡ sound → Begins bytes s rest →
+pub longest : (laws : Laws) (bytes : List ℕ) (s : SoFar) (rest : List ℕ) → IsSized (length s.items) → found_in s.story ≡ sound → Begins bytes s rest →
     GoesOnNowhere (tables_of s.story) s.items rest → IsLongest bytes rest
-longest laws bytes s rest short sure g nowhere t less h =
+longest laws bytes s rest sized sure g nowhere t less h =
     by (laws.agree s.story t.story (flat_map (item_text (tables_of s.story)) s.items ++ rest) (flat_map (item_text (tables_of t.story)) t.items ++ less) g.events h.events sure
     (sym (append_assoc (text_on (retold []) s.story) (flat_map (item_text (tables_of s.story)) s.items) rest) ∙ (sym g.text ∙ h.text)
     ∙ append_assoc (text_on (retold []) t.story) (flat_map (item_text (tables_of t.story)) t.items) less))
   where
     at_same : s.story ≡ t.story → length rest ≤ length less
-    at_same e = same_story laws bytes short s.story s.items rest sure g nowhere t.items less (subst (λ (a : List Event). Begins bytes (so a t.items) less) (sym e) h)
+    at_same e = same_story laws bytes s.story s.items sized rest sure g nowhere t.items less (subst (λ (a : List Event). Begins bytes (so a t.items) less) (sym e) h)
 
     by : IsFrontOf s.story t.story ⊎ IsFrontOf t.story s.story → length rest ≤ length less
     by (inl ([], e)) = at_same (sym (append-nil s.story) ∙ sym e)
-    by (inl (c ∷ cs, e)) = absurd (further laws bytes short s.story s.items rest sure g nowhere c cs t.items less (subst (λ (b : List Event). Begins bytes (so b t.items) less) e h))
+    by (inl (c ∷ cs, e)) = absurd (further laws bytes s.story s.items sized rest sure g nowhere c cs t.items less (subst (λ (b : List Event). Begins bytes (so b t.items) less) e h))
     by (inr ([], e)) = at_same (e ∙ append-nil t.story)
     by (inr (c ∷ cs, e)) =
-        nearer laws bytes t.story c cs s.items t.items rest less (subst (λ (b : List Event). found_in b ≡ sound) e sure)
-        (subst (λ (b : List Event). Begins bytes (so b s.items) rest) e g) h
+        let front = sound_front t.story (c ∷ cs) (subst (λ (b : List Event). found_in b ≡ sound) e sure) in
+        let near = nearer laws bytes t.story c cs s.items t.items rest less front (subst (λ (b : List Event). Begins bytes (so b s.items) rest) e g) h in
+        omega (arith, near)
+
+-- no sound story reaches behind an event that is amiss
+pub before_amiss : (laws : Laws) (bytes : List ℕ) (s : SoFar) (more : List ℕ) → (found_in s.story ≡ sound → ⊥) → Begins bytes s more →
+    (t : SoFar) (less : List ℕ) → found_in t.story ≡ sound → Begins bytes t less → length more < length less
+before_amiss laws bytes s more amiss g t less sure h =
+    by (laws.agree t.story s.story (flat_map (item_text (tables_of t.story)) t.items ++ less) (flat_map (item_text (tables_of s.story)) s.items ++ more) h.events g.events sure
+    (sym (append_assoc (text_on (retold []) t.story) (flat_map (item_text (tables_of t.story)) t.items) less) ∙ (sym h.text ∙ g.text)
+    ∙ append_assoc (text_on (retold []) s.story) (flat_map (item_text (tables_of s.story)) s.items) more))
+  where
+    by : IsFrontOf t.story s.story ⊎ IsFrontOf s.story t.story → length more < length less
+    by (inl ([], e)) = absurd (amiss (subst (λ (b : List Event). found_in b ≡ sound) (sym (e ∙ append-nil t.story)) sure))
+    by (inl (c ∷ cs, e)) = nearer laws bytes t.story c cs s.items t.items more less sure (subst (λ (b : List Event). Begins bytes (so b s.items) more) e g) h
+    by (inr (front, e)) = absurd (amiss (sound_front s.story front (subst (λ (b : List Event). found_in b ≡ sound) e sure)))

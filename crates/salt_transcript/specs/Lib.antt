@@ -1,3 +1,4 @@
 pub mod Fronts
 pub mod Reading
+pub mod Stopping
 pub mod Wording

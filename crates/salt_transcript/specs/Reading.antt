@@ -1,7 +1,7 @@
 -- What is known behind lines that are read, and what becomes of it by the next one.
 use Rattle.law_texts.specs.EventLines.{Inline}
 use Rattle.salt_audit.specs.Retelling.{retold}
-use Rattle.salt_audit.specs.Transcripts.{ArePrintableOn, IsShowable, IsVerdict, SoFar, lines_so_far, tables_of, text_so_far}
+use Rattle.salt_audit.specs.Transcripts.{ArePrintableOn, IsShowable, SoFar, lines_so_far, tables_of, text_so_far}
 use Rattle.salt_audit.specs.Verdicts.{broken, found_in, sound, unformed}
 use Rattle.salt_audit.specs.declared.verdict.Law.{Law}
 use Rattle.salt_audit.specs.declared.verdict.Verdict.{Verdict}
@@ -11,11 +11,13 @@ use Rattle.salt_model.specs.Printable.{IsPrintable}
 use Rattle.salt_model.specs.Words.{Every}
 use Rattle.salt_model.specs.declared.events.Event.{Event}
 use Rattle.salt_model.specs.declared.shown.Item.{Item}
+use Rattle.salt_transcript.specs.Stopping.{Settles}
+use Rattle.salt_transcript.specs.declared.pieces.Pieces.{Pieces}
 use Rattle.salt_transcript.specs.declared.reader.Reader.{Reader}
 use Rattle.salt_values.specs.declared.id.Id.{Id}
 use Rattle.salt_judge.specs.Judging.{HoldsAll}
 use Rattle.salt_judge.specs.declared.judge.Judge.{Judge}
-use Rattle.std.specs.Prelude.{Bool, List, Option, [], false, length, suc, true, ℕ, ◌++◌, ◌+◌, ◌<◌, ◌^◌, ◌∷◌, ◌≡◌}
+use Rattle.std.specs.Prelude.{Bool, List, Option, [], false, length, suc, true, ℕ, ◌++◌, ◌+◌, ◌∷◌, ◌≡◌}
 
 -- what is known is that of a sound story, whose tables have names, each another
 pub record HasTold (judge : Judge) (story : List Event) : Type 0 where
@@ -81,6 +83,13 @@ pub record GoesNowhere (r : Reader) (s : SoFar) (line : List ℕ) : Type 0 where
   pub nowhere : (after : List Item) (told : Option Event) → GoesOn (tables_of s.story) s.items line (after, told) → ⊥
   pub lines : r.lines ≡ lines_so_far s
 
--- this is the verdict on all bytes that begin with what is read and then the line
+-- this is the verdict on all bytes that begin with what is read and then the line, and the line gives it
 abbrev pub EndsAs : SoFar → List ℕ → Verdict → Type 0
-EndsAs s line v = (bytes more : List ℕ) → length bytes < 2 ^ 64 → Inline line → bytes ≡ text_so_far s ++ (line ++ (10 ∷ more)) → IsVerdict bytes v
+EndsAs s line v = (bytes more : List ℕ) → Inline line → bytes ≡ text_so_far s ++ (line ++ (10 ∷ more)) → Settles bytes more v
+
+-- these bytes came: what is read so far, and then what is at hand of a line that has not ended
+pub record HasCome (p : Pieces) (bytes : List ℕ) : Type 0 where
+  pub so_far : SoFar
+  pub read : HasRead p.reader so_far
+  pub inline : Inline p.rest.items
+  pub text : bytes ≡ text_so_far so_far ++ p.rest.items

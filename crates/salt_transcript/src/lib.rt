@@ -2,11 +2,10 @@
 #![tactic(auto)]
 
 mod front;
-mod judged;
+mod pieces;
 mod reader;
 mod source;
 mod words;
 
-pub use judged::verdict_on;
 pub use source::{AuditErr, audit};
 pub use words::print_verdict;

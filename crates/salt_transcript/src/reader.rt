@@ -6,7 +6,7 @@ ghost use Rattle.salt_audit.specs.declared.verdict.Law.{Law};
 ghost use Rattle.salt_cont.specs.Catalogues.{AllLeadOn};
 ghost use Rattle.salt_transcript.specs.Reading.{EndsAs, EndsBroken, EndsUnformed, GoesNowhere, GoesOnTo, HasBroken, HasRead, HasRefused, HasTaken, is_all_told};
 ghost use Rattle.salt_values.specs.declared.id.Id.{Id};
-ghost use Rattle.std.specs.Prelude.{IfOk, IfSome, List, None, Ok, OnOk, [], length, ℕ, ◌++◌, ◌+◌, ◌<◌, ◌^◌, ◌≡◌, ◌≢◌};
+ghost use Rattle.std.specs.Prelude.{IfOk, IfSome, List, None, Ok, OnOk, [], ℕ, ◌++◌, ◌+◌, ◌<◌, ◌^◌, ◌≡◌, ◌≢◌};
 
 use law_texts::lines_of_event;
 use salt_audit::{
@@ -73,7 +73,8 @@ impl Reader {
 
     /// The line behind those that are read goes on with no story.
     fn not_text(&self) -> Result<Verdict, AllocError>
-        ensures { IfOk result (λ verdict. verdict ≡ Verdict.NotText (self.now.lines + 1)) }
+        ensures is { IfOk result (λ verdict. verdict ≡ Verdict.NotText (self.now.lines + 1)) }
+        ensures few { OnOk result (self.now.lines < 2 ^ 64) }
     {
         let line = next_number(self.lines)?;
         Ok(Verdict::NotText { line })
@@ -97,7 +98,7 @@ impl Reader {
 
     /// The verdict where no line is left that ends.
     pub fn ended(&self, rest: &[u8]) -> Result<Verdict, ViewErr>
-        ensures { IfOk result (λ verdict. (s : SoFar) (bytes : List ℕ) → HasRead self.now s → length bytes < 2 ^ 64 → Inline rest.now
+        ensures { IfOk result (λ verdict. (s : SoFar) (bytes : List ℕ) → HasRead self.now s → Inline rest.now
             → bytes ≡ text_so_far s ++ rest.now → IsVerdict bytes verdict) }
     {
         lines_of_event();

@@ -4,11 +4,11 @@ ghost use Rattle.salt_io.specs.Streams.{Rose};
 ghost use Rattle.salt_audit.specs.Transcripts.{IsVerdict};
 ghost use Rattle.salt_audit.specs.declared.verdict.Verdict.{Verdict};
 ghost use Rattle.salt_transcript.specs.declared.source.AuditErr.TheVariants.{Memory, ReadFault};
-ghost use Rattle.std.specs.Prelude.{Err, IfOk, IfSome, OnOk, length, ◌<◌, ◌≡◌, ◌≢◌, ◌≤◌, vec_len};
-ghost use Rattle.salt_transcript.specs.declared.source.TheConstants.{TRANSCRIPT_MOST};
+ghost use Rattle.salt_transcript.specs.Stopping.{IsTooLong};
+ghost use Rattle.std.specs.Prelude.{Err, IfOk, IfSome, OnOk, ◌≡◌, ◌≢◌, ◌≤◌};
 
-use crate::judged::verdict_on;
-use salt_audit::Verdict;
+use crate::pieces::Pieces;
+use salt_audit::{Verdict, one_verdict};
 use salt_eval::ViewErr;
 use salt_io::{IoFailed, Source};
 use std::alloc::{AllocError, Global};
@@ -51,40 +51,33 @@ impl From<ViewErr> for AuditErr {
     }
 }
 
-/// The bytes that a source has left.
-fn read_all<S: Source>(alloc: Global, source: &mut S) -> Result<Vec<u8>, AuditErr>
-    ensures all { IfOk result (λ bytes. IfSome (S.left source.old) (λ left. bytes.items ≡ left)) }
-    ensures within { IfOk result (λ bytes. vec_len bytes ≤ TRANSCRIPT_MOST) }
-    ensures long { result ≡ Err AuditErr.TooLong → IfSome (S.left source.old) (λ left. TRANSCRIPT_MOST < length left) }
-    ensures fault { result ≡ Err AuditErr.ReadFault → Rose (S.faults source.old) (S.faults source.new) }
-    ensures no_fault { result ≢ Err AuditErr.ReadFault → S.faults source.new ≡ S.faults source.old }
-    ensures later { S.faults source.old ≤ S.faults source.new }
-{
-    let mut bytes = Vec::new(alloc);
-    let mut piece = [0u8; 4096];
-    'reads: loop {
-        let count = source.read(&mut piece)?;
-        if count == 0 {
-            return Ok(bytes);
-        }
-        if TRANSCRIPT_MOST - bytes.len() < count {
-            return Err(AuditErr::TooLong);
-        }
-        bytes.extend_from_slice(&piece[..count])?;
-    }
-}
-
-/// The verdict on the transcript that a source gives, to its end. It is `ReadFault` exactly where the source failed, and `TooLong` only where it gives more bytes
-/// than a transcript may have.
+/// The verdict on the transcript that a source gives. It is found as the lines come, and the first ends the reading. It is `ReadFault` exactly where the source failed,
+/// and `TooLong` where no verdict is found within the most bytes that a transcript may have, and more come.
 pub fn audit<S: Source>(alloc: Global, source: &mut S) -> Result<Verdict, AuditErr>
     ensures verdict { IfOk result (λ verdict. IfSome (S.left source.old) (λ bytes. IsVerdict bytes verdict)) }
     ensures only { IfOk result (λ verdict. IfSome (S.left source.old) (λ bytes. (other : Verdict) → IsVerdict bytes other → other ≡ verdict)) }
-    ensures within { OnOk result (IfSome (S.left source.old) (λ bytes. length bytes ≤ TRANSCRIPT_MOST)) }
-    ensures long { result ≡ Err AuditErr.TooLong → IfSome (S.left source.old) (λ bytes. TRANSCRIPT_MOST < length bytes) }
+    ensures within { OnOk result (IfSome (S.left source.old) (λ bytes. IsTooLong bytes → ⊥)) }
+    ensures long { result ≡ Err AuditErr.TooLong → IfSome (S.left source.old) IsTooLong }
     ensures fault { result ≡ Err AuditErr.ReadFault → Rose (S.faults source.old) (S.faults source.new) }
     ensures no_fault { result ≢ Err AuditErr.ReadFault → S.faults source.new ≡ S.faults source.old }
     ensures later { S.faults source.old ≤ S.faults source.new }
 {
-    let bytes = read_all(alloc, source)?;
-    Ok(verdict_on(alloc, bytes.as_slice())?)
+    one_verdict();
+    let mut pieces = Pieces::new(alloc);
+    let mut room = TRANSCRIPT_MOST;
+    let mut buffer = [0u8; 4096];
+    'reads: loop {
+        let count = source.read(&mut buffer)?;
+        if count == 0 {
+            return Ok(pieces.ended()?);
+        }
+        let within = count.min(room);
+        if let Some(verdict) = pieces.next(alloc, &buffer[..within])? {
+            return Ok(verdict);
+        }
+        if within < count {
+            return Err(AuditErr::TooLong);
+        }
+        room -= count;
+    }
 }

@@ -1,7 +1,7 @@
 -- Bytes that are read piece by piece.
 use Rattle.salt_io.specs.Streams.{IsAtEnd, bytes_before}
-use Rattle.std.proofs.Common.{List, None, Option, Some, [], ap, append-nil, append_assoc, arith, length, refl, subst, sym, take, ℕ, ◌+◌, ◌++◌, ◌-◌, ◌<◌, ◌∙◌, ◌≡◌, ◌≤◌}
-use Rattle.std.proofs.lemmas.List.{length-append, length-take-le}
+use Rattle.std.proofs.Common.{List, None, Option, Some, [], ap, append-nil, append_assoc, drop, refl, subst, sym, take, ℕ, ◌++◌, ◌∙◌, ◌≡◌, ◌≤◌}
+use Rattle.std.proofs.lemmas.List.{take-append-drop, take-take}
 use Rattle.std.specs.Prelude.{IfSome}
 
 -- nothing is read of all
@@ -39,18 +39,20 @@ pub of_all : (P : List ℕ → Type 0) (all : Option (List ℕ)) (read : List �
 of_all P None read h p = tt
 of_all P (Some bytes) read h p = subst P h p
 
--- more is read than there may be
-long_read : (first left : Option (List ℕ)) (read : List ℕ) (most : ℕ) → first ≡ bytes_before read left → most < length read → IfSome first (λ (all : List ℕ). most < length all)
-long_read None left read most e h = tt
-long_read (Some all) None read most e h = absurd cc
-long_read (Some all) (Some rest) read most e h =
-    let is : all ≡ read ++ rest = cc in
-    let parts : length all ≡ length read + length rest = ap length is ∙ length-append read rest in
-    omega (arith, h, parts)
-
-pub too_long : (first before after : Option (List ℕ)) (read buf : List ℕ) (count len most : ℕ) → first ≡ bytes_before read before → before ≡ bytes_before (take count buf) after →
-    len ≡ length read → count ≤ length buf → most - len < count → IfSome first (λ (all : List ℕ). most < length all)
-too_long first before after read buf count len most e f sized within over =
-    let parts : length (read ++ take count buf) ≡ length read + length (take count buf) = length-append read (take count buf) in
-    let some : length (take count buf) ≡ count = length-take-le count buf within in
-    long_read first after (read ++ take count buf) most (more_read first before after read (take count buf) e f) (omega (arith, sized, over, parts, some))
+-- of a piece that is read, what is taken in, and what is behind it: what holds of them with whatever is left holds of all
+pub of_piece : (P : List ℕ → Type 0) (first before after : Option (List ℕ)) (come buf : List ℕ) (count within : ℕ) → first ≡ bytes_before come before →
+    before ≡ bytes_before (take count buf) after → within ≤ count →
+    ((more : List ℕ) → P (come ++ (take within buf ++ (drop within (take count buf) ++ more)))) → IfSome first P
+of_piece P None before after come buf count within e f le p = tt
+of_piece P (Some all) None after come buf count within e f le p = absurd cc
+of_piece P (Some all) (Some left) None come buf count within e f le p = absurd cc
+of_piece P (Some all) (Some left) (Some rest) come buf count within e f le p =
+    let is : all ≡ come ++ left = cc in
+    let piece : left ≡ take count buf ++ rest = cc in
+    let parts : take within buf ++ drop within (take count buf) ≡ take count buf =
+    ap (λ (l : List ℕ). l ++ drop within (take count buf)) (sym (take-take within count buf le)) ∙ take-append-drop within (take count buf) in
+    let whole : come ++ (take within buf ++ (drop within (take count buf) ++ rest)) ≡ all =
+    ap (λ (l : List ℕ). come ++ l)
+    (sym (append_assoc (take within buf) (drop within (take count buf)) rest) ∙ ap (λ (l : List ℕ). l ++ rest) parts ∙ sym piece)
+    ∙ sym is in
+    subst P whole (p rest)
