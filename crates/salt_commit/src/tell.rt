@@ -97,7 +97,7 @@ fn none_opened(alloc: Global, count: usize) -> Result<Vec<Option<Partition>>, Al
     ensures size { IfOk result (λ made. length made.items ≡ count) }
     ensures none { IfOk result (λ made. (p : ℕ) → IfSome (slice_get made.items p) (λ o. o ≡ None)) }
 {
-    let mut made = Vec::new(alloc);
+    let mut made = Vec::with_capacity(alloc, count)?;
     for _number in 0..count {
         made.push(None)?;
     }
