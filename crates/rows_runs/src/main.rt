@@ -37,7 +37,7 @@ use std::process::ExitCode;
 use stops_behind::{retries_fail, retries_fail_on, stop_in_retries, stops_in_boots, three_stops};
 use streams::{cut_scripts, longest_lines, most_bytes, reads_that_fail, writes_that_fail};
 use tables::{
-    EARLY, EARLY_BACK, LATE, Table, Way, all_writes_fail, one_read_fails, one_stop,
+    EARLY, EARLY_BACK, IN_DOUBT, LATE, Table, Way, all_writes_fail, one_read_fails, one_stop,
     one_write_fails, stop_at_first, two_stops,
 };
 use words::{by_words, statuses};
@@ -131,7 +131,7 @@ enum Part {
     MostBytes,
 }
 
-const PARTS: [Part; 31] = [
+const PARTS: [Part; 34] = [
     Part::Stories,
     Part::Statuses,
     Part::Words,
@@ -158,6 +158,9 @@ const PARTS: [Part; 31] = [
     Part::Hostile(Hostile::OneWriteFails, EARLY),
     Part::Hostile(Hostile::OneReadFails, EARLY),
     Part::Hostile(Hostile::AllWritesFail, EARLY),
+    Part::Hostile(Hostile::OneWriteFails, IN_DOUBT),
+    Part::Hostile(Hostile::OneReadFails, IN_DOUBT),
+    Part::Hostile(Hostile::AllWritesFail, IN_DOUBT),
     Part::CutScripts,
     Part::ReadsThatFail,
     Part::WritesThatFail,

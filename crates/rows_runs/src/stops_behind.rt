@@ -31,6 +31,7 @@ go all
 const RETRIES: Way = Way {
     name: "",
     words: &["run"],
+    armed: "",
     last: "",
     stopped: RETRIED,
 };

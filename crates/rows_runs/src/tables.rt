@@ -62,6 +62,8 @@ pub struct Way {
     /// In front of a table's name.
     pub name: &'static str,
     pub words: &'static [&'static str],
+    /// A line in front of a transfer, which arms what befalls messages, or none.
+    pub armed: &'static str,
     pub last: &'static str,
     pub stopped: Stopped,
 }
@@ -106,6 +108,7 @@ show bases
 pub const LATE: Way = Way {
     name: "",
     words: &["run"],
+    armed: "",
     last: "",
     stopped: THERE,
 };
@@ -114,6 +117,7 @@ pub const LATE: Way = Way {
 pub const EARLY: Way = Way {
     name: "where openings end early: ",
     words: &["run", "--early"],
+    armed: "",
     last: TURNS,
     stopped: THERE,
 };
@@ -122,8 +126,18 @@ pub const EARLY: Way = Way {
 pub const EARLY_BACK: Way = Way {
     name: "where openings end early and programs branch: ",
     words: &["run", "--early"],
+    armed: "",
     last: TURNS,
     stopped: BACK,
+};
+
+/// A partition starts again while it is in doubt whether a unit commits, before its vote comes.
+pub const IN_DOUBT: Way = Way {
+    name: "where a partition starts again in doubt: ",
+    words: &["run", "--net"],
+    armed: "net 2 2\n",
+    last: "",
+    stopped: THERE,
 };
 
 impl Way {
@@ -278,7 +292,8 @@ pub fn fails_well(
 
 /// Each write or sync fails in turn.
 pub fn one_write_fails(alloc: Global, way: Way) -> Result<Table, AllocError> {
-    let script = format!(in alloc; "{ACCOUNTS}{TRANSFER}{ROWS}")?;
+    let armed = way.armed;
+    let script = format!(in alloc; "{ACCOUNTS}{armed}{TRANSFER}{ROWS}")?;
     let mut table = Table::new();
     for call in 1..81 {
         table.add(fails_well(alloc, way, script.as_str(), Failing::Write(call))?);
@@ -288,7 +303,8 @@ pub fn one_write_fails(alloc: Global, way: Way) -> Result<Table, AllocError> {
 
 /// Each read fails in turn.
 pub fn one_read_fails(alloc: Global, way: Way) -> Result<Table, AllocError> {
-    let script = format!(in alloc; "{ACCOUNTS}{TRANSFER}{ROWS}")?;
+    let armed = way.armed;
+    let script = format!(in alloc; "{ACCOUNTS}{armed}{TRANSFER}{ROWS}")?;
     let mut table = Table::new();
     for call in 1..41 {
         table.add(fails_well(alloc, way, script.as_str(), Failing::Read(call))?);
@@ -313,7 +329,8 @@ pub fn keeps_accepted(
 
 /// From each write or sync on all fail.
 pub fn all_writes_fail(alloc: Global, way: Way) -> Result<Table, AllocError> {
-    let script = format!(in alloc; "{ACCOUNTS}{TRANSFER}")?;
+    let armed = way.armed;
+    let script = format!(in alloc; "{ACCOUNTS}{armed}{TRANSFER}")?;
     let mut table = Table::new();
     for call in 1..81 {
         table.add(keeps_accepted(alloc, way, script.as_str(), call)?);
