@@ -11,3 +11,4 @@ pub mod Spanning
 pub mod Writing
 pub mod Settling
 pub mod Calls
+pub mod Showing

@@ -5,4 +5,5 @@ pub mod Ends
 pub mod Reads
 pub mod Due
 pub mod Written
+pub mod Shown
 pub mod Kept

@@ -1,9 +1,5 @@
 //! What is kept of writers, readers and finished programs.
 
-ghost use Rattle.salt_deps.specs.Due.{NoneSettled};
-ghost use Rattle.salt_deps.specs.Group.{reads_in};
-ghost use Rattle.std.specs.Prelude.{IsTrue};
-
 use crate::due::{due, is_still_known};
 use crate::places::Writers;
 use crate::readings::Readings;
@@ -15,6 +11,7 @@ use salt_values::{Id, Ids, Key};
 use sqlite_items::Items;
 use std::alloc::{AllocError, Global};
 use std::collections::BTreeSet;
+use std::marker::Model;
 
 /// Of the programs that are neither released nor given up: which wrote a key last, which read from which, and which are
 /// finished.
@@ -26,7 +23,19 @@ pub struct Deps {
     finished: BTreeSet<Id>,
     /// Whether it is known that no finished program is to be released.
     none_due: bool,
-    ghost known: { IsTrue none_due → NoneSettled (reads_in readings) finished.keys },
+}
+
+impl Model for Deps {
+    ghost use Rattle.salt_deps.specs.Due.{NoneSettled};
+    ghost use Rattle.salt_deps.specs.Group.{reads_in};
+    ghost use Rattle.salt_deps.specs.Shown.{ShownDeps, pairs_in};
+    ghost use Rattle.std.specs.Prelude.{IsTrue};
+
+    ghost Value = { ShownDeps };
+
+    ghost view = { λ x. record { writers = x.writers.last.entries; reads = pairs_in x.readings; finished = x.finished.keys } };
+
+    ghost invariant = { λ x. IsTrue x.none_due → NoneSettled (reads_in x.readings) x.finished.keys };
 }
 
 impl Deps {
@@ -94,7 +103,7 @@ impl Deps {
         let fresh = fresh_sources(
             self.alloc,
             &self.readings,
-            &self.writers.last,
+            &self.writers,
             base,
             table,
             range,

@@ -11,6 +11,7 @@ ghost use Rattle.std.specs.BTreeMap.{IsOrdered};
 ghost use Rattle.std.specs.Prelude.{◌≡◌, ◌||◌, IfOk, OnOk, false};
 
 use crate::ends::last_place;
+use crate::places::Writers;
 use crate::readings::Readings;
 use crate::sets::listed;
 use salt_model::{Place, first_place};
@@ -68,16 +69,16 @@ fn writers_read(
 pub fn fresh_sources(
     alloc: Global,
     readings: &Readings,
-    writers: &BTreeMap<Place, Id>,
+    writers: &Writers,
     reader: Id,
     table: u16,
     range: &KeyRange,
 ) -> Result<Vec<Id>, AllocError>
     requires { is_range_empty range.now ≡ false }
-    ensures ordered { IfOk result (λ _. IsOrdered place_cmp writers.now) }
-    ensures fresh { IfOk result (λ fresh. AreFresh reader table range.now writers.now.entries (reads_in readings.now) fresh.items) }
+    ensures ordered { IfOk result (λ _. IsOrdered place_cmp writers.now.last) }
+    ensures fresh { IfOk result (λ fresh. AreFresh reader table range.now writers.now.last.entries (reads_in readings.now) fresh.items) }
 {
-    let found = writers_read(alloc, writers, reader, table, range)?;
+    let found = writers_read(alloc, &writers.last, reader, table, range)?;
     let mut fresh = listed(alloc, &found)?;
     fresh.retain(|source| !readings.reads(reader, *source));
     Ok(fresh)
