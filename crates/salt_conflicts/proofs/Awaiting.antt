@@ -146,7 +146,7 @@ pub no-edges : (d : Dependencies) (ws : List Waiter) (sources : Id → List Id) 
 no-edges d ws sources owner c e none = ap (edges_of d (askers ws) sources) e ∙ none-waiting-for d ws (sources c) none
 
 -- the victim of what is kept is that of the watch
-pub victim-read : (x : Watching) (w : Watch) (r : WatchReading w) (waits : List Waiter) (list : List WaitUnit) (found : Option Id) → waits ≡ x.waits.items → IsWatch x w →
+pub victim-read : (x : Watching) (w : Watch) (r : WatchReading w) (waits : List Waiter) (list : List WaitUnit) (found : Option Id) → waits ≡ x.waits → IsWatch x w →
     AreDistinct (map (λ (a : Asker). a.unit) w.waits) →
     ((sources : Id → List Id) → AreSourcesOf (dependencies x.deps) sources → graph_of list ≡ map (graph_unit (dependencies x.deps) (locks_in x.locks) (askers waits) sources) (askers waits)) →
     IsRightVictim list found → found ≡ victim_in w.dependencies (map (λ (n : Numbered). n.lock) w.table) w.waits r.sources

@@ -19,7 +19,6 @@ use Rattle.salt_values.specs.declared.id.Id.{Id}
 use Rattle.salt_conflicts.proofs.Same.{same-dependencies}
 use Rattle.salt_conflicts.proofs.Told.{filter-all}
 use Rattle.salt_conflicts.specs.Calls.{is_unreleased}
-use Rattle.salt_conflicts.specs.Holders.{KnowsHolders}
 use Rattle.salt_conflicts.specs.Watched.{IsFinishing, IsWatch}
 use Rattle.salt_conflicts.specs.declared.watching.Watching.{Watching}
 use Rattle.std.proofs.Common.{refl, subst, sym, ◌∙◌}
@@ -51,15 +50,14 @@ no-owner (Base b) = refl
 
 -- where none is due, only the mark is set
 pub none-due : (b : Id) (old new : Watching) (w : Watch) (due : List Id) → due ≡ [] → IsFinishing b old w → HasFinished b due (dependencies old.deps) (dependencies new.deps) →
-    new.locks ≡ filter (is_unreleased due) old.locks → new.taken ≡ old.taken → new.waits.items ≡ old.waits.items →
-    new.programs.names ≡ without due old.programs.names → KnowsHolders new.held new.holders.items new.locks new.waits.items → IsWatch new w
-none-due b old new w due none s h locks taken waits programs holders = record {
+    new.locks ≡ filter (is_unreleased due) old.locks → new.taken ≡ old.taken → new.waits ≡ old.waits →
+    new.programs ≡ without due old.programs → IsWatch new w
+none-due b old new w due none s h locks taken waits programs = record {
   table = s.table ∙ sym (subst (λ bs. new.locks ≡ filter (is_unreleased bs) old.locks) none locks ∙ filter-all (is_unreleased []) old.locks (λ n i. no-owner n.lock.owner));
   taken = s.taken ∙ sym taken;
   waits = s.waits ∙ sym waits;
-  programs = s.programs ∙ sym (subst (λ bs. new.programs.names ≡ without bs old.programs.names) none programs ∙ filter-all (λ (u : Id). true) old.programs.names (λ n i. refl));
+  programs = s.programs ∙ sym (subst (λ bs. new.programs ≡ without bs old.programs) none programs ∙ filter-all (λ (u : Id). true) old.programs (λ n i. refl));
   dependencies = subst (AreSame (dependencies new.deps)) (sym (same-dependencies (marked b (dependencies old.deps)) w.dependencies s.dependencies)) (same (subst (λ bs. HasFinished b bs (dependencies old.deps) (dependencies new.deps)) none h));
-  holders = holders;
 }
   where
     unless-none : (o : Option Id) → unless_among [] o ≡ o

@@ -31,7 +31,6 @@ use Rattle.salt_values.specs.Id.{is_same_id}
 use Rattle.salt_values.specs.declared.id.Id.{Id}
 use Rattle.salt_conflicts.proofs.Same.{itself, same-dependencies, same-watch, watch_beside}
 use Rattle.salt_conflicts.specs.Calls.{HasGivenUp, HasReadBy, handed_over, is_unreleased}
-use Rattle.salt_conflicts.specs.Holders.{KnowsHolders}
 use Rattle.salt_conflicts.specs.Waiters.{is_another, waiter_of}
 use Rattle.salt_conflicts.specs.Watched.{GoesBy, IsWatchBeside}
 use Rattle.salt_conflicts.specs.declared.waiters.Waiter.{Waiter}
@@ -45,13 +44,13 @@ use Rattle.std.specs.Prelude.{Bool, IsTrue, List, None, Option, Some, [], cond, 
 -- of any call: what it makes of each part
 pub goes : (d : Dependencies) (old x : Watching) (w : Watch) (f : UnitFacts) (e : Event) → IsWatchBeside d old w →
     SameMembers x.locks (table_by f old.taken e old.locks) → x.taken ≡ counted_by f e old.taken →
-    map waiter_of (waits_by f e w.waits) ≡ x.waits.items → x.programs.names ≡ unreleased_after e old.programs.names →
-    DependenciesBy f e d (dependencies x.deps) → KnowsHolders x.held x.holders.items x.locks x.waits.items → GoesBy f e w x
-goes d old x w f e s table taken waits programs deps holders =
+    map waiter_of (waits_by f e w.waits) ≡ x.waits → x.programs ≡ unreleased_after e old.programs →
+    DependenciesBy f e d (dependencies x.deps) → GoesBy f e w x
+goes d old x w f e s table taken waits programs deps =
     let new = watch_beside (dependencies x.deps) x (waits_by f e w.waits) in (
       new,
       subst (λ v. WatchBy f e v new) (sym (same-watch d old w s)) (record { locks = table; taken = taken; waits = refl; programs = programs; dependencies = deps }),
-      record { table = refl; taken = refl; waits = waits; programs = refl; dependencies = itself (dependencies x.deps); holders = holders },
+      record { table = refl; taken = refl; waits = waits; programs = refl; dependencies = itself (dependencies x.deps) },
     )
 
 -- WAITS

@@ -1,20 +1,19 @@
 -- Whose locks hold up the units that wait: what calls leave of what is known of them, and that nobody is served where all are held up.
 use Rattle.law_states.proofs.Closures.{into-any}
 use Rattle.law_states.specs.KeptLocks.{Numbered, clash_in, is_owned_by}
-use Rattle.law_states.specs.KeptWaits.{Asker, clash_owners, served_in}
+use Rattle.law_states.specs.KeptWaits.{clash_owners, served_in}
 use Rattle.law_states.specs.Members.{In}
 use Rattle.law_story.proofs.Ids.{and_left, and_right}
 use Rattle.law_story.proofs.Lists.{any-not, in-cases, in-filter, in-map, into-map, not-true}
-use Rattle.salt_conflicts.proofs.Finishing.{no-owner}
 use Rattle.salt_conflicts.proofs.Steps.{served-first}
-use Rattle.salt_conflicts.proofs.Told.{filter-all, free-of}
-use Rattle.salt_conflicts.specs.Calls.{handed_over, is_unreleased}
+use Rattle.salt_conflicts.proofs.Told.{free-of}
+use Rattle.salt_conflicts.specs.Calls.{handed_over}
 use Rattle.salt_conflicts.specs.Holders.{AreHeldUp, IsHeldUp, KnowsHolders, is_among}
 use Rattle.salt_conflicts.specs.Waiters.{asker_of, askers, holds_up, is_another}
 use Rattle.salt_conflicts.specs.declared.waiters.Waiter.{Waiter}
 use Rattle.salt_locks.proofs.Fits.{drops, salts, takes}
 use Rattle.salt_locks.proofs.Spotting.{owner-is}
-use Rattle.salt_locks.specs.Tables.{is_of_another, locks_in, put, salted}
+use Rattle.salt_locks.specs.Tables.{locks_in, put}
 use Rattle.salt_model.specs.Locks.{clashes, is_same_owner, owners_of}
 use Rattle.salt_model.specs.Words.{is_empty}
 use Rattle.salt_model.specs.declared.events.Owner.{Owner}
@@ -24,7 +23,7 @@ use Rattle.salt_values.specs.declared.id.Id.{Id}
 use Rattle.std.proofs.Common.{ap, inl, inr, subst, sym, ◌∙◌}
 use Rattle.std.proofs.lemmas.List.{take_more}
 use Rattle.std.specs.List.{filter}
-use Rattle.std.specs.Prelude.{Bool, IsTrue, List, None, Option, Some, [], cond, false, get_or, is_some, length, map, not, refl, take, true, ℕ, ◌&&◌, ◌+◌, ◌++◌, ◌<◌, ◌∷◌, ◌||◌, ◌≡◌, ◌⊎◌}
+use Rattle.std.specs.Prelude.{Bool, IsTrue, List, None, Option, Some, [], false, get_or, is_some, length, not, refl, take, true, ℕ, ◌&&◌, ◌+◌, ◌++◌, ◌<◌, ◌∷◌, ◌||◌, ◌≡◌, ◌⊎◌}
 
 -- WHAT CALLS LEAVE
 
@@ -57,14 +56,13 @@ pub held-left : (u : Id) (held : Bool) (os : List Owner) (table : List Numbered)
 held-left u held os table ws vs is knows sure = held-on os table table ws vs (λ n i o. i) (left-waited u ws vs is) (knows sure)
 
 -- a lock is taken besides
-pub held-taken : (u : Id) (k : ℕ) (l : Lock) (held b : Bool) (os ps : List Owner) (old new : List Numbered) (ws vs : List Waiter) →
-    new ≡ put (record { number = k; lock = l }) old → vs ≡ filter (is_another u) ws → b ≡ held → ps ≡ os → KnowsHolders held os old ws → KnowsHolders b ps new vs
-held-taken u k l held b os ps old new ws vs locks is same owners knows sure =
-    subst (λ (qs : List Owner). AreHeldUp qs (locks_in new) vs) (sym owners)
-    (held-on os old new ws vs
+pub held-taken : (k : ℕ) (l : Lock) (held : Bool) (os : List Owner) (old new : List Numbered) (ws : List Waiter) →
+    new ≡ put (record { number = k; lock = l }) old → KnowsHolders held os old ws → KnowsHolders held os new ws
+held-taken k l held os old new ws locks knows sure =
+    held-on os old new ws ws
     (λ n i o. subst (λ (t : List Numbered). In n t) (sym locks) ((takes k l old n).1 (inl i)))
-    (left-waited u ws vs is)
-    (knows (sym same ∙ sure)))
+    (λ w i. i)
+    (knows sure)
 
 -- of another owner's locks none is this owner's
 of-others : (o : Owner) (os : List Owner) (l : Lock) → not (is_among o os) ≡ true → In l.owner os → is_owned_by o l ≡ false
@@ -85,16 +83,6 @@ held-handed u base held b os old new ws vs keeps locks is knows sure =
     (λ n i o. subst (λ (t : List Numbered). In n t) (sym locks) (handed-stay u base os old (and_right held _ both) n i o))
     (left-waited u ws vs is)
     (knows (and_left held _ both))
-
--- programs are released
-pub held-released : (due : List Id) (held b t : Bool) (os : List Owner) (old new : List Numbered) (ws : List Waiter) → b ≡ (held && t) → (IsTrue t → due ≡ []) →
-    new ≡ filter (is_unreleased due) old → KnowsHolders held os old ws → KnowsHolders b os new ws
-held-released due held b t os old new ws keeps none locks knows sure =
-    let both : (held && t) ≡ true = sym keeps ∙ sure in
-    subst (λ (ns : List Numbered). AreHeldUp os (locks_in ns) ws)
-    (sym (subst (λ (bs : List Id). new ≡ filter (is_unreleased bs) old) (none (and_right held t both)) locks
-    ∙ filter-all (is_unreleased []) old (λ n i. no-owner n.lock.owner)))
-    (knows (and_left held t both))
 
 -- WHOM NOBODY CAN SERVE
 

@@ -9,3 +9,4 @@ pub mod Others
 pub mod Resuming
 pub mod Naming
 pub mod Holding
+mod Seen

@@ -42,6 +42,5 @@ marks x w f b s = (
     waits = s.waits;
     programs = s.programs;
     dependencies = subst (λ (d : Dependencies). AreSame (marked b (dependencies x.deps)) (marked b d)) (sym (same-dependencies (dependencies x.deps) w.dependencies s.dependencies)) (itself (marked b (dependencies x.deps)));
-    holders = s.holders;
   },
 )

@@ -12,13 +12,12 @@ use Rattle.law_story.proofs.Ids.{and_left, and_right}
 use Rattle.salt_model.specs.declared.events.Event.TheVariants.{Early}
 use Rattle.salt_values.specs.Id.{has_id, is_same_id}
 use Rattle.salt_values.specs.declared.id.Id.{Id}
-use Rattle.salt_conflicts.proofs.Holding.{unknown}
 use Rattle.salt_conflicts.proofs.Same.{itself, same-dependencies, watch_beside}
 use Rattle.salt_conflicts.specs.Watched.{GoesBy}
 use Rattle.salt_conflicts.specs.declared.watching.Watching.{Watching}
 use Rattle.std.proofs.Common.{arith, refl, subst, sym}
 use Rattle.std.specs.List.{filter_map}
-use Rattle.std.specs.Prelude.{Bool, List, None, [], false, length, not, true, ◌&&◌, ◌++◌, ◌+◌, ◌∷◌, ◌≡◌}
+use Rattle.std.specs.Prelude.{Bool, List, None, [], false, length, not, true, ◌&&◌, ◌++◌, ◌∷◌, ◌≡◌}
 
 none-left : (table : List Numbered) → filter_map (on_lock (λ l. None)) table ≡ []
 none-left [] = refl
@@ -46,17 +45,17 @@ grouped f bs old = record {
   finished = λ b. ((λ t. cc), (λ n. absurd n));
 }
 
-pub resumes : (x : Watching) (w : Watch) (f : UnitFacts) → x.waits.items ≡ [] → SameMembers x.locks (numbered_from 0 f.cover) → x.taken ≡ length f.cover →
-    AreSame (group_of x.programs.names) (dependencies x.deps) → x.held ≡ false → GoesBy f (Early x.programs.names) w x
-resumes x w f waits locks taken group held = (
+pub resumes : (x : Watching) (w : Watch) (f : UnitFacts) → x.waits ≡ [] → SameMembers x.locks (numbered_from 0 f.cover) → x.taken ≡ length f.cover →
+    AreSame (group_of x.programs) (dependencies x.deps) → GoesBy f (Early x.programs) w x
+resumes x w f waits locks taken group = (
   watch_beside (dependencies x.deps) x [],
   record {
     locks = subst (λ ns. SameMembers x.locks (ns ++ numbered_from 0 f.cover)) (sym (none-left w.table)) locks;
     taken = omega (arith, taken);
     waits = refl;
     programs = refl;
-    dependencies = subst (DependenciesBy f (Early x.programs.names) w.dependencies)
-        (sym (same-dependencies (group_of x.programs.names) (dependencies x.deps) group)) (grouped f x.programs.names w.dependencies);
+    dependencies = subst (DependenciesBy f (Early x.programs) w.dependencies)
+        (sym (same-dependencies (group_of x.programs) (dependencies x.deps) group)) (grouped f x.programs w.dependencies);
   },
-  record { table = refl; taken = refl; waits = sym waits; programs = refl; dependencies = itself (dependencies x.deps); holders = unknown x.held x.holders.items x.locks x.waits.items held },
+  record { table = refl; taken = refl; waits = sym waits; programs = refl; dependencies = itself (dependencies x.deps) },
 )

@@ -20,7 +20,7 @@ pub itself : (d : Dependencies) → AreSame d d
 itself d = record { writer = λ q. refl; reads = λ x y. ((λ h. h), (λ h. h)); finished = λ b. ((λ h. h), (λ h. h)) }
 
 abbrev pub watch_beside : Dependencies → Watching → List Asker → Watch
-watch_beside d x ws = record { table = x.locks; taken = x.taken; waits = ws; programs = x.programs.names; dependencies = d }
+watch_beside d x ws = record { table = x.locks; taken = x.taken; waits = ws; programs = x.programs; dependencies = d }
 
 pub same-watch : (d : Dependencies) (x : Watching) (w : Watch) → IsWatchBeside d x w → w ≡ watch_beside d x w.waits
 same-watch d x w s = λ i. record {

@@ -36,8 +36,6 @@ HasGivenUp (Some b) old new = HasAbandoned b old new
 pub record HasReached (u : Id) (base : Option Id) (family : Family) (r : Reach) (old new : Watching) : Type 0 where
   pub table : new.locks ≡ put (record { number = old.taken; lock = lock_of (Owner.Unit u) family r }) old.locks
   pub taken : new.taken ≡ old.taken + 1
-  pub waits : new.waits.items ≡ old.waits.items
-  pub programs : new.programs.names ≡ old.programs.names
-  pub held : new.held ≡ old.held
-  pub holders : new.holders.items ≡ old.holders.items
+  pub waits : new.waits ≡ old.waits
+  pub programs : new.programs ≡ old.programs
   pub reads : HasReadBy base r (dependencies old.deps) (dependencies new.deps)

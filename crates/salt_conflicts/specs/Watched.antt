@@ -12,7 +12,6 @@ use Rattle.salt_model.specs.declared.events.Event.TheVariants.{Accepted, Did, Ea
 use Rattle.salt_model.specs.declared.places.Place.{Place}
 use Rattle.salt_values.specs.declared.change.Change.{Change}
 use Rattle.salt_values.specs.declared.id.Id.{Id}
-use Rattle.salt_conflicts.specs.Holders.{KnowsHolders}
 use Rattle.salt_conflicts.specs.Waiters.{waiter_of}
 use Rattle.salt_conflicts.specs.declared.waiters.Waiter.{Waiter}
 use Rattle.salt_conflicts.specs.declared.watching.Watching.{Watching}
@@ -20,16 +19,15 @@ use Rattle.std.specs.Prelude.{List, map, ⊤, ◌↔◌, ◌≡◌}
 
 -- its waiting units, the longest first
 abbrev pub waiters_of : Watching → List Waiter
-waiters_of x = x.waits.items
+waiters_of x = x.waits
 
--- it is that watch, but for writers, pairs and finished programs, which are these; and what it knows of who holds up those who wait is so
+-- it is that watch, but for writers, pairs and finished programs, which are these
 pub record IsWatchBeside (d : Dependencies) (x : Watching) (w : Watch) : Type 0 where
   pub table : w.table ≡ x.locks
   pub taken : w.taken ≡ x.taken
   pub waits : map waiter_of w.waits ≡ waiters_of x
-  pub programs : w.programs ≡ x.programs.names
+  pub programs : w.programs ≡ x.programs
   pub dependencies : AreSame d w.dependencies
-  pub holders : KnowsHolders x.held x.holders.items x.locks (waiters_of x)
 
 abbrev pub IsWatch : Watching → Watch → Type 0
 IsWatch x w = IsWatchBeside (dependencies x.deps) x w

@@ -34,10 +34,3 @@ pub fn holds_without(held: bool, owners: &[Owner], owner: Owner) -> bool
 {
     held && !is_among(owners, owner)
 }
-
-/// Whether it is still known where programs are released, or none is.
-pub fn holds_behind(held: bool, none_released: bool) -> bool
-    ensures { result ≡ (held && none_released) }
-{
-    held && none_released
-}

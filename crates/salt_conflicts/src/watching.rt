@@ -29,7 +29,7 @@ ghost use Rattle.std.specs.Option.{option_copied};
 ghost use Rattle.std.specs.Prelude.{IfOk, List, OnOk, [], false, length, map, true, ℕ, ◌++◌, ◌∷◌, ◌≡◌};
 
 use crate::graph::wait_graph;
-use crate::holders::{holds_behind, holds_without};
+use crate::holders::holds_without;
 use crate::programs::Programs;
 use crate::served::{clashing, holds, served};
 use crate::shown::lock_items;
@@ -41,6 +41,7 @@ use salt_values::{Change, Id, Ids, next_number};
 use salt_waits::victim;
 use std::alloc::{AllocError, Global};
 use std::collections::VecDeque;
+use std::marker::Model;
 
 /// The locks that are held and how many were taken, the waiting units, the longest first, the accepted programs that are not
 /// released, in order of their names, and who wrote, read and has finished. A call that wants memory may leave it anywhere.
@@ -54,6 +55,17 @@ pub struct Watching {
     /// Each waiting unit is held up by a lock of one of these owners. Where it is not set, one may be held up by none.
     held: bool,
     holders: Vec<Owner>,
+}
+
+impl Model for Watching {
+    ghost use Rattle.salt_conflicts.specs.Holders.{KnowsHolders};
+    ghost use Rattle.salt_conflicts.specs.Parts.{Parts};
+
+    ghost Value = { Parts };
+
+    ghost view = { λ x. record { locks = x.locks; taken = x.taken; waits = x.waits.items; programs = x.programs.names; deps = x.deps } };
+
+    ghost invariant = { λ x. KnowsHolders x.held x.holders.items x.locks x.waits.items };
 }
 
 impl Drop for Watching {
@@ -275,8 +287,10 @@ impl Watching {
         ensures released { IfOk result (λ due. (w : Watch) (f : UnitFacts) → IsFinishing base self.old w → GoesBy f (Released due) w self.new) }
     {
         let due = self.deps.finished(base)?;
-        let none = due.is_empty();
-        self.held = holds_behind(self.held, none);
+        if due.is_empty() {
+            return Ok(due);
+        }
+        self.held = false;
         release(self.alloc, &mut self.locks, due.as_slice())?;
         self.programs.drop_all(self.alloc, due.as_slice());
         Ok(due)

@@ -1,4 +1,5 @@
 use Rattle.law_states.specs.KeptWaits.{Asker}
+use Rattle.salt_conflicts.proofs.Seen.{watch-shown}
 use Rattle.salt_conflicts.proofs.watching.Watching.has_waiting_program.Goals as goal
 use Rattle.salt_conflicts.specs.Waiters.{has_program, is_of_program, waiter_of}
 use Rattle.std.proofs.Common.{List, [], ap, map, refl, sym, ◌≡◌, ◌∙◌, ◌∷◌}
@@ -10,4 +11,5 @@ same-programs [] = refl
 same-programs (w ∷ ws) = ap (λ t. is_some w.base || t) (same-programs ws)
 
 pub returns : goal.returns
-returns c = λ w s. c.has_program.ensures ∙ (ap (list_any is_of_program) (c.deref.ensures.value ∙ sym s.waits) ∙ same-programs w.waits)
+returns c = λ w h.
+    c.has_program.ensures ∙ (ap (list_any is_of_program) (c.deref.ensures.value ∙ sym (watch-shown _ _ w c.self.view_is h).waits) ∙ same-programs w.waits)

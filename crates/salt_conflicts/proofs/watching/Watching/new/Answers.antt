@@ -12,6 +12,8 @@ returns c = record {
   taken = refl;
   waits = sym c.new-2.ensures.items;
   programs = sym c.new-3.ensures;
-  holders = unknown false c.new-5.result.items c.new.result c.new-2.result.items refl;
   dependencies = subst (AreSame (dependencies c.new-4.result)) c.new-4.ensures (itself (dependencies c.new-4.result));
 }
+
+pub invariant_of-result : goal.invariant_of-result
+invariant_of-result c = unknown false c.new-5.result.items c.new.result c.new-2.result.items refl

@@ -1,3 +1,4 @@
+use Rattle.salt_conflicts.proofs.Holding.{unknown}
 use Rattle.salt_conflicts.proofs.Resuming.{resumes}
 use Rattle.salt_conflicts.proofs.watching.Watching.resumed.Goals as goal
 use Rattle.salt_conflicts.specs.declared.watching.Watching.{Watching}
@@ -12,6 +13,9 @@ use Rattle.std.specs.Prelude.{false}
 
 pub returns : goal.returns
 returns c w f locks taken group =
-    let new : Watching = record { alloc = c.args.alloc; locks = c.args.locks; taken = c.args.taken; waits = c.new.result; programs = c.new-2.result; deps = c.args.deps; held = false; holders = c.new-3.result } in
+    let new : Watching = record { locks = c.args.locks; taken = c.args.taken; waits = c.new.result.items; programs = c.new-2.result.names; deps = c.args.deps } in
     subst (λ (bs : List Id). GoesBy f (Early bs) w new) c.new-2.ensures
-    (resumes new w f c.new.ensures.items locks taken (subst (λ (bs : List Id). AreSame (group_of bs) (dependencies c.args.deps)) (sym c.new-2.ensures) group) refl)
+    (resumes new w f c.new.ensures.items locks taken (subst (λ (bs : List Id). AreSame (group_of bs) (dependencies c.args.deps)) (sym c.new-2.ensures) group))
+
+pub invariant_of-result : goal.invariant_of-result
+invariant_of-result c = unknown false c.new-3.result.items c.args.locks c.new.result.items refl
