@@ -41,7 +41,7 @@ fn main(rt: HostRuntime) -> io::Result<()> {
         for calls in 1..6 {
             match boots_behind(alloc, calls, pick) {
                 Ok(boots) => println!(rt; "image {pick} of call {calls}: {boots}")?,
-                Err(e) => println!(rt; "image {pick} of call {calls}: {e}")?,
+                Err(e) => println!(rt; "image {pick} of call {calls}: {e:?}")?,
             }
         }
     }

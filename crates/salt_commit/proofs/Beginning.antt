@@ -1,5 +1,5 @@
 -- A store is begun: each image stands for a new database, and so does the store.
-use Rattle.salt_bytes.specs.Generations.{BothBlank, Counts, IsRead, LogA, LogB, WhichLog, content_of, pair_of, read_or_outside}
+use Rattle.salt_bytes.specs.Generations.{BothBlank, Counts, IsRead, LogA, content_of, pair_of, read_or_outside}
 use Rattle.salt_bytes.specs.Log.{entries_in}
 use Rattle.salt_commit.proofs.Opening.{same_shape_is}
 use Rattle.salt_commit.proofs.Pageless.{no_names}
@@ -9,9 +9,9 @@ use Rattle.salt_stands.specs.LogDevices.{IsCoordinatorLog, IsPartLog, IsStoreLog
 use Rattle.salt_commit.specs.Stores.{ArePartitions, IsSound, decided_by, reading}
 use Rattle.salt_commit.specs.declared.store.Store.{Store}
 use Rattle.salt_decisions.proofs.Begun.{blank_a, blank_b, both_made_blank, first_log}
-use Rattle.salt_decisions.specs.Errors.{disk_err_in, open_err, open_err_of}
+use Rattle.salt_gatelog.specs.Answers.{open_disk_err_of, open_disk_err, open_err_of}
 use Rattle.salt_decisions.specs.Opened.{IsBlankImage, IsFirstImage, IsOpened, IsStood, begun, first_payload}
-use Rattle.salt_decisions.specs.declared.error.OpenErr.{OpenErr}
+use Rattle.salt_gatelog.specs.declared.unopened.OpenErr.{OpenErr}
 use Rattle.salt_decisions.specs.declared.kept.Kept.{Kept}
 use Rattle.salt_disk.proofs.CallAfterCall.{keeps_on, keeps_wider}
 use Rattle.salt_disk.specs.Disks.{EachImage, IsImage, IsSettled, IsUnchanged, KeepsBut, View}
@@ -43,14 +43,14 @@ use Rattle.std.proofs.Common.{Err, IsTrue, List, None, Ok, Option, Result, Some,
 use Rattle.std.proofs.lemmas.Bool.Decides.{Decides-eqb}
 use Rattle.std.specs.Prelude.{Bool, false, nat_lt, slice_get, ◌==◌, ◌||◌}
 
-same_err : (e : DiskErr) → disk_err_in (open_err_of e) ≡ Some e
+same_err : (e : DiskErr) → open_disk_err_of (open_err_of e) ≡ Some e
 same_err Failed = refl
 same_err Stopped = refl
 same_err (Full dev) = refl
 same_err Memory = refl
 
-pub open_answer : {T : Type 0} (result : Result T OpenErr) (s : OpenErr) (e : DiskErr) → result ≡ Err s → s ≡ open_err_of e → open_err result ≡ Some e
-open_answer result s e is from = ap open_err is ∙ ap disk_err_in from ∙ same_err e
+pub open_answer : {T : Type 0} (result : Result T OpenErr) (s : OpenErr) (e : DiskErr) → result ≡ Err s → s ≡ open_err_of e → open_disk_err result ≡ Some e
+open_answer result s e is from = ap open_disk_err is ∙ ap open_disk_err_of from ∙ same_err e
 
 no_part_log : (n dev : ℕ) → dev < 2 → IsPartLog n dev → ⊥
 no_part_log n dev low t = by t.is

@@ -5,10 +5,10 @@ use Rattle.salt_commit.proofs.Beginning.{still_blank}
 use Rattle.salt_commit.specs.Openings.{PartPassesLimit, StorePassesLimit}
 use Rattle.salt_stands.specs.LogDevices.{IsPartLog}
 use Rattle.salt_commit.specs.Prepares.{FullWhere}
-use Rattle.salt_decisions.specs.Errors.{disk_err_in}
+use Rattle.salt_gatelog.specs.Answers.{open_disk_err_of}
 use Rattle.salt_decisions.specs.Opened.{FullAtFirst, first_payload}
-use Rattle.salt_decisions.specs.declared.error.OpenErr.TheVariants as opening
-use Rattle.salt_decisions.specs.declared.error.OpenErr.{OpenErr}
+use Rattle.salt_gatelog.specs.declared.unopened.OpenErr.TheVariants as opening
+use Rattle.salt_gatelog.specs.declared.unopened.OpenErr.{OpenErr}
 use Rattle.salt_disk.specs.Disks.{KeepsBut, View}
 use Rattle.salt_disk.specs.declared.disks.DiskErr.TheVariants.{Failed, Full, Memory, Stopped}
 use Rattle.salt_disk.specs.declared.disks.DiskErr.{DiskErr}
@@ -38,8 +38,8 @@ parts_full d e asked (Some (Full dev)) keeps blank full = record { blank = still
 parts_full d e asked (Some Memory) keeps blank full = tt
 
 -- a log of the coordinator
-pub decisions_full : (e : View) (asked : Shape) (err : OpenErr) → FullAtFirst e (first_payload asked) (disk_err_in err) → ((dev : ℕ) → err ≡ opening.Full dev → coordinator_pair (logs_of e.bytes) ≡ BothBlank)
-    → FullWhere (StorePassesLimit e asked) (disk_err_in err)
+pub decisions_full : (e : View) (asked : Shape) (err : OpenErr) → FullAtFirst e (first_payload asked) (open_disk_err_of err) → ((dev : ℕ) → err ≡ opening.Full dev → coordinator_pair (logs_of e.bytes) ≡ BothBlank)
+    → FullWhere (StorePassesLimit e asked) (open_disk_err_of err)
 decisions_full e asked (opening.NotSalt dev) full blank = tt
 decisions_full e asked (opening.OtherShape kept wanted) full blank = tt
 decisions_full e asked (opening.NumbersSpent boot decisions) full blank = tt

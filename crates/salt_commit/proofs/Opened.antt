@@ -9,8 +9,8 @@ use Rattle.salt_commit.proofs.Standing.{if_some, make_some}
 use Rattle.salt_commit.specs.Openings.{HasTables, IsPartFault, OpensAll, OpensIn, PartFails, PartRefuses, PartsRefuse, spells_under}
 use Rattle.salt_commit.specs.Stores.{decided_by, reading}
 use Rattle.salt_decisions.specs.Kept.{IsKept}
-use Rattle.salt_decisions.specs.declared.error.OpenErr.TheVariants.{Failed, Full, Memory, NotSalt, NumbersSpent, OtherShape, Stopped}
-use Rattle.salt_decisions.specs.declared.error.OpenErr.{OpenErr}
+use Rattle.salt_gatelog.specs.declared.unopened.OpenErr.TheVariants.{Failed, Full, Memory, NotSalt, NumbersSpent, OtherShape, Stopped}
+use Rattle.salt_gatelog.specs.declared.unopened.OpenErr.{OpenErr}
 use Rattle.salt_decisions.specs.declared.kept.Kept.{Kept}
 use Rattle.salt_disk.proofs.CallAfterCall.{cause_on, cause_none, keeps_on, same_shape}
 use Rattle.salt_disk.specs.Disks.{HasCause, KeepsAll, View}

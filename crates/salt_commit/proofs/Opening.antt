@@ -14,8 +14,8 @@ use Rattle.salt_decisions.specs.Decisions.{IsDecisions}
 use Rattle.salt_decisions.specs.Kept.{IsKept}
 use Rattle.salt_decisions.specs.declared.decisions.Decisions.{Decisions}
 use Rattle.salt_decisions.specs.Opened.{IsOpened, IsStood, OpenFails}
-use Rattle.salt_decisions.specs.declared.error.OpenErr.TheVariants.{Failed, Full, Memory, NotSalt, NumbersSpent, OtherShape, Stopped}
-use Rattle.salt_decisions.specs.declared.error.OpenErr.{OpenErr}
+use Rattle.salt_gatelog.specs.declared.unopened.OpenErr.TheVariants.{Failed, Full, Memory, NotSalt, NumbersSpent, OtherShape, Stopped}
+use Rattle.salt_gatelog.specs.declared.unopened.OpenErr.{OpenErr}
 use Rattle.salt_decisions.specs.declared.kept.Kept.{Kept}
 use Rattle.salt_disk.proofs.CallAfterCall.{keeps_wider}
 use Rattle.salt_disk.specs.Disks.{IsSettled, KeepsAll, KeepsBut, View}

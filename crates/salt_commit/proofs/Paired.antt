@@ -3,9 +3,9 @@ use Rattle.salt_bytes.specs.Generations.{Pair}
 use Rattle.salt_commit.specs.Openings.{OpeningFails, PartFails, RefusesWhere}
 use Rattle.salt_commit.specs.Prepares.{FullWhere}
 use Rattle.salt_commit.specs.Stores.{reading}
-use Rattle.salt_decisions.specs.Errors.{disk_err_in, open_err, open_err_of, open_err_of_pair}
+use Rattle.salt_gatelog.specs.Answers.{open_disk_err_of, open_disk_err, open_err_of, open_err_of_pair}
 use Rattle.salt_decisions.specs.Opened.{PeekFails}
-use Rattle.salt_decisions.specs.declared.error.OpenErr.{OpenErr}
+use Rattle.salt_gatelog.specs.declared.unopened.OpenErr.{OpenErr}
 use Rattle.salt_disk.specs.Disks.{OnlyFails}
 use Rattle.salt_disk.specs.declared.disks.DiskErr.TheVariants.{Failed, Full, Memory, Stopped}
 use Rattle.salt_disk.specs.declared.disks.DiskErr.{DiskErr}
@@ -36,15 +36,15 @@ fails_only is_fault Stopped h = absurd h
 fails_only is_fault (Full dev) h = absurd h
 fails_only is_fault Memory h = tt
 
-same_err : (e : PairErr) → disk_err_in (open_err_of_pair e) ≡ pair_err_of e
+same_err : (e : PairErr) → open_disk_err_of (open_err_of_pair e) ≡ pair_err_of e
 same_err (NotSalt dev) = refl
 same_err (Disk Failed) = refl
 same_err (Disk Stopped) = refl
 same_err (Disk (Full dev)) = refl
 same_err (Disk Memory) = refl
 
-pub pair_answer : {T : Type 0} (result : Result T OpenErr) (s : OpenErr) (e : PairErr) → result ≡ Err s → s ≡ open_err_of_pair e → open_err result ≡ pair_err_of e
-pair_answer result s e is from = ap open_err is ∙ ap disk_err_in from ∙ same_err e
+pub pair_answer : {T : Type 0} (result : Result T OpenErr) (s : OpenErr) (e : PairErr) → result ≡ Err s → s ≡ open_err_of_pair e → open_disk_err result ≡ pair_err_of e
+pair_answer result s e is from = ap open_disk_err is ∙ ap open_disk_err_of from ∙ same_err e
 
 -- the coordinator's
 pub peek_refused : (asked : Shape) (bytes : ℕ → List ℕ) (e : PairErr) → PeekFails e (coordinator_pair (logs_of bytes)) → OpeningFails asked bytes (open_err_of_pair e)

@@ -6,7 +6,7 @@ ghost use Rattle.salt_commit.specs.Openings.{HasRoom, IsNoRefusal, IsSchemaWhere
 ghost use Rattle.salt_stands.specs.LogDevices.{IsPartLog, IsStoreLog};
 ghost use Rattle.salt_commit.specs.Prepares.{FullWhere};
 ghost use Rattle.salt_commit.specs.Stores.{ArePartitions, reading};
-ghost use Rattle.salt_decisions.specs.Errors.{open_err};
+ghost use Rattle.salt_gatelog.specs.Answers.{open_disk_err};
 ghost use Rattle.salt_disk.specs.Disks.{HasCause, IsImage, KeepsAll, KeepsBut};
 ghost use Rattle.salt_stands.specs.Coordinator.{coordinator_pair};
 ghost use Rattle.salt_stands.specs.FirstOpening.{first_view};
@@ -56,9 +56,9 @@ fn begin_store<D: Disks>(
     ensures err { IsTrue (D.view disks.old).told → IfErr result IsNoRefusal }
     ensures images { IsTrue (D.view disks.old).told → (image : ℕ → List ℕ) → IsImage (D.view disks.new) image → judged reading image shape ≡ Ok (nothing_found shape) }
     ensures pages { IsTrue (D.view disks.old).told → (image : ℕ → List ℕ) → IsImage (D.view disks.new) image → (dev : ℕ) → LeavesPages shape image dev → ⊥ }
-    ensures others { KeepsBut (IsStoreLog shape.parts) (D.view disks.old) (D.view disks.new) (open_err result) }
-    ensures cause { HasCause (D.view disks.old) (D.view disks.new) (open_err result) }
-    ensures full { IsTrue (D.view disks.old).told → FullWhere (StorePassesLimit (D.view disks.new) shape) (open_err result) }
+    ensures others { KeepsBut (IsStoreLog shape.parts) (D.view disks.old) (D.view disks.new) (open_disk_err result) }
+    ensures cause { HasCause (D.view disks.old) (D.view disks.new) (open_disk_err result) }
+    ensures full { IsTrue (D.view disks.old).told → FullWhere (StorePassesLimit (D.view disks.new) shape) (open_disk_err result) }
 {
     let parts = create_all(alloc, disks, shape.parts)?;
     let (decisions, kept) = open_decisions(alloc, disks, shape)?;
@@ -90,9 +90,9 @@ fn open_counting<D: Disks, F: Fn(PlaceKind, &Key, u32) -> u32>(
     ensures ok { IfOk result (λ made. OpensStore (D.view disks.old) (D.view disks.new) shape made.0 made.1) }
     ensures plain { IfOk result (λ made. messages_of made.0 ≡ None) }
     ensures err { IsTrue (D.view disks.old).told → IfErr result (OpeningFails shape (D.view disks.old).bytes) }
-    ensures kept { IsTrue (D.view disks.old).told → KeepsAll (D.view disks.old) (D.view disks.new) (open_err result) }
-    ensures others { KeepsBut (IsStoreLog shape.parts) (D.view disks.old) (D.view disks.new) (open_err result) }
-    ensures cause { HasCause (D.view disks.old) (D.view disks.new) (open_err result) }
+    ensures kept { IsTrue (D.view disks.old).told → KeepsAll (D.view disks.old) (D.view disks.new) (open_disk_err result) }
+    ensures others { KeepsBut (IsStoreLog shape.parts) (D.view disks.old) (D.view disks.new) (open_disk_err result) }
+    ensures cause { HasCause (D.view disks.old) (D.view disks.new) (open_disk_err result) }
 {
     let (decisions, kept) = open_decisions(alloc, disks, shape)?;
     let parts = open_all(alloc, disks, place, shape, schema, &kept)?;
@@ -131,15 +131,15 @@ pub fn open_store<D: Disks, F: Fn(PlaceKind, &Key, u32) -> u32>(
     ensures plain { IfOk result (λ made. messages_of made.0 ≡ None) }
     ensures err { IsTrue (D.view disks.old).told → IfErr result (OpeningFails shape (D.view disks.old).bytes) }
 
-    ensures kept { IsTrue (D.view disks.old).told → ¬ (coordinator_pair (logs_of (D.view disks.old).bytes) ≡ BothBlank) → KeepsAll (D.view disks.old) (D.view disks.new) (open_err result) }
+    ensures kept { IsTrue (D.view disks.old).told → ¬ (coordinator_pair (logs_of (D.view disks.old).bytes) ≡ BothBlank) → KeepsAll (D.view disks.old) (D.view disks.new) (open_disk_err result) }
     ensures images { IsTrue (D.view disks.old).told → coordinator_pair (logs_of (D.view disks.old).bytes) ≡ BothBlank
         → (image : ℕ → List ℕ) → IsImage (D.view disks.new) image → judged reading image shape ≡ Ok (nothing_found shape) }
     ensures pages { IsTrue (D.view disks.old).told → coordinator_pair (logs_of (D.view disks.old).bytes) ≡ BothBlank
         → (image : ℕ → List ℕ) → IsImage (D.view disks.new) image → (dev : ℕ) → LeavesPages shape image dev → ⊥ }
 
-    ensures others { KeepsBut (IsStoreLog shape.parts) (D.view disks.old) (D.view disks.new) (open_err result) }
-    ensures cause { HasCause (D.view disks.old) (D.view disks.new) (open_err result) }
-    ensures full { IsTrue (D.view disks.old).told → FullWhere (StorePassesLimit (D.view disks.new) shape) (open_err result) }
+    ensures others { KeepsBut (IsStoreLog shape.parts) (D.view disks.old) (D.view disks.new) (open_disk_err result) }
+    ensures cause { HasCause (D.view disks.old) (D.view disks.new) (open_disk_err result) }
+    ensures full { IsTrue (D.view disks.old).told → FullWhere (StorePassesLimit (D.view disks.new) shape) (open_disk_err result) }
 {
     if peek(alloc, disks)?.is_none() {
         return begin_store(alloc, disks, shape);

@@ -1,7 +1,7 @@
 //! Partitions are opened under the coordinator's log, and judged by the tables.
 
 ghost use Rattle.salt_commit.specs.Openings.{HasRoom, HasTables, OpensAll, OpensIn, PartFails, PartRefuses, PartsRefuse};
-ghost use Rattle.salt_decisions.specs.Errors.{open_err};
+ghost use Rattle.salt_gatelog.specs.Answers.{open_disk_err};
 ghost use Rattle.salt_decisions.specs.Kept.{IsKept};
 ghost use Rattle.salt_disk.specs.Disks.{HasCause, IsSettled, KeepsAll};
 ghost use Rattle.salt_model.specs.Kept.{Definition};
@@ -38,8 +38,8 @@ fn open_part<D: Disks>(
     requires settled_b { IsSettled (D.view disks.old) (part_device part + 1) }
     ensures opens { (log : CoordinatorLog) → IsKept kept.now log → IfOk result (λ x. OpensAs (D.view disks.old) (D.view disks.new) x log.told.boot (decided_for part log.told.decided) part) }
     ensures why { (log : CoordinatorLog) → IsKept kept.now log → IsTrue (D.view disks.old).told → IfErr result (PartFails (D.view disks.old).bytes log.told.boot (decided_for part log.told.decided) part) }
-    ensures kept { KeepsAll (D.view disks.old) (D.view disks.new) (open_err result) }
-    ensures cause { HasCause (D.view disks.old) (D.view disks.new) (open_err result) }
+    ensures kept { KeepsAll (D.view disks.old) (D.view disks.new) (open_disk_err result) }
+    ensures cause { HasCause (D.view disks.old) (D.view disks.new) (open_disk_err result) }
 {
     let decided = units_in_part(alloc, kept.decided.as_slice(), kept.masks.as_slice(), part)?;
     Ok(open_partition(alloc, disks, part, kept.boot, &decided)?)
@@ -65,8 +65,8 @@ fn open_fitting<D: Disks, F: Fn(PlaceKind, &Key, u32) -> u32>(
     requires settled_b { IsSettled (D.view disks.old) (part_device part + 1) }
     ensures opens { (c : Coordinator Definition) → IsKept kept.now c.log → IfOk result (λ x. OpensIn schema.now shape (D.view disks.old) (D.view disks.new) c part x) }
     ensures why { (c : Coordinator Definition) → IsKept kept.now c.log → HasTables schema.now shape c → IsTrue (D.view disks.old).told → IfErr result (PartRefuses c (D.view disks.old).bytes part) }
-    ensures kept { KeepsAll (D.view disks.old) (D.view disks.new) (open_err result) }
-    ensures cause { HasCause (D.view disks.old) (D.view disks.new) (open_err result) }
+    ensures kept { KeepsAll (D.view disks.old) (D.view disks.new) (open_disk_err result) }
+    ensures cause { HasCause (D.view disks.old) (D.view disks.new) (open_disk_err result) }
 {
     let mut partition = open_part(alloc, disks, part, kept)?;
     if !is_format_under(kept.format, partition.nulls()) {
@@ -96,8 +96,8 @@ pub fn open_all<D: Disks, F: Fn(PlaceKind, &Key, u32) -> u32>(
     requires room { HasRoom (D.view disks.old) shape.parts }
     ensures opens { (c : Coordinator Definition) → IsKept kept.now c.log → IfOk result (λ opened. OpensAll schema.now shape shape.parts (D.view disks.old) (D.view disks.new) c opened.items) }
     ensures why { (c : Coordinator Definition) → IsKept kept.now c.log → HasTables schema.now shape c → IsTrue (D.view disks.old).told → IfErr result (PartsRefuse c (D.view disks.old).bytes shape.parts) }
-    ensures kept { KeepsAll (D.view disks.old) (D.view disks.new) (open_err result) }
-    ensures cause { HasCause (D.view disks.old) (D.view disks.new) (open_err result) }
+    ensures kept { KeepsAll (D.view disks.old) (D.view disks.new) (open_disk_err result) }
+    ensures cause { HasCause (D.view disks.old) (D.view disks.new) (open_disk_err result) }
 {
     let mut opened = Vec::new(alloc);
     for part in 0..shape.parts {

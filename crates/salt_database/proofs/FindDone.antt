@@ -15,7 +15,7 @@ use Rattle.salt_model.specs.Kept.{Kept}
 use Rattle.salt_drain.specs.declared.recovery.Recovery.{Recovery}
 use Rattle.salt_storage.specs.Answers.{MayFail, numbers_told}
 use Rattle.salt_storage.specs.declared.found.Numbers.{Numbers}
-use Rattle.salt_storage.specs.declared.open.OpenErr.{OpenErr}
+use Rattle.salt_storage.specs.OpenErr.{OpenErr}
 use Rattle.std.proofs.Common.{subst, sym, ◌∙◌}
 use Rattle.std.specs.Prelude.{Bool, Err, IfErr, IsSome, None, Ok, OnErr, OnOk, Option, Result, Some, refl, ℕ, ◌≡◌}
 

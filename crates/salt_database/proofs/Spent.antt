@@ -11,8 +11,8 @@ use Rattle.salt_model.specs.declared.events.Event.{Event}
 use Rattle.salt_stands.specs.Stands.{are_spent}
 use Rattle.salt_driver.specs.Opening.{AreSpentAt, MayFailAt}
 use Rattle.salt_storage.specs.Answers.{MayFail, numbers_of}
-use Rattle.salt_storage.specs.declared.open.OpenErr.{OpenErr}
-use Rattle.salt_storage.specs.declared.open.OpenErr.TheVariants as open_err
+use Rattle.salt_storage.specs.OpenErr.{OpenErr}
+use Rattle.salt_storage.specs.OpenErr.TheVariants as open_err
 use Rattle.std.proofs.Common.{ap, arith, inl, inr, subst, sym, ◌∙◌}
 use Rattle.std.specs.Prelude.{IsSome, None, Option, Some, refl, true, ℕ, ⊤, ◌+◌, ◌≡◌, ◌≤◌, ◌⊎◌}
 
@@ -57,7 +57,10 @@ may-fail-at rests doubt i room p a b (open_err.NotSalt dev) flies x y h = h
 may-fail-at rests doubt i room p a b (open_err.OtherShape kept asked) flies x y h = h
 may-fail-at rests doubt i room p a b (open_err.NumbersSpent boot decisions) flies x y h =
     spent-left doubt i room p h.kept boot decisions flies (left-either doubt room p a b h.kept x y h.either) h.spent h.boot_is h.decisions_are
-may-fail-at rests doubt i room p a b (open_err.Halted halt) flies x y h = tt
+may-fail-at rests doubt i room p a b open_err.Failed flies x y h = tt
+may-fail-at rests doubt i room p a b open_err.Stopped flies x y h = tt
+may-fail-at rests doubt i room p a b (open_err.Full dev) flies x y h = tt
+may-fail-at rests doubt i room p a b open_err.Memory flies x y h = tt
 
 -- and where its numbers are told, what is left stands for it alone
 
@@ -80,4 +83,7 @@ alone-by rests doubt room p a b (open_err.NumbersSpent boot decisions) x y h = r
   boot_is = h.boot_is;
   decisions_are = h.decisions_are;
 }
-alone-by rests doubt room p a b (open_err.Halted halt) x y h = tt
+alone-by rests doubt room p a b open_err.Failed x y h = tt
+alone-by rests doubt room p a b open_err.Stopped x y h = tt
+alone-by rests doubt room p a b (open_err.Full dev) x y h = tt
+alone-by rests doubt room p a b open_err.Memory x y h = tt

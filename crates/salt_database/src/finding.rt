@@ -11,8 +11,8 @@ ghost use Rattle.salt_model.specs.declared.events.Event.{Event};
 ghost use Rattle.salt_storage.specs.Answers.{MayFail, open_disk_err};
 ghost use Rattle.salt_storage.specs.Netted.{net_begun};
 ghost use Rattle.salt_storage.specs.Staying.{StaysWithin};
-ghost use Rattle.salt_storage.specs.declared.halt.Halt.TheVariants.{DeviceFull, Memory};
-ghost use Rattle.salt_storage.specs.declared.open.OpenErr.{OpenErr};
+ghost use Rattle.salt_storage.specs.declared.halt.Halt.TheVariants.{Memory};
+ghost use Rattle.salt_storage.specs.OpenErr.{OpenErr};
 ghost use Rattle.salt_place.specs.Placement.{GivesPlaceOf, TakesEachKey};
 ghost use Rattle.std.specs.Prelude.{Err, IfErr, IfOk, None, OnErr, OnOk, Option, ℕ, [], if◌then◌else◌, ◌++◌, ◌∷◌, ◌≡◌};
 
@@ -53,7 +53,7 @@ impl<S: Storage> Opening<S> {
         ensures unfound { OnErr result (self.new.found ≡ self.old.found) }
         ensures leaves { OnErr result ((a b : Kept) → S.leaves (D.view disks.old) self.old.storage a b → S.leaves (D.view disks.new) self.new.storage a b) }
         ensures known { IfErr result (λ e. (a b : Kept) → S.leaves (D.view disks.old) self.old.storage a b → MayFail (S.rests (D.view disks.new) self.new.storage) a b e) }
-        ensures full { (dev : ℕ) → result ≡ Err (OpenErr.Halted (DeviceFull dev)) → ⊥ }
+        ensures full { (dev : ℕ) → result ≡ Err (OpenErr.Full dev) → ⊥ }
         ensures single { self.new.single ≡ self.old.single }
         ensures flies { self.new.in_flight ≡ self.old.in_flight }
         ensures within { StaysWithin (S.asked self.old.storage) (S.asked self.new.storage) (D.view disks.old) (D.view disks.new) }

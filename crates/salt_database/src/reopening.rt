@@ -21,7 +21,7 @@ ghost use Rattle.salt_storage.specs.Answers.{disk_err, numbers_told, open_disk_e
 ghost use Rattle.salt_storage.specs.Staying.{StaysWithin};
 ghost use Rattle.salt_storage.specs.Writing.{OfBoot};
 ghost use Rattle.salt_storage.specs.declared.halt.Halt.TheVariants.{DeviceFull, Memory};
-ghost use Rattle.salt_storage.specs.declared.open.OpenErr.{OpenErr};
+ghost use Rattle.salt_storage.specs.OpenErr.{OpenErr};
 ghost use Rattle.salt_place.specs.Placement.{GivesPlaceOf, TakesEachKey};
 ghost use Rattle.std.specs.Prelude.{Err, IfErr, IfOk, None, OnErr, OnOk, Some, ℕ, [], true, ◌++◌, ◌+◌, ◌<◌, ◌∷◌, ◌≡◌};
 
@@ -115,11 +115,11 @@ impl<S: Storage + Drop> Opening<S> {
         requires answers { GivesPlaceOf (F.post place.now.place) }
         requires settled { CanFind (S.settled (D.view disks.old) self.old.storage) (S.leaves (D.view disks.old) self.old.storage) self.old.found self.old.stage }
         ensures found { OnOk result (IsFoundStage self.new.found self.new.stage) }
-        ensures again { (result ≡ Err (OpenErr.Halted Memory) → ⊥) → WhereFallen S.holds S.leaves (D.view disks.old) self.old (CanOpenAt S.holds S.leaves (D.view disks.new) self.new) }
+        ensures again { (result ≡ Err OpenErr.Memory → ⊥) → WhereFallen S.holds S.leaves (D.view disks.old) self.old (CanOpenAt S.holds S.leaves (D.view disks.new) self.new) }
         ensures left { WhereFallen S.holds S.leaves (D.view disks.old) self.old (IsLeftAt S.holds S.leaves S.rests (D.view disks.new) self.new (numbers_told result)) }
         ensures later { IfErr result (λ e. WhereFallen S.holds S.leaves (D.view disks.old) self.old (λ room p. MayFailAt room p e)) }
         ensures flies { flight_of self.new.in_flight ≡ flight_of self.old.in_flight }
-        ensures full { (dev : ℕ) → result ≡ Err (OpenErr.Halted (DeviceFull dev)) → ⊥ }
+        ensures full { (dev : ℕ) → result ≡ Err (OpenErr.Full dev) → ⊥ }
         ensures begun { StaysBegun S.asked S.net self.old self.new }
         ensures within { StaysWithin (S.asked self.old.storage) (S.asked self.new.storage) (D.view disks.old) (D.view disks.new) }
         ensures counts { CountsStops (D.view disks.old) (D.view disks.new) (open_disk_err result) [] 0 }

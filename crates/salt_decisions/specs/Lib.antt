@@ -1,6 +1,5 @@
 pub mod Decisions
 pub mod Entry
-pub mod Errors
 pub mod Header
 pub mod HeaderPayload
 pub mod Kept

@@ -5,7 +5,6 @@
 mod conts;
 mod decisions;
 mod entry;
-mod error;
 mod header;
 mod header_payload;
 mod kept;
@@ -18,9 +17,9 @@ mod said;
 mod which;
 
 pub use decisions::Decisions;
-pub use error::OpenErr;
 pub use header::Definition;
 pub use header_payload::FORMAT;
 pub use kept::{Kept, Texts};
 pub use moves::apply_move;
 pub use open::{are_spent, open_decisions, peek};
+pub use salt_gatelog::OpenErr;

@@ -1,8 +1,9 @@
 //! The coordinator's log is opened, or begun.
 
+ghost use Rattle.salt_gatelog.specs.declared.unopened.OpenErr.{OpenErr};
 ghost use Rattle.salt_bytes.specs.Generations.{BothBlank, LogA};
 ghost use Rattle.salt_decisions.specs.Decisions.{HoldsLog, IsDecisions};
-ghost use Rattle.salt_decisions.specs.Errors.{open_err};
+ghost use Rattle.salt_gatelog.specs.Answers.{open_disk_err};
 ghost use Rattle.salt_decisions.specs.Kept.{IsKept};
 ghost use Rattle.salt_decisions.specs.Opened.{FullAtFirst, IsBlankImage, IsFirstImage, IsOpened, OpenFails, Peeks, begun, first_payload};
 ghost use Rattle.salt_decisions.specs.Read.{IsOf};
@@ -20,7 +21,6 @@ ghost use Rattle.std.specs.Prelude.{Err, IfErr, IfOk, IfSome, IsTrue, Some, [], 
 ghost use Rattle.std.specs.Result.{result_err};
 
 use crate::decisions::Decisions;
-use crate::error::OpenErr;
 use crate::header_payload::{FORMAT, header_payload};
 use crate::kept::{Kept, texts_of};
 use crate::pair::{LogPair, read_pair};
@@ -28,7 +28,7 @@ use crate::read::ReadLog;
 use crate::said::Said;
 use crate::which::Which;
 use salt_disk::{DiskErr, Disks};
-use salt_gatelog::{PairErr, create};
+use salt_gatelog::{OpenErr, PairErr, create};
 use salt_place::{PlaceKind, Shape};
 use sqlite_items::Items;
 use std::alloc::{AllocError, Global};
@@ -224,12 +224,12 @@ pub fn open_decisions<D: Disks>(
     requires parts { IsParts shape.parts }
     ensures ok { IfOk result (λ made. IsOpened (D.view disks.old) (D.view disks.new) shape made.0 made.1) }
     ensures err { IsTrue (D.view disks.old).told → IfErr result (OpenFails shape (coordinator_pair (logs_of (D.view disks.old).bytes))) }
-    ensures kept { IsTrue (D.view disks.old).told → ¬ (coordinator_pair (logs_of (D.view disks.old).bytes) ≡ BothBlank) → KeepsAll (D.view disks.old) (D.view disks.new) (open_err result) }
+    ensures kept { IsTrue (D.view disks.old).told → ¬ (coordinator_pair (logs_of (D.view disks.old).bytes) ≡ BothBlank) → KeepsAll (D.view disks.old) (D.view disks.new) (open_disk_err result) }
     ensures images_a { coordinator_pair (logs_of (D.view disks.old).bytes) ≡ BothBlank → EachImage (D.view disks.new) 0 (IsFirstImage shape) }
     ensures images_b { coordinator_pair (logs_of (D.view disks.old).bytes) ≡ BothBlank → EachImage (D.view disks.new) 1 IsBlankImage }
-    ensures others { KeepsBut IsCoordinatorLog (D.view disks.old) (D.view disks.new) (open_err result) }
-    ensures cause { HasCause (D.view disks.old) (D.view disks.new) (open_err result) }
-    ensures full { IsTrue (D.view disks.old).told → FullAtFirst (D.view disks.new) (first_payload shape) (open_err result) }
+    ensures others { KeepsBut IsCoordinatorLog (D.view disks.old) (D.view disks.new) (open_disk_err result) }
+    ensures cause { HasCause (D.view disks.old) (D.view disks.new) (open_disk_err result) }
+    ensures full { IsTrue (D.view disks.old).told → FullAtFirst (D.view disks.new) (first_payload shape) (open_disk_err result) }
     ensures blank { (dev : ℕ) → result ≡ Err (OpenErr.Full dev) → IsTrue (D.view disks.old).told → coordinator_pair (logs_of (D.view disks.new).bytes) ≡ BothBlank }
 {
     match read_pair(alloc, disks)? {

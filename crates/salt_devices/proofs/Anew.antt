@@ -27,9 +27,9 @@ use Rattle.salt_storage.specs.Answers.{IsSpent, MayFail}
 use Rattle.salt_storage.specs.Storing.{IsSoundKept}
 use Rattle.salt_storage.specs.declared.found.Found as storage
 use Rattle.salt_storage.specs.declared.found.Numbers.{Numbers}
-use Rattle.salt_storage.specs.declared.halt.Halt.TheVariants.{DeviceFull}
-use Rattle.salt_storage.specs.declared.open.OpenErr.TheVariants.{Halted, NotSalt, NumbersSpent, OtherShape}
-use Rattle.salt_storage.specs.declared.open.OpenErr.{OpenErr}
+use Rattle.salt_storage.specs.OpenErr.TheVariants as opening
+use Rattle.salt_storage.specs.OpenErr.TheVariants.{NotSalt, NumbersSpent, OtherShape}
+use Rattle.salt_storage.specs.OpenErr.{OpenErr}
 use Rattle.salt_place.specs.Placement.{IsParts}
 use Rattle.salt_place.specs.declared.placement.Shape.{Shape}
 use Rattle.std.proofs.Common.{Bool, IsTrue, List, Ok, Option, Some, ap, arith, false, inl, inr, refl, subst, sym, true, ℕ, ◌≡◌, ◌⊎◌, ◌∙◌}
@@ -69,7 +69,10 @@ swapped a b (NumbersSpent boot decisions) h = (h.0, by h.1)
     by : ((boot ≡ b.boot) × (decisions ≡ b.decisions)) ⊎ ((boot ≡ a.boot) × (decisions ≡ a.decisions)) → ((boot ≡ a.boot) × (decisions ≡ a.decisions)) ⊎ ((boot ≡ b.boot) × (decisions ≡ b.decisions))
     by (inl s) = inr s
     by (inr s) = inl s
-swapped a b (Halted e) h = tt
+swapped a b opening.Failed h = tt
+swapped a b opening.Stopped h = tt
+swapped a b (opening.Full dev) h = tt
+swapped a b opening.Memory h = tt
 
 pub left_fails : (d : View) (shape : Shape) (a b : Kept) (e : OpenErr) → LeavesAs true d shape a b → IsTrue d.told → RefusedAs shape d.bytes e → MayTell a b e
 left_fails d shape a b e h told refused = by (left_bytes d shape a b h told).stands
@@ -86,8 +89,8 @@ unwritten_left d e shape n answer room same kept a b h told image left =
     still_left d e shape n answer room (kept was (left_bytes d shape a b h was).begun) a b h told image left
 
 -- what an opening may not answer is not told
-pub not_left : (d : View) (shape : Shape) (a b : Kept) (e : OpenErr) → LeavesAs true d shape a b → (MayTell a b e → (dev : ℕ) × (e ≡ Halted (DeviceFull dev))) → (IsTrue d.told → RefusedAs shape d.bytes e)
-    → ((dev : ℕ) → e ≡ Halted (DeviceFull dev) → IsTrue d.told → coordinator_pair (logs_of d.bytes) ≡ BothBlank) → IsTrue d.told → ⊥
+pub not_left : (d : View) (shape : Shape) (a b : Kept) (e : OpenErr) → LeavesAs true d shape a b → (MayTell a b e → (dev : ℕ) × (e ≡ opening.Full dev)) → (IsTrue d.told → RefusedAs shape d.bytes e)
+    → ((dev : ℕ) → e ≡ opening.Full dev → IsTrue d.told → coordinator_pair (logs_of d.bytes) ≡ BothBlank) → IsTrue d.told → ⊥
 not_left d shape a b e h not refused blank told =
     let full = not (left_fails d shape a b e h told (refused told)) in
     (left_bytes d shape a b h told).begun (blank full.0 full.1 told)
@@ -131,7 +134,10 @@ module _ (d e : View) (shape : Shape) (parts : IsParts shape.parts) (room : HasR
       by : (t : Bool) → d.told ≡ t → IsSpent (RestsAs shape false e) a b boot decisions
       by true told = there told (left_bytes d shape a b h told).stands
       by false mute = untold mute tells.1
-  fails_known answer (Halted halt) same kept refused tells = tt
+  fails_known answer opening.Failed same kept refused tells = tt
+  fails_known answer opening.Stopped same kept refused tells = tt
+  fails_known answer (opening.Full dev) same kept refused tells = tt
+  fails_known answer opening.Memory same kept refused tells = tt
 
 pub never : (b : Bool) (P : Type 0) → b ≡ false → (P → IsTrue b) → P → ⊥
 never b P not holds h = let both : IsTrue b = holds h in cc (both, not)

@@ -19,8 +19,9 @@ use Rattle.salt_stands.specs.Stands as opening
 use Rattle.salt_stands.specs.Stands.{Opening, are_spent, found_with, is_same_kind, is_same_shape, judged, logs_of, nothing_found, of_coordinator, of_parts, opening_of, parts_at, with_parts}
 use Rattle.salt_stands.specs.Words.{each_from, if_sound, or_fault}
 use Rattle.salt_storage.specs.Writing.{FindsNoMore}
-use Rattle.salt_storage.specs.declared.open.OpenErr.TheVariants.{Halted, NotSalt, NumbersSpent, OtherShape}
-use Rattle.salt_storage.specs.declared.open.OpenErr.{OpenErr}
+use Rattle.salt_storage.specs.OpenErr.TheVariants as open_err
+use Rattle.salt_storage.specs.OpenErr.TheVariants.{NotSalt, NumbersSpent, OtherShape}
+use Rattle.salt_storage.specs.OpenErr.{OpenErr}
 use Rattle.salt_place.specs.declared.placement.PlaceKind.TheVariants.{Bands, Remainder}
 use Rattle.salt_place.specs.declared.placement.PlaceKind.{PlaceKind}
 use Rattle.salt_place.specs.declared.placement.Shape.{Shape}
@@ -290,7 +291,10 @@ module _ (shape : Shape) (bytes image : ℕ → List ℕ) (alike : AreAlike shap
   same_refusal (NotSalt dev) (inr (inr older)) = inr (inr (same_older dev older))
   same_refusal (OtherShape kept asked) is = sym same_opening ∙ is
   same_refusal (NumbersSpent boot decisions) is = sym same_opening ∙ is
-  same_refusal (Halted e) is = is
+  same_refusal open_err.Failed is = is
+  same_refusal open_err.Stopped is = is
+  same_refusal (open_err.Full dev) is = is
+  same_refusal open_err.Memory is = is
 
   pub same_finds : FindsNoMore (RefusedAs shape bytes) (StandsFor shape bytes) (RefusedAs shape image) (StandsFor shape image)
   same_finds = record {
@@ -328,7 +332,10 @@ module _ (shape : Shape) (bytes image : ℕ → List ℕ) (made : IsMadeNew shap
   no_refusal (NotSalt dev) (inr (inr older)) = absurd (not_older dev older)
   no_refusal (OtherShape kept asked) is = absurd (cc (opens_new, is))
   no_refusal (NumbersSpent boot decisions) is = absurd (cc (opens_new, is))
-  no_refusal (Halted e) is = is
+  no_refusal open_err.Failed is = is
+  no_refusal open_err.Stopped is = is
+  no_refusal (open_err.Full dev) is = is
+  no_refusal open_err.Memory is = is
 
   judged_blank : judged reading bytes shape ≡ Ok (nothing_found shape)
   judged_blank = ap (λ p. if_sound (with_parts reading (logs_of bytes) bytes shape) (judge_coordinator reading p)) made.blank

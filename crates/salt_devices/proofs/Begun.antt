@@ -20,9 +20,9 @@ use Rattle.salt_storage.specs.Writing.{FindsNoMore, OfOpening}
 use Rattle.salt_storage.specs.declared.found.Found.{Found}
 use Rattle.salt_devices.specs.Remembering.{MayTell}
 use Rattle.salt_storage.specs.Answers.{IsLater}
-use Rattle.salt_storage.specs.declared.halt.Halt.TheVariants.{Stopped}
-use Rattle.salt_storage.specs.declared.open.OpenErr.TheVariants.{Halted, NotSalt, NumbersSpent, OtherShape}
-use Rattle.salt_storage.specs.declared.open.OpenErr.{OpenErr}
+use Rattle.salt_storage.specs.OpenErr.TheVariants as opening
+use Rattle.salt_storage.specs.OpenErr.TheVariants.{NotSalt, NumbersSpent, OtherShape}
+use Rattle.salt_storage.specs.OpenErr.{OpenErr}
 use Rattle.salt_place.specs.declared.placement.Shape.{Shape}
 use Rattle.std.proofs.Common.{Bool, IsTrue, List, Some, false, inl, inr, refl, subst, sym, true, ℕ, ◌≡◌, ◌≢◌, ◌⊎◌, ◌∙◌}
 
@@ -90,14 +90,14 @@ module _ (d e : View) (shape : Shape) (x : Store) (found : Found) (o : OpensAs d
 -- BROKEN OFF by a stop, or otherwise
 
 abbrev pub IsPending : Pending → OpenErr → Type 0
-IsPending p err = ((p ≡ Opening) × (err ≡ Halted Stopped)) ⊎ ((p ≡ Nothing) × (err ≢ Halted Stopped))
+IsPending p err = ((p ≡ Opening) × (err ≡ opening.Stopped)) ⊎ ((p ≡ Nothing) × (err ≢ opening.Stopped))
 
-pub tried_behind : (p : Pending) (err : OpenErr) → IsPending p err → err ≡ Halted Stopped → p ≡ Opening
+pub tried_behind : (p : Pending) (err : OpenErr) → IsPending p err → err ≡ opening.Stopped → p ≡ Opening
 tried_behind p err (inl h) is = h.0
 tried_behind p err (inr h) is = absurd (h.1 is)
 
 pub opens_behind : (d e : View) (shape : Shape) (p : Pending) (err : OpenErr) → SameShape d e → IsPending p err
-    → (err ≡ Halted Stopped → IsTrue d.told → (image : ℕ → List ℕ) → IsImage e image → StandsForSomething shape image) → CanOpen p false e shape
+    → (err ≡ opening.Stopped → IsTrue d.told → (image : ℕ → List ℕ) → IsImage e image → StandsForSomething shape image) → CanOpen p false e shape
 opens_behind d e shape p err same (inl h) stopped is told image comes = stopped h.1 (sym same.told ∙ told) image comes
 opens_behind d e shape p err same (inr h) stopped is told image comes = absurd (cc (h.0, is))
 
@@ -105,7 +105,10 @@ later_of : (a b : Kept) (err : OpenErr) → MayTell a b err → IsLater err
 later_of a b (NotSalt dev) h = h
 later_of a b (OtherShape kept asked) h = h
 later_of a b (NumbersSpent boot decisions) h = h.0
-later_of a b (Halted e) h = tt
+later_of a b opening.Failed h = tt
+later_of a b opening.Stopped h = tt
+later_of a b (opening.Full dev) h = tt
+later_of a b opening.Memory h = tt
 
 -- what stands for something is not refused
 pub not_refused : (d : View) (shape : Shape) (p : Pending) (err : OpenErr) → CanOpen p true d shape → p ≡ Opening → IsTrue d.told → RefusedAs shape d.bytes err → IsLater err

@@ -9,8 +9,9 @@ use Rattle.salt_stands.specs.CoordinatorLog.{CoordinatorLog}
 use Rattle.salt_stands.specs.Stands as opening
 use Rattle.salt_stands.specs.Stands.{are_spent, opening_of}
 use Rattle.salt_devices.specs.Remembering.{MayTell}
-use Rattle.salt_storage.specs.declared.open.OpenErr.TheVariants.{Halted, NotSalt, NumbersSpent, OtherShape}
-use Rattle.salt_storage.specs.declared.open.OpenErr.{OpenErr}
+use Rattle.salt_storage.specs.OpenErr.TheVariants as open_err
+use Rattle.salt_storage.specs.OpenErr.TheVariants.{NotSalt, NumbersSpent, OtherShape}
+use Rattle.salt_storage.specs.OpenErr.{OpenErr}
 use Rattle.salt_place.specs.declared.placement.Shape.{Shape}
 use Rattle.std.proofs.Common.{List, ap, arith, inl, inr, sym, ℕ, ◌<◌, ◌≡◌, ◌⊎◌, ◌∙◌}
 
@@ -46,4 +47,7 @@ stands_fails shape bytes a b e s = by e (judged_opens bytes shape s.found s.is s
           ap (λ n. are_spent n decisions) (sym same_boot) ∙ ap (are_spent s.found.kept.boot) (sym same_decisions) ∙ sp.spent,
           inl (sym same_boot ∙ ap (λ (k : Kept). k.boot) s.keeps, sym same_decisions ∙ ap (λ (k : Kept). k.decisions) s.keeps),
         )
-    by (Halted h) o is = tt
+    by open_err.Failed o is = tt
+    by open_err.Stopped o is = tt
+    by (open_err.Full dev) o is = tt
+    by open_err.Memory o is = tt

@@ -7,14 +7,11 @@ use Rattle.salt_commit.specs.Openings.{HasRoom, LeavesPages, OpeningFails, Opens
 use Rattle.salt_commit.specs.Prepares.{FullWhere}
 use Rattle.salt_commit.specs.Stores.{reading}
 use Rattle.salt_commit.specs.declared.store.Store.{Store}
-use Rattle.salt_decisions.specs.Errors.{disk_err_in}
 use Rattle.salt_decisions.specs.Kept.{IsKept}
 use Rattle.salt_decisions.specs.Opened.{IsPeeked}
-use Rattle.salt_decisions.specs.declared.error.OpenErr as decisions
-use Rattle.salt_decisions.specs.declared.error.OpenErr.TheVariants.{Failed, Full, Memory, NotSalt, NumbersSpent, OtherShape, Stopped}
+use Rattle.salt_storage.specs.OpenErr.TheVariants.{Failed, Full, Memory, NotSalt, NumbersSpent, OtherShape, Stopped}
 use Rattle.salt_decisions.specs.declared.kept.Kept as log
 use Rattle.salt_devices.proofs.Answered.{AreAlike, IsLike, IsNothing, IsOpened, counted_log, opened_as, opened_stands, stands_for_nothing}
-use Rattle.salt_devices.specs.Errors.{open_err_of}
 use Rattle.salt_stands.specs.Fitting.{kept_in}
 use Rattle.salt_devices.specs.Leaving.{StandsForSomething}
 use Rattle.salt_devices.specs.Opened.{HoldsFound, IsNewestWhere, IsOpen, IsUnread, OpensAs}
@@ -30,10 +27,8 @@ use Rattle.salt_stands.specs.Stands as opening
 use Rattle.salt_stands.specs.Stands.{judged, logs_of, nothing_found}
 use Rattle.salt_storage.specs.Answers.{open_disk_err_of}
 use Rattle.salt_storage.specs.declared.found.Found.{Found}
-use Rattle.salt_storage.specs.declared.halt.Halt.TheVariants as halt
-use Rattle.salt_storage.specs.declared.halt.Halt.TheVariants.{DeviceFull}
-use Rattle.salt_storage.specs.declared.open.OpenErr.TheVariants as storage
-use Rattle.salt_storage.specs.declared.open.OpenErr.{OpenErr}
+use Rattle.salt_storage.specs.OpenErr.TheVariants as storage
+use Rattle.salt_storage.specs.OpenErr.{OpenErr}
 use Rattle.salt_place.specs.Placement.{IsParts}
 use Rattle.salt_place.specs.declared.placement.Shape.{Shape}
 use Rattle.std.proofs.Common.{IsTrue, List, None, Ok, Option, ap, arith, inl, inr, refl, subst, sym, ℕ, ◌*◌, ◌+◌, ◌<◌, ◌≡◌, ◌⊎◌, ◌∙◌}
@@ -41,17 +36,7 @@ use Rattle.std.specs.Prelude.{Err, IfErr, Result}
 
 -- ANSWERS
 
--- what the store's opening answered goes on
-pub disk_answer : (e : decisions.OpenErr) → open_disk_err_of (open_err_of e) ≡ disk_err_in e
-disk_answer (NotSalt dev) = refl
-disk_answer (OtherShape kept asked) = refl
-disk_answer (NumbersSpent boot numbers) = refl
-disk_answer Failed = refl
-disk_answer Stopped = refl
-disk_answer (Full dev) = refl
-disk_answer Memory = refl
-
-pub refused_as : (shape : Shape) (bytes : ℕ → List ℕ) (e : decisions.OpenErr) → OpeningFails shape bytes e → RefusedAs shape bytes (open_err_of e)
+pub refused_as : (shape : Shape) (bytes : ℕ → List ℕ) (e : OpenErr) → OpeningFails shape bytes e → RefusedAs shape bytes e
 refused_as shape bytes (NotSalt dev) (inl is) = inl is
 refused_as shape bytes (NotSalt dev) (inr pages) = inr (inl pages)
 refused_as shape bytes (OtherShape kept asked) h = h
@@ -62,7 +47,7 @@ refused_as shape bytes (Full dev) h = tt
 refused_as shape bytes Memory h = tt
 
 -- a full device
-pub full_is : (P : ℕ → Type 0) (e : decisions.OpenErr) (dev : ℕ) → open_err_of e ≡ storage.Halted (DeviceFull dev) → FullWhere P (disk_err_in e) → P dev
+pub full_is : (P : ℕ → Type 0) (e : OpenErr) (dev : ℕ) → e ≡ storage.Full dev → FullWhere P (open_disk_err_of e) → P dev
 full_is P (NotSalt k) dev is h = absurd (cc is)
 full_is P (OtherShape kept asked) dev is h = absurd (cc is)
 full_is P (NumbersSpent boot numbers) dev is h = absurd (cc is)
@@ -72,7 +57,7 @@ full_is P (Full k) dev is h = let same : k ≡ dev = cc is in subst P same h
 full_is P Memory dev is h = absurd (cc is)
 
 -- a stop, which only a write meets
-pub stopped_blank : (shape : Shape) (bytes : ℕ → List ℕ) (e : decisions.OpenErr) → open_err_of e ≡ storage.Halted halt.Stopped → OpeningFails shape bytes e → coordinator_pair (logs_of bytes) ≡ BothBlank
+pub stopped_blank : (shape : Shape) (bytes : ℕ → List ℕ) (e : OpenErr) → e ≡ storage.Stopped → OpeningFails shape bytes e → coordinator_pair (logs_of bytes) ≡ BothBlank
 stopped_blank shape bytes (NotSalt k) is h = absurd (cc is)
 stopped_blank shape bytes (OtherShape kept asked) is h = absurd (cc is)
 stopped_blank shape bytes (NumbersSpent boot numbers) is h = absurd (cc is)
@@ -93,7 +78,7 @@ unread_refused shape found bytes kept p (inr other) =
     inr (inr (record { which = p.which; log = p.log; counts = p.counts; older = omega (arith, known, other); device = p.device }))
 
 pub peeked_refused : (shape found : Shape) (bytes : ℕ → List ℕ) (kept : log.Kept) (p : IsPeeked found kept (coordinator_pair (logs_of bytes))) (e : OpenErr)
-    → (e ≡ storage.Halted halt.Memory) ⊎ ((e ≡ storage.NotSalt kept.device) × ((l : CoordinatorLog) → IsKept kept l → IsUnread l)) → RefusedAs shape bytes e
+    → (e ≡ storage.Memory) ⊎ ((e ≡ storage.NotSalt kept.device) × ((l : CoordinatorLog) → IsKept kept l → IsUnread l)) → RefusedAs shape bytes e
 peeked_refused shape found bytes kept p e (inl memory) = subst (RefusedAs shape bytes) (sym memory) tt
 peeked_refused shape found bytes kept p e (inr unread) = subst (RefusedAs shape bytes) (sym unread.0) (unread_refused shape found bytes kept p (unread.1 p.log p.keeps))
 

@@ -1,4 +1,3 @@
-pub mod Errors
 pub mod Filling
 pub mod Holding
 pub mod Leaving

@@ -9,8 +9,8 @@ use Rattle.salt_stands.specs.Coordinator.{coordinator_pair, device_of}
 use Rattle.salt_stands.specs.CoordinatorLog.{CoordinatorLog}
 use Rattle.salt_stands.specs.Stands as opening
 use Rattle.salt_stands.specs.Stands.{logs_of, opening_of}
-use Rattle.salt_storage.specs.declared.open.OpenErr.TheVariants.{Halted, NotSalt, NumbersSpent, OtherShape}
-use Rattle.salt_storage.specs.declared.open.OpenErr.{OpenErr}
+use Rattle.salt_storage.specs.OpenErr.TheVariants.{NotSalt, NumbersSpent, OtherShape}
+use Rattle.salt_storage.specs.OpenErr.{OpenErr}
 use Rattle.salt_place.specs.declared.placement.Shape.{Shape}
 use Rattle.std.specs.Prelude.{Bool, IsTrue, List, ℕ, ⊤, ◌<◌, ◌≡◌, ◌⊎◌}
 
@@ -26,7 +26,7 @@ abbrev pub RefusedAs : Shape → (ℕ → List ℕ) → OpenErr → Type 0
 RefusedAs shape bytes (NotSalt dev) = (opening_of reading bytes shape ≡ opening.NotSalt dev) ⊎ (LeavesPages shape bytes dev ⊎ IsOlder bytes dev)
 RefusedAs shape bytes (OtherShape kept asked) = opening_of reading bytes shape ≡ opening.OtherShape kept asked
 RefusedAs shape bytes (NumbersSpent boot decisions) = opening_of reading bytes shape ≡ opening.NumbersSpent boot decisions
-RefusedAs shape bytes (Halted e) = ⊤
+RefusedAs shape bytes e = ⊤
 
 -- some of what it may come upon is so
 pub record ComesUpon (d : View) (started : Bool) (P : (ℕ → List ℕ) → Type 0) : Type 0 where

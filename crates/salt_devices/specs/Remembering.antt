@@ -12,8 +12,8 @@ use Rattle.salt_stands.specs.Stands.{are_spent}
 use Rattle.salt_stands.specs.Tables.{joined}
 use Rattle.salt_storage.specs.Storing.{IsSoundKept, booted, decided, defined}
 use Rattle.salt_storage.specs.declared.found.Numbers.{Numbers}
-use Rattle.salt_storage.specs.declared.open.OpenErr.TheVariants.{Halted, NotSalt, NumbersSpent, OtherShape}
-use Rattle.salt_storage.specs.declared.open.OpenErr.{OpenErr}
+use Rattle.salt_storage.specs.OpenErr.TheVariants.{NotSalt, NumbersSpent, OtherShape}
+use Rattle.salt_storage.specs.OpenErr.{OpenErr}
 use Rattle.salt_values.specs.declared.change.Change.{Change}
 use Rattle.salt_values.specs.declared.cont.Cont.{Cont}
 use Rattle.salt_place.specs.declared.placement.Shape.{Shape}
@@ -61,7 +61,7 @@ MayTell a b (NotSalt dev) = ⊥
 MayTell a b (OtherShape kept asked) = ⊥
 MayTell a b (NumbersSpent boot decisions) = (are_spent boot decisions ≡ true) ×
     (((boot ≡ a.boot) × (decisions ≡ a.decisions)) ⊎ ((boot ≡ b.boot) × (decisions ≡ b.decisions)))
-MayTell a b (Halted e) = ⊤
+MayTell a b e = ⊤
 
 -- WHAT IS FOUND again
 

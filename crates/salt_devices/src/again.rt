@@ -1,5 +1,6 @@
 //! Devices are opened anew, behind a fall.
 
+ghost use Rattle.salt_storage.specs.OpenErr.{OpenErr};
 ghost use Rattle.salt_commit.specs.Messages.{messages_of};
 ghost use Rattle.salt_commit.specs.Openings.{HasRoom};
 ghost use Rattle.salt_commit.specs.Stores.{shape_of_store};
@@ -13,8 +14,6 @@ ghost use Rattle.salt_model.specs.Kept.{Kept};
 ghost use Rattle.salt_stands.specs.Stands.{are_spent};
 ghost use Rattle.salt_storage.specs.Answers.{MayFail, open_disk_err};
 ghost use Rattle.salt_storage.specs.Staying.{StaysWithin};
-ghost use Rattle.salt_storage.specs.declared.halt.Halt.TheVariants.{DeviceFull};
-ghost use Rattle.salt_storage.specs.declared.open.OpenErr.TheVariants.{Halted};
 ghost use Rattle.salt_place.specs.Placement.{GivesPlaceOf, IsParts, TakesEachKey};
 ghost use Rattle.salt_place.specs.declared.placement.Shape.{Shape};
 ghost use Rattle.std.specs.Prelude.{Bool, Err, IfErr, IfOk, IsTrue, None, OnErr, Some, false, true, ℕ, ◌+◌, ◌↔◌, ◌≡◌, ◌⊎◌};
@@ -26,7 +25,7 @@ use salt_commit::Store;
 use salt_decisions::are_spent;
 use salt_disk::Disks;
 use salt_place::{PlaceKind, Placement, Shape};
-use salt_storage::{Halt, Numbers, OpenErr};
+use salt_storage::{Numbers, OpenErr};
 use salt_values::{Changes, Key};
 use std::alloc::{AllocError, Global};
 
@@ -87,14 +86,12 @@ fn is_remembered<F: Fn(PlaceKind, &Key, u32) -> u32>(
 /// would pass a limit.
 fn may_answer(e: OpenErr, numbers: Numbers, pending: &Pending) -> bool
     ensures may { IsTrue result → (a b : Kept) → AreNumbersOf numbers a → MayFollow pending.now a b → MayTell a b e }
-    ensures not { result ≡ false → (a b : Kept) → AreNumbersOf numbers a → MayFollow pending.now a b → MayTell a b e → (dev : ℕ) × (e ≡ Halted (DeviceFull dev)) }
-    ensures full { (dev : ℕ) → IsTrue result → e ≡ Halted (DeviceFull dev) → ⊥ }
+    ensures not { result ≡ false → (a b : Kept) → AreNumbersOf numbers a → MayFollow pending.now a b → MayTell a b e → (dev : ℕ) × (e ≡ OpenErr.Full dev) }
+    ensures full { (dev : ℕ) → IsTrue result → e ≡ OpenErr.Full dev → ⊥ }
 {
     match e {
-        OpenErr::NotSalt(_) | OpenErr::OtherShape { .. } | OpenErr::Halted(Halt::DeviceFull(_)) => {
-            false
-        }
-        OpenErr::Halted(Halt::Stopped | Halt::DiskFault | Halt::Memory) => true,
+        OpenErr::NotSalt(_) | OpenErr::OtherShape { .. } | OpenErr::Full(_) => { false }
+        OpenErr::Stopped | OpenErr::Failed | OpenErr::Memory => true,
         OpenErr::NumbersSpent { boot, decisions } => {
             let found = Numbers { boot, decisions };
             are_spent(boot, decisions) && (found == numbers || follow(numbers, pending, found))
@@ -125,12 +122,12 @@ pub fn open_again<D: Disks, F: Fn(PlaceKind, &Key, u32) -> u32>(
     ensures numbers { IfOk result (λ made. are_spent made.1.boot made.1.decisions ≡ false) }
     ensures leaves { OnErr result ((a b : Kept) → LeavesAs true (D.view disks.old) shape a b → LeavesEither (D.view disks.new) shape a b) }
     ensures known { IfErr result (λ e. (a b : Kept) → LeavesAs true (D.view disks.old) shape a b → Remembers shape (Some before.now) numbers pending.now a b → MayFail (RestsAs shape false (D.view disks.new)) a b e) }
-    ensures full { (dev : ℕ) → result ≡ Err (Halted (DeviceFull dev)) → ⊥ }
+    ensures full { (dev : ℕ) → result ≡ Err (OpenErr.Full dev) → ⊥ }
     ensures within { (over : Bool) → StaysWithin (setup_in shape over) (setup_in shape over) (D.view disks.old) (D.view disks.new) }
     ensures cause { HasCause (D.view disks.old) (D.view disks.new) (open_disk_err result) }
 {
     if pending.is_lost() {
-        return Err(OpenErr::Halted(Halt::Memory));
+        return Err(OpenErr::Memory);
     }
     match open_devices(alloc, disks, place, shape) {
         Ok((store, found)) => {

@@ -6,7 +6,6 @@ ghost use Rattle.salt_commit.specs.Openings.{HasRoom, StorePassesLimit};
 ghost use Rattle.salt_commit.specs.Stores.{shape_of_store};
 ghost use Rattle.salt_stands.specs.LogDevices.{IsStoreLog};
 ghost use Rattle.salt_decisions.specs.Kept.{IsKept};
-ghost use Rattle.salt_devices.specs.Errors.{open_err_of};
 ghost use Rattle.salt_devices.specs.Holding.{setup_in};
 ghost use Rattle.salt_devices.specs.Leaving.{CanOpen, StandsForSomething, StandsFor, StandsStill};
 ghost use Rattle.salt_devices.specs.Opened.{HoldsFound, IsNewest, IsNewestOf, IsNewestWhere, IsOpen, IsUnread, OpensAs};
@@ -21,9 +20,9 @@ ghost use Rattle.salt_stands.specs.Stands.{are_spent, logs_of};
 ghost use Rattle.salt_storage.specs.Answers.{IsLater, IsRefusal, WritesNothing, open_disk_err, open_disk_err_of};
 ghost use Rattle.salt_storage.specs.Staying.{StaysWithin};
 ghost use Rattle.salt_storage.specs.Writing.{FindsNoMore};
-ghost use Rattle.salt_storage.specs.declared.halt.Halt.TheVariants.{DeviceFull, DiskFault, Memory, Stopped};
-ghost use Rattle.salt_storage.specs.declared.open.OpenErr.TheVariants.{Halted, NotSalt};
-ghost use Rattle.salt_storage.specs.declared.open.OpenErr.{OpenErr};
+ghost use Rattle.salt_storage.specs.declared.halt.Halt.TheVariants.{Memory, Stopped};
+ghost use Rattle.salt_storage.specs.OpenErr.TheVariants.{NotSalt};
+ghost use Rattle.salt_storage.specs.OpenErr.{OpenErr};
 ghost use Rattle.salt_place.specs.Placement.{GivesPlaceOf, IsParts, TakesEachKey};
 ghost use Rattle.salt_place.specs.declared.placement.Shape.{Shape};
 ghost use Rattle.std.specs.Prelude.{Bool, Err, IfErr, IfOk, IfSome, IsTrue, List, None, Ok, OnErr, false, true, ℕ, ◌<◌, ◌≡◌, ◌⊎◌};
@@ -31,41 +30,26 @@ ghost use Rattle.std.specs.Prelude.{Bool, Err, IfErr, IfOk, IfSome, IsTrue, List
 use crate::pending::Pending;
 use law_definitions::definitions_are_read;
 use law_types::spelled_tables_have_keys;
-use salt_commit::{Kept, OpenErr as StoreOpenErr, Store, open_store, peek};
+use salt_commit::{Kept, Store, open_store, peek};
 use salt_decisions::{FORMAT, are_spent};
 use salt_disk::Disks;
 use salt_found::{RecoverErr, Recovered, recover};
 use salt_gatelog::rejected;
 use salt_place::{PlaceKind, Placement, Shape};
 use salt_schema::Schema;
-use salt_storage::{Found, Halt, OpenErr};
+use salt_storage::{Found, OpenErr};
 use salt_values::Key;
 use std::alloc::{AllocError, Global};
-
-/// Why a store was not opened.
-fn open_err_of(e: StoreOpenErr) -> OpenErr
-    ensures { result ≡ open_err_of e }
-{
-    match e {
-        StoreOpenErr::NotSalt(dev) => OpenErr::NotSalt(dev),
-        StoreOpenErr::OtherShape { kept, asked } => OpenErr::OtherShape { kept, asked },
-        StoreOpenErr::NumbersSpent { boot, decisions } => OpenErr::NumbersSpent { boot, decisions },
-        StoreOpenErr::Failed => OpenErr::Halted(Halt::DiskFault),
-        StoreOpenErr::Stopped => OpenErr::Halted(Halt::Stopped),
-        StoreOpenErr::Full(dev) => OpenErr::Halted(Halt::DeviceFull(dev)),
-        StoreOpenErr::Memory => OpenErr::Halted(Halt::Memory),
-    }
-}
 
 /// The disks gave what was not written: they have failed.
 pub fn fault<D: Disks>(disks: &mut D) -> OpenErr
     requires { (D.view disks.old).told ≡ false }
-    ensures fault { result ≡ Halted DiskFault }
+    ensures fault { result ≡ OpenErr.Failed }
     ensures kept { KeepsAll (D.view disks.old) (D.view disks.new) (open_disk_err_of result) }
     ensures cause { HasCause (D.view disks.old) (D.view disks.new) (open_disk_err_of result) }
 {
     let _failed = rejected(disks);
-    OpenErr::Halted(Halt::DiskFault)
+    OpenErr::Failed
 }
 
 /// What the log stands for that keeps this, where it is in the newest format; nothing where it is not, or stands for nothing.
@@ -87,7 +71,7 @@ fn newest(alloc: Global, kept: &Kept) -> Result<Option<Recovered>, AllocError>
 /// older format, which is not read yet.
 fn schema_kept(alloc: Global, kept: &Kept) -> Result<Schema, OpenErr>
     ensures ok { IfOk result (λ schema. (log : CoordinatorLog) → IsKept kept.now log → IsNewestOf schema log) }
-    ensures err { IfErr result (λ e. (e ≡ Halted Memory) ⊎ ((e ≡ NotSalt kept.now.device) × ((log : CoordinatorLog) → IsKept kept.now log → IsUnread log))) }
+    ensures err { IfErr result (λ e. (e ≡ OpenErr.Memory) ⊎ ((e ≡ NotSalt kept.now.device) × ((log : CoordinatorLog) → IsKept kept.now log → IsUnread log))) }
 {
     match newest(alloc, kept) {
         Ok(Some(found)) => Ok(found.schema),
@@ -103,15 +87,15 @@ fn schema_of_log<D: Disks>(alloc: Global, disks: &mut D) -> Result<Schema, OpenE
     requires settled_b { IsSettled (D.view disks.old) 1 }
     ensures schema { IsTrue (D.view disks.old).told → IfOk result (λ schema. IsNewestWhere schema (coordinator_pair (logs_of (D.view disks.old).bytes))) }
     ensures err { IsTrue (D.view disks.old).told → IfErr result (λ e. (shape : Shape) → RefusedAs shape (D.view disks.old).bytes e) }
-    ensures full { (dev : ℕ) → result ≡ Err (Halted (DeviceFull dev)) → IsTrue (D.view disks.old).told → ⊥ }
-    ensures stopped { result ≡ Err (Halted Stopped) → IsTrue (D.view disks.old).told → ⊥ }
+    ensures full { (dev : ℕ) → result ≡ Err (OpenErr.Full dev) → IsTrue (D.view disks.old).told → ⊥ }
+    ensures stopped { result ≡ Err OpenErr.Stopped → IsTrue (D.view disks.old).told → ⊥ }
     ensures kept { KeepsAll (D.view disks.old) (D.view disks.new) (open_disk_err result) }
     ensures cause { HasCause (D.view disks.old) (D.view disks.new) (open_disk_err result) }
 {
     match peek(alloc, disks) {
         Ok(None) => Ok(Schema::new(alloc)),
         Ok(Some((_shape, kept))) => schema_kept(alloc, &kept),
-        Err(e) => Err(open_err_of(e.into())),
+        Err(e) => Err(e.into()),
     }
 }
 
@@ -178,13 +162,13 @@ pub fn open_devices<D: Disks, F: Fn(PlaceKind, &Key, u32) -> u32>(
         → FindsNoMore (RefusedAs shape (D.view disks.old).bytes) (StandsFor shape (D.view disks.old).bytes) (RefusedAs shape image) (StandsFor shape image)) }
     ensures rests { OnErr result (IsTrue (D.view disks.old).told → (image : ℕ → List ℕ) → IsImage (D.view disks.new) image → StandsStill shape (D.view disks.old).bytes image) }
 
-    ensures stopped { result ≡ Err (Halted Stopped) → IsTrue (D.view disks.old).told → (image : ℕ → List ℕ) → IsImage (D.view disks.new) image → StandsForSomething shape image }
+    ensures stopped { result ≡ Err OpenErr.Stopped → IsTrue (D.view disks.old).told → (image : ℕ → List ℕ) → IsImage (D.view disks.new) image → StandsForSomething shape image }
 
     ensures unwritten { (refusal : OpenErr) → IsRefusal refusal → RefusedAs shape (D.view disks.old).bytes refusal → IsTrue (D.view disks.old).told
         → WritesNothing (D.view disks.old) (D.view disks.new) (open_disk_err result) }
 
-    ensures blank { (dev : ℕ) → result ≡ Err (Halted (DeviceFull dev)) → IsTrue (D.view disks.old).told → coordinator_pair (logs_of (D.view disks.old).bytes) ≡ BothBlank }
-    ensures full { (dev : ℕ) → result ≡ Err (Halted (DeviceFull dev)) → IsTrue (D.view disks.old).told → StorePassesLimit (D.view disks.new) shape dev }
+    ensures blank { (dev : ℕ) → result ≡ Err (OpenErr.Full dev) → IsTrue (D.view disks.old).told → coordinator_pair (logs_of (D.view disks.old).bytes) ≡ BothBlank }
+    ensures full { (dev : ℕ) → result ≡ Err (OpenErr.Full dev) → IsTrue (D.view disks.old).told → StorePassesLimit (D.view disks.new) shape dev }
     ensures others { KeepsBut (IsStoreLog shape.parts) (D.view disks.old) (D.view disks.new) (open_disk_err result) }
     ensures cause { HasCause (D.view disks.old) (D.view disks.new) (open_disk_err result) }
 {
@@ -195,7 +179,7 @@ pub fn open_devices<D: Disks, F: Fn(PlaceKind, &Key, u32) -> u32>(
             Ok(None) => Err(fault(disks)),
             Err(e) => Err(e.into()),
         },
-        Err(e) => Err(open_err_of(e)),
+        Err(e) => Err(e),
     }
 }
 
@@ -207,7 +191,7 @@ fn refuses(e: OpenErr) -> bool
     match e {
         OpenErr::NotSalt(_) | OpenErr::OtherShape { .. } => true,
         OpenErr::NumbersSpent { boot, decisions } => !are_spent(boot, decisions),
-        OpenErr::Halted(_) => false,
+        OpenErr::Failed | OpenErr::Stopped | OpenErr::Full(_) | OpenErr::Memory => false,
     }
 }
 
@@ -233,11 +217,11 @@ pub fn open_first<D: Disks, F: Fn(PlaceKind, &Key, u32) -> u32>(
     ensures still { OnErr result (IsTrue (D.view disks.old).told → (image : ℕ → List ℕ) → IsImage (D.view disks.new) image
         → FindsNoMore (RefusedAs shape (D.view disks.old).bytes) (StandsFor shape (D.view disks.old).bytes) (RefusedAs shape image) (StandsFor shape image)) }
     ensures rests { OnErr result (IsTrue (D.view disks.old).told → (image : ℕ → List ℕ) → IsImage (D.view disks.new) image → StandsStill shape (D.view disks.old).bytes image) }
-    ensures stopped { result ≡ Err (Halted Stopped) → IsTrue (D.view disks.old).told → (image : ℕ → List ℕ) → IsImage (D.view disks.new) image → StandsForSomething shape image }
+    ensures stopped { result ≡ Err OpenErr.Stopped → IsTrue (D.view disks.old).told → (image : ℕ → List ℕ) → IsImage (D.view disks.new) image → StandsForSomething shape image }
     ensures later { pending.now ≡ Opening → IfErr result IsLater }
     ensures unwritten { (refusal : OpenErr) → IsRefusal refusal → RefusedAs shape (D.view disks.old).bytes refusal → IsTrue (D.view disks.old).told
         → WritesNothing (D.view disks.old) (D.view disks.new) (open_disk_err result) }
-    ensures full { (dev : ℕ) → result ≡ Err (Halted (DeviceFull dev)) → IsTrue (D.view disks.old).told → StorePassesLimit (D.view disks.new) shape dev }
+    ensures full { (dev : ℕ) → result ≡ Err (OpenErr.Full dev) → IsTrue (D.view disks.old).told → StorePassesLimit (D.view disks.new) shape dev }
     ensures within { (over : Bool) → StaysWithin (setup_in shape over) (setup_in shape over) (D.view disks.old) (D.view disks.new) }
     ensures cause { HasCause (D.view disks.old) (D.view disks.new) (open_disk_err result) }
 {

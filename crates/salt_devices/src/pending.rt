@@ -1,8 +1,8 @@
 //! What was being written when a call was broken off.
 
+ghost use Rattle.salt_storage.specs.OpenErr.{OpenErr};
 ghost use Rattle.salt_devices.specs.declared.pending.Pending.TheVariants.{Decision, Lost, Nothing, Opening};
 ghost use Rattle.salt_storage.specs.declared.halt.Halt.TheVariants.{Memory, Stopped};
-ghost use Rattle.salt_storage.specs.declared.open.OpenErr.TheVariants.{Halted};
 ghost use Rattle.std.specs.Prelude.{IsTrue, ◌↔◌, ◌≡◌, ◌≢◌, ◌⊎◌};
 
 use salt_storage::{Halt, OpenErr};
@@ -41,10 +41,10 @@ impl Pending {
 
 /// What is pending behind this error of a first opening.
 pub fn pending_opening(e: OpenErr) -> Pending
-    ensures { ((result ≡ Opening) × (e ≡ Halted Stopped)) ⊎ ((result ≡ Nothing) × (e ≢ Halted Stopped)) }
+    ensures { ((result ≡ Opening) × (e ≡ OpenErr.Stopped)) ⊎ ((result ≡ Nothing) × (e ≢ OpenErr.Stopped)) }
 {
     match e {
-        OpenErr::Halted(Halt::Stopped) => Pending::Opening,
+        OpenErr::Stopped => Pending::Opening,
         _ => Pending::Nothing,
     }
 }

@@ -1,4 +1,5 @@
 -- A run that fell before anything was found on its devices begins over what is found then.
+use Rattle.salt_storage.specs.OpenErr.TheVariants as opening
 use Rattle.law_states.specs.Laws.{IsSound}
 use Rattle.law_states.specs.Points.{KeepsPoint, Point}
 use Rattle.salt_model.specs.Ends.{flight_told}
@@ -24,9 +25,7 @@ use Rattle.salt_storage.specs.declared.found.Found.{Found}
 use Rattle.salt_disk.specs.Disks.{View}
 use Rattle.salt_storage.specs.Answers.{IsLater, IsRefusal}
 use Rattle.salt_storage.specs.Writing.{FindsNoMore, OfOpening, ToWrite}
-use Rattle.salt_storage.specs.declared.halt.Halt.TheVariants.{DeviceFull, Memory}
-use Rattle.salt_storage.specs.declared.open.OpenErr.TheVariants.{Halted}
-use Rattle.salt_storage.specs.declared.open.OpenErr.{OpenErr}
+use Rattle.salt_storage.specs.OpenErr.{OpenErr}
 use Rattle.law_types.specs.Played.{HasKey}
 use Rattle.std.proofs.Common.{ap, arith, inl, inr, subst, sym, ◌∙◌}
 use Rattle.std.specs.Prelude.{Bool, IsTrue, List, None, Ok, Option, Result, Some, [], false, if◌then◌else◌, refl, ℕ, ◌+◌, ◌++◌, ◌∷◌, ◌≡◌, ◌≤◌, ◌⊎◌, suc, zero}
@@ -134,11 +133,11 @@ first-before b0 b1 holds r0 r1 x g f =
     record { kept = f.kept; is = f.is; found = g.finds_no_more f.kept f.found; holding = f.holding; sound = f.sound; unspent = f.unspent }
 
 pub fails-to-find : (r0 r1 r2 : OpenErr → Type 0) (b0 b1 b2 : Kept → Type 0) (fills : ToWrite → ℕ → Type 0) (e : OpenErr) (story now : List Event) → now ≡ story → FindsNoMore r0 b0 r1 b1 →
-    FindsNoMore r1 b1 r2 b2 → r1 e ⊎ (e ≡ Halted Memory) → (story ≡ []) ⊎ IsLater e → ((dev : ℕ) → e ≡ Halted (DeviceFull dev) → fills OfOpening dev) → FailsToFind r0 b0 r2 b2 fills e now
+    FindsNoMore r1 b1 r2 b2 → r1 e ⊎ (e ≡ opening.Memory) → (story ≡ []) ⊎ IsLater e → ((dev : ℕ) → e ≡ opening.Full dev → fills OfOpening dev) → FailsToFind r0 b0 r2 b2 fills e now
 fails-to-find r0 r1 r2 b0 b1 b2 fills e story now same g h refused empty full =
     record { refused = by refused; empty = untold empty; full = full; less = no-more-behind r0 r1 r2 b0 b1 b2 g h }
   where
-    by : r1 e ⊎ (e ≡ Halted Memory) → r0 e ⊎ (e ≡ Halted Memory)
+    by : r1 e ⊎ (e ≡ opening.Memory) → r0 e ⊎ (e ≡ opening.Memory)
     by (inl r) = inl (g.refuses_no_more e r)
     by (inr m) = inr m
 

@@ -13,6 +13,9 @@ use Rattle.salt_model.specs.declared.events.Why.TheVariants as why
 use Rattle.salt_model.specs.declared.events.Why.{Why}
 use Rattle.salt_driver.proofs.Advancing.{append-both}
 use Rattle.salt_driver.specs.Counting.{CountsFall, CountsFaults, CountsMore, CountsOpening, CountsSoFar, CountsStops, armed_at, armed_in, faulted_in, faults_told, stopped_in, stops_armed, stops_told}
+use Rattle.salt_storage.specs.Answers.{disk_err_of, halted_by, open_disk_err_of}
+use Rattle.salt_storage.specs.declared.halt.Halt.TheVariants as halting
+use Rattle.salt_storage.specs.declared.halt.Halt.{Halt}
 use Rattle.std.proofs.Common.{ap, append-nil, append_assoc, arith, inl, inr, subst, sym, ◌∙◌}
 use Rattle.std.specs.Prelude.{List, None, Option, Some, [], false, length, refl, ℕ, ◌+◌, ◌++◌, ◌<◌, ◌∷◌, ◌≡◌, ◌≤◌, ◌⊎◌}
 
@@ -228,6 +231,13 @@ opening-untold old new answer story told h same = record {
   most = omega arith;
   counts = h;
 }
+
+-- where a line would halt, an opening has ended by the same answer
+pub opening-halted : (old new : View) (halt : Halt) (story told : List Event) → CountsOpening old new (Some (disk_err_of halt)) story told → CountsOpening old new (open_disk_err_of (halted_by halt)) story told
+opening-halted old new halting.Stopped story told h = h
+opening-halted old new halting.DiskFault story told h = h
+opening-halted old new (halting.DeviceFull dev) story told h = h
+opening-halted old new halting.Memory story told h = h
 
 pub opening-said : (old new : View) (answer : Option DiskErr) (story told : List Event) (e : Event) → CountsStops old new answer [] 0 → stops_armed Nothing e ≡ [] → stops_told e ≡ 0 → faults_told e ≡ 0 →
     told ≡ story ++ e ∷ [] → CountsOpening old new answer story told

@@ -1,4 +1,6 @@
 -- A run that was broken off in an opening falls again, and can be opened there.
+use Rattle.salt_storage.proofs.Halted.{same_halt}
+use Rattle.salt_storage.specs.OpenErr.TheVariants as opening
 use Rattle.law_states.proofs.PointsFall.{falls-point}
 use Rattle.law_states.proofs.PointsGoOn.{no-more}
 use Rattle.law_states.specs.Laws.{IsSound}
@@ -22,13 +24,12 @@ use Rattle.salt_driver.proofs.Segments.{sound-of}
 use Rattle.salt_driver.specs.Opening.{IsFallenFrom, halt_of}
 use Rattle.salt_driver.specs.Reopening.{BreaksOpening, EndsWithin, FallsAnew, NotBegun, Reopens, WithinOpening}
 use Rattle.salt_driver.specs.Serving.{Grows, Halts, IsDown, IsFitting}
-use Rattle.salt_storage.specs.Answers.{numbers_of}
+use Rattle.salt_storage.specs.Answers.{halted_by, numbers_of}
 use Rattle.salt_storage.specs.Writing.{ToWrite}
 use Rattle.salt_storage.specs.declared.found.Numbers.{Numbers}
 use Rattle.salt_storage.specs.declared.halt.Halt.TheVariants as halt
 use Rattle.salt_storage.specs.declared.halt.Halt.{Halt}
-use Rattle.salt_storage.specs.declared.open.OpenErr.TheVariants.{Halted}
-use Rattle.salt_storage.specs.declared.open.OpenErr.{OpenErr}
+use Rattle.salt_storage.specs.OpenErr.{OpenErr}
 use Rattle.std.proofs.Common.{ap, append-nil, arith, inl, inr, subst, sym, ◌∙◌}
 use Rattle.std.specs.Prelude.{Bool, List, None, Option, Some, [], false, if◌then◌else◌, refl, true, ℕ, ◌+◌, ◌++◌, ◌∷◌, ◌≡◌, ◌≤◌, ◌⊎◌}
 
@@ -76,23 +77,23 @@ down-behind why lies flies start told now trace q room begins tells fits k grows
     one-more true h = omega arith
     one-more false h = omega arith
 
-halted-so : (e : OpenErr) (h : Halt) → e ≡ Halted h → e ≡ Halted halt.Stopped → h ≡ halt.Stopped
-halted-so e h a b = cc
+halted-so : (e : OpenErr) (h : Halt) → e ≡ halted_by h → e ≡ opening.Stopped → h ≡ halt.Stopped
+halted-so e h a b = same_halt h halt.Stopped (sym a ∙ b)
 
 memory-is-no-device : (dev : ℕ) → halt.Memory ≡ halt.DeviceFull dev → ⊥
 memory-is-no-device dev h = cc
 
-memory-is-not-full : (dev : ℕ) → Halted halt.Memory ≡ Halted (halt.DeviceFull dev) → ⊥
+memory-is-not-full : (dev : ℕ) → opening.Memory ≡ opening.Full dev → ⊥
 memory-is-not-full dev h = cc
 
-not-memory : (e : OpenErr) → e ≡ Halted halt.Stopped → e ≡ Halted halt.Memory → ⊥
+not-memory : (e : OpenErr) → e ≡ opening.Stopped → e ≡ opening.Memory → ⊥
 not-memory e a b = cc
 
 no-memory : (h : Halt) → h ≡ halt.Stopped → h ≡ halt.Memory → ⊥
 no-memory h a b = cc
 
 module _ (lies : ℕ → Point → Type 0) (left : Option Numbers → ℕ → Point → Type 0) (again : ℕ → Point → Type 0) (fills : ToWrite → ℕ → Type 0) (flies known : Option Flight) (e : OpenErr) (start : Start) (trace : Trace) (story told now : List Event)
-    (stopped : e ≡ Halted halt.Stopped) (falls : (room : ℕ) (p q : Point) → lies room p → IsFallenFrom p q → again room q) (same : known ≡ flies)
+    (stopped : e ≡ opening.Stopped) (falls : (room : ℕ) (p q : Point) → lies room p → IsFallenFrom p q → again room q) (same : known ≡ flies)
     (grows : now ≡ told ++ Down Stopped ∷ []) where
   anew : (b : BreaksOpening lies left fills flies e start trace story told) → IsDown again known start now (b.after says Down Stopped) → FallsAnew again known start trace story now
   anew b down = record {
@@ -148,7 +149,7 @@ module _ (lies : ℕ → Point → Type 0) (left : Option Numbers → ℕ → Po
 
 -- where it was stopped it can be opened
 pub lies-somewhere : (lies : ℕ → Point → Type 0) (left : Option Numbers → ℕ → Point → Type 0) (fills : ToWrite → ℕ → Type 0) (flies : Option Flight) (e : OpenErr) (start : Start) (trace : Trace) (story told : List Event) →
-    e ≡ Halted halt.Stopped → BreaksOpening lies left fills flies e start trace story told → (room : ℕ) × ((p : Point) × lies room p)
+    e ≡ opening.Stopped → BreaksOpening lies left fills flies e start trace story told → (room : ℕ) × ((p : Point) × lies room p)
 lies-somewhere lies left fills flies e start trace story told stopped b = by b.stops
   where
     by : NotBegun lies left fills flies e b.after b.point ⊎ WithinOpening lies left fills flies e b.after b.point → (room : ℕ) × ((p : Point) × lies room p)
@@ -157,7 +158,7 @@ lies-somewhere lies left fills flies e start trace story told stopped b = by b.s
 
 -- for want of memory it does not even fall
 pub breaks-short : (lies : ℕ → Point → Type 0) (left : Option Numbers → ℕ → Point → Type 0) (fills : ToWrite → ℕ → Type 0) (flies : Option Flight) (e : OpenErr) (start : Start) (trace : Trace) (story told now : List Event) →
-    e ≡ Halted halt.Stopped → now ≡ told → BreaksOpening lies left fills flies e start trace story told → BreaksOpening lies left fills flies (Halted halt.Memory) start trace story now
+    e ≡ opening.Stopped → now ≡ told → BreaksOpening lies left fills flies e start trace story told → BreaksOpening lies left fills flies opening.Memory start trace story now
 breaks-short lies left fills flies e start trace story told now stopped is b = record {
   after = b.after;
   lines = b.lines;
@@ -176,7 +177,7 @@ breaks-short lies left fills flies e start trace story told now stopped is b = r
     flown h a (inr f) = f
 
     by : NotBegun lies left fills flies e b.after b.point ⊎ WithinOpening lies left fills flies e b.after b.point →
-        NotBegun lies left fills flies (Halted halt.Memory) b.after b.point ⊎ WithinOpening lies left fills flies (Halted halt.Memory) b.after b.point
+        NotBegun lies left fills flies opening.Memory b.after b.point ⊎ WithinOpening lies left fills flies opening.Memory b.after b.point
     by (inl n) = inl (record {
       fallen = n.fallen;
       room = n.room;
@@ -229,7 +230,7 @@ module _ (lies left : Point → Type 0) (fills : ToWrite → ℕ → Type 0) (fl
 
 -- for want of memory it does not fall
 pub halted-short : (lies : ℕ → Point → Type 0) (left : Option Numbers → ℕ → Point → Type 0) (fills filled : ToWrite → ℕ → Type 0) (flies : Option Flight) (why : Why) (start : Start) (trace : Trace) (story now : List Event) → now ≡ story →
-    Halts (lies 0) (left None 0) fills flies (halt_of why) start story trace → BreaksOpening lies left filled flies (Halted halt.Memory) start trace story now
+    Halts (lies 0) (left None 0) fills flies (halt_of why) start story trace → BreaksOpening lies left filled flies opening.Memory start trace story now
 halted-short lies left fills filled flies why start trace story now same h = record {
   after = trace;
   lines = refl;

@@ -29,13 +29,15 @@ use Rattle.salt_driver.specs.Reopening.{BreaksOpening, EndsWithin, Reopens}
 use Rattle.salt_driver.specs.Serving.{IsDown, IsFitting}
 use Rattle.salt_driver.specs.Along.{GoesAlong}
 use Rattle.salt_driver.specs.Standing.{BreaksAt, HaltsAt, IsInside, IsSoundPoint, OpensOn}
-use Rattle.salt_storage.specs.Answers.{IsLater, numbers_of}
+use Rattle.salt_storage.proofs.Halted.{halted_later, no_numbers, same_halt}
+use Rattle.salt_storage.specs.Answers.{IsLater, halted_by, numbers_of}
 use Rattle.salt_storage.specs.Writing.{OfBoot, ToWrite}
 use Rattle.salt_storage.specs.declared.found.Numbers.{Numbers}
-use Rattle.salt_storage.specs.declared.halt.Halt.TheVariants.{DeviceFull, Memory}
+use Rattle.salt_storage.specs.declared.halt.Halt.TheVariants.{DeviceFull, DiskFault, Memory, Stopped}
 use Rattle.salt_storage.specs.declared.halt.Halt.{Halt}
-use Rattle.salt_storage.specs.declared.open.OpenErr.TheVariants.{Halted, NotSalt, NumbersSpent, OtherShape}
-use Rattle.salt_storage.specs.declared.open.OpenErr.{OpenErr}
+use Rattle.salt_storage.specs.OpenErr.TheVariants as opening
+use Rattle.salt_storage.specs.OpenErr.TheVariants.{NotSalt, NumbersSpent, OtherShape}
+use Rattle.salt_storage.specs.OpenErr.{OpenErr}
 use Rattle.law_types.specs.Played.{HasKey}
 use Rattle.law_types.specs.Typed.{IsTyped}
 use Rattle.std.proofs.Common.{ap, arith, inl, inr, subst, sym, ◌∙◌}
@@ -116,10 +118,6 @@ opening-on e p q event opening m comes = by (ends_opening e) refl
     by true is = let none = end-rests e p q is m in cc
     by false is = ap (λ (s : UnitState). s.phase) m.0.after.units ∙ phase-stays e p.state.units m.1 is opening
 
--- what is told of the halt
-pub same-halt : (a b : Halt) → Halted a ≡ Halted b → a ≡ b
-same-halt a b h = cc
-
 module _ (lies : ℕ → Point → Type 0) (flies : Option Flight) (start : Start) (story : List Event) (trace : Trace) (d : IsDown lies flies start story trace) where
   -- the trace with moves of the opening
   abbrev behind : HasOpened d.room d.point → List TraceStep → Trace
@@ -179,9 +177,15 @@ module _ (lies : ℕ → Point → Type 0) (flies : Option Flight) (start : Star
 
   -- it breaks off: before it was begun
 
+  halted-fails : (room : ℕ) (p : Point) (halt : Halt) → MayFailAt room p (halted_by halt)
+  halted-fails room p Stopped = tt
+  halted-fails room p DiskFault = tt
+  halted-fails room p (DeviceFull dev) = tt
+  halted-fails room p Memory = tt
+
   pub opening-fails : (now : ℕ → Point → Type 0) (left : Option Numbers → ℕ → Point → Type 0) (fills : ToWrite → ℕ → Type 0) (flight : Option Flight) (halt : Halt) (told : List Event) → told ≡ story → flight ≡ flies →
       ((dev : ℕ) → halt ≡ DeviceFull dev → fills OfBoot dev) → ((halt ≡ Memory → ⊥) → now (d.room + 1) d.point) → left None (d.room + 1) d.point →
-      BreaksOpening now left fills flight (Halted halt) start trace story told
+      BreaksOpening now left fills flight (halted_by halt) start trace story told
   opening-fails now left fills flight halt told same keeps full again stays = record {
     after = trace;
     lines = refl;
@@ -191,15 +195,15 @@ module _ (lies : ℕ → Point → Type 0) (flies : Option Flight) (start : Star
     keeps = d.keeps;
     grows = ([], same ∙ sym (no-more story));
     along = stays-along trace;
-    later = tt;
+    later = halted_later halt;
     stops = inl (record {
       fallen = d.fallen;
       room = d.room + 1;
       boots = d.boots;
-      fails = tt;
-      full = λ dev is. full dev (same-halt halt (DeviceFull dev) is);
-      again = λ some. again (λ is. some (ap Halted is));
-      stays = stays;
+      fails = halted-fails (d.room + 1) d.point halt;
+      full = λ dev is. full dev (same_halt halt (DeviceFull dev) is);
+      again = λ some. again (λ is. some (ap halted_by is));
+      stays = subst (λ numbers. left numbers (d.room + 1) d.point) (sym (no_numbers halt)) stays;
       flies = keeps ∙ d.flies;
     });
   }
@@ -208,7 +212,7 @@ module _ (lies : ℕ → Point → Type 0) (flies : Option Flight) (start : Star
 
   breaks-here : (now : ℕ → Point → Type 0) (left : Option Numbers → ℕ → Point → Type 0) (fills : ToWrite → ℕ → Type 0) (flight : Option Flight) (halt : Halt) (h : HasOpened d.room d.point) (ms : List TraceStep) (q : Point) (told : List Event) →
       Runs h.point ms q → Every IsInside ms → told ≡ (story ++ Opened h.boot h.number ∷ []) ++ told_by ms → HaltsAt (now 0) (left None 0) fills flight halt q →
-      (halt ≡ Memory) ⊎ EndsWithin (behind h ms) → BreaksOpening now left fills flight (Halted halt) start trace story told
+      (halt ≡ Memory) ⊎ EndsWithin (behind h ms) → BreaksOpening now left fills flight (halted_by halt) start trace story told
   breaks-here now left fills flight halt h ms q told runs inside tells halts place =
       let k = behind-keeps h ms q runs in
       record {
@@ -220,7 +224,7 @@ module _ (lies : ℕ → Point → Type 0) (flies : Option Flight) (start : Star
         keeps = k.0;
         grows = (Opened h.boot h.number ∷ told_by ms, behind-grows h ms told tells);
         along = behind-along h ms inside;
-        later = tt;
+        later = halted_later halt;
         stops = inr (record { halt = halt; halted = refl; halts = halts; place = place });
       }
 
@@ -232,7 +236,7 @@ module _ (lies : ℕ → Point → Type 0) (flies : Option Flight) (start : Star
       go t (m ∷ ms) = go (moved t m) ms
 
   pub opening-breaks : (now : ℕ → Point → Type 0) (left : Option Numbers → ℕ → Point → Type 0) (fills : ToWrite → ℕ → Type 0) (flight : Option Flight) (halt : Halt) (h : HasOpened d.room d.point) (opened told : List Event) →
-      opened ≡ story ++ Opened h.boot h.number ∷ [] → BreaksWithin (now 0) (left None 0) fills flight halt h.point opened told → BreaksOpening now left fills flight (Halted halt) start trace story told
+      opened ≡ story ++ Opened h.boot h.number ∷ [] → BreaksWithin (now 0) (left None 0) fills flight halt h.point opened told → BreaksOpening now left fills flight (halted_by halt) start trace story told
   opening-breaks now left fills flight halt h opened told same b = by b.breaks
     where
       tells : b.before ≡ (story ++ Opened h.boot h.number ∷ []) ++ told_by b.moves
@@ -249,9 +253,9 @@ module _ (lies : ℕ → Point → Type 0) (flies : Option Flight) (start : Star
         plain = m.1;
       })
 
-      by : BreaksAt (now 0) (left None 0) fills flight halt b.point b.event b.before told → BreaksOpening now left fills flight (Halted halt) start trace story told
+      by : BreaksAt (now 0) (left None 0) fills flight halt b.point b.event b.before told → BreaksOpening now left fills flight (halted_by halt) start trace story told
       by (inl short) =
-          subst (λ es. BreaksOpening now left fills flight (Halted halt) start trace story es) (sym short.0)
+          subst (λ es. BreaksOpening now left fills flight (halted_by halt) start trace story es) (sym short.0)
           (breaks-here now left fills flight halt h b.moves b.point b.before b.runs b.inside tells short.1 (inl short.2))
       by (inr said) =
           let q = said.1.0 in
@@ -268,8 +272,8 @@ module _ (lies : ℕ → Point → Type 0) (flies : Option Flight) (start : Star
 same-err : {A : Type 0} (a b : OpenErr) → ◌≡◌ {A = Result A OpenErr} (Err a) (Err b) → a ≡ b
 same-err a b h = cc
 
-pub not-short : {A : Type 0} (e : OpenErr) → (e ≡ Halted Memory → ⊥) → ◌≡◌ {A = Result A OpenErr} (Err e) (Err (Halted Memory)) → ⊥
-not-short e some is = some (same-err e (Halted Memory) is)
+pub not-short : {A : Type 0} (e : OpenErr) → (e ≡ opening.Memory → ⊥) → ◌≡◌ {A = Result A OpenErr} (Err e) (Err opening.Memory) → ⊥
+not-short e some is = some (same-err e opening.Memory is)
 
 pub found-down : (lies now : ℕ → Point → Type 0) (flies known : Option Flight) (start : Start) (story : List Event) (trace : Trace) →
     (d : IsDown lies flies start story trace) → ((room : ℕ) (p : Point) → IsSoundPoint p → p.state.units.phase ≡ Fallen → lies room p → now room p) → known ≡ flies →
@@ -290,14 +294,17 @@ fails-later : (room : ℕ) (p : Point) (e : OpenErr) → MayFailAt room p e → 
 fails-later room p (NotSalt dev) h = h
 fails-later room p (OtherShape kept asked) h = h
 fails-later room p (NumbersSpent boot decisions) h = h.spent
-fails-later room p (Halted halt) h = tt
+fails-later room p opening.Failed h = tt
+fails-later room p opening.Stopped h = tt
+fails-later room p (opening.Full dev) h = tt
+fails-later room p opening.Memory h = tt
 
 pub finding-fails : (lies now : ℕ → Point → Type 0) (left : Option Numbers → ℕ → Point → Type 0) (fills : ToWrite → ℕ → Type 0) (flies known : Option Flight) (e : OpenErr) (start : Start) (story : List Event) (trace : Trace) →
     (d : IsDown lies flies start story trace) →
-    ((e ≡ Halted Memory → ⊥) → (room : ℕ) (p : Point) → IsSoundPoint p → p.state.units.phase ≡ Fallen → lies room p → now room p) →
+    ((e ≡ opening.Memory → ⊥) → (room : ℕ) (p : Point) → IsSoundPoint p → p.state.units.phase ≡ Fallen → lies room p → now room p) →
     ((room : ℕ) (p : Point) → IsSoundPoint p → p.state.units.phase ≡ Fallen → lies room p → left (numbers_of e) room p) → known ≡ flies →
     ((room : ℕ) (p : Point) → IsSoundPoint p → p.state.units.phase ≡ Fallen → lies room p → MayFailAt room p e) →
-    ((dev : ℕ) → e ≡ Halted (DeviceFull dev) → ⊥) → BreaksOpening now left fills known e start trace story story
+    ((dev : ℕ) → e ≡ opening.Full dev → ⊥) → BreaksOpening now left fills known e start trace story story
 finding-fails lies now left fills flies known e start story trace d found stays same fails full =
     let sound = down-sound lies flies start story trace d in
     let fallen = down-fallen lies flies start story trace d in

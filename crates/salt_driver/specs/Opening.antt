@@ -16,10 +16,11 @@ use Rattle.salt_storage.specs.Answers.{IsLater}
 use Rattle.salt_storage.specs.Storing.{IsFound, IsSoundKept}
 use Rattle.salt_storage.specs.Writing.{FindsNoMore, OfOpening, ToWrite}
 use Rattle.salt_storage.specs.declared.found.Found.{Found}
-use Rattle.salt_storage.specs.declared.halt.Halt.TheVariants.{DeviceFull, DiskFault, Memory, Stopped}
+use Rattle.salt_storage.specs.declared.halt.Halt.TheVariants.{DiskFault, Stopped}
 use Rattle.salt_storage.specs.declared.halt.Halt.{Halt}
-use Rattle.salt_storage.specs.declared.open.OpenErr.TheVariants.{Halted, NotSalt, NumbersSpent, OtherShape}
-use Rattle.salt_storage.specs.declared.open.OpenErr.{OpenErr}
+use Rattle.salt_storage.specs.OpenErr.TheVariants as opening
+use Rattle.salt_storage.specs.OpenErr.TheVariants.{NotSalt, NumbersSpent, OtherShape}
+use Rattle.salt_storage.specs.OpenErr.{OpenErr}
 use Rattle.std.specs.Prelude.{Bool, IsSome, List, None, Option, Some, false, suc, true, zero, ℕ, [], ⊤, ◌++◌, ◌+◌, ◌-◌, ◌<◌, ◌∷◌, ◌≡◌, ◌≤◌, ◌⊎◌}
 
 -- the point of a run that has begun, but was not opened
@@ -64,7 +65,7 @@ abbrev pub MayFailAt : ℕ → Point → OpenErr → Type 0
 MayFailAt room p (NotSalt dev) = ⊥
 MayFailAt room p (OtherShape kept asked) = ⊥
 MayFailAt room p (NumbersSpent boot decisions) = AreSpentAt room p boot decisions
-MayFailAt room p (Halted halt) = ⊤
+MayFailAt room p e = ⊤
 
 -- the start of a run over what is kept: whether it can be stopped, whether openings may be early, and whether commits go over messages
 abbrev pub start_over : Kept → (can_stop early over_net : Bool) → Start
@@ -119,7 +120,7 @@ pub record FallsUnfound (old_refuses : OpenErr → Type 0) (old_finds : Kept →
 -- Where a device was full, a first opening was to be written there. What is refused or found now would have been before.
 pub record FailsToFind (old_refuses : OpenErr → Type 0) (old_finds : Kept → Type 0) (refuses : OpenErr → Type 0) (finds : Kept → Type 0)
     (fills : ToWrite → ℕ → Type 0) (e : OpenErr) (story : List Event) : Type 0 where
-  pub refused : old_refuses e ⊎ (e ≡ Halted Memory)
+  pub refused : old_refuses e ⊎ (e ≡ opening.Memory)
   pub empty : (story ≡ []) ⊎ IsLater e
-  pub full : (dev : ℕ) → e ≡ Halted (DeviceFull dev) → fills OfOpening dev
+  pub full : (dev : ℕ) → e ≡ opening.Full dev → fills OfOpening dev
   pub less : FindsNoMore old_refuses old_finds refuses finds

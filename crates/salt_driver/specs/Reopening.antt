@@ -1,4 +1,5 @@
 -- What an opening makes of a run that is down.
+use Rattle.salt_storage.specs.OpenErr.TheVariants as opening
 use Rattle.law_states.specs.Laws.{is_of_run}
 use Rattle.law_states.specs.Points.{KeepsPoint, Point}
 use Rattle.law_states.specs.States.{State}
@@ -12,12 +13,11 @@ use Rattle.salt_driver.specs.Along.{GoesAlong}
 use Rattle.salt_driver.specs.Opening.{MayFailAt}
 use Rattle.salt_driver.specs.Serving.{Grows, IsDown, IsFitting, Serves}
 use Rattle.salt_driver.specs.Standing.{HaltsAt}
-use Rattle.salt_storage.specs.Answers.{IsLater, numbers_of}
+use Rattle.salt_storage.specs.Answers.{IsLater, halted_by, numbers_of}
 use Rattle.salt_storage.specs.Writing.{OfBoot, ToWrite}
-use Rattle.salt_storage.specs.declared.halt.Halt.TheVariants.{DeviceFull, Memory}
+use Rattle.salt_storage.specs.declared.halt.Halt.TheVariants.{Memory}
 use Rattle.salt_storage.specs.declared.halt.Halt.{Halt}
-use Rattle.salt_storage.specs.declared.open.OpenErr.TheVariants.{Halted}
-use Rattle.salt_storage.specs.declared.open.OpenErr.{OpenErr}
+use Rattle.salt_storage.specs.OpenErr.{OpenErr}
 use Rattle.salt_storage.specs.declared.found.Numbers.{Numbers}
 use Rattle.std.specs.Prelude.{Bool, List, None, Option, false, if◌then◌else◌, true, ℕ, ◌+◌, ◌≡◌, ◌≤◌, ◌⊎◌}
 
@@ -37,8 +37,8 @@ pub record NotBegun (lies : ℕ → Point → Type 0) (left : Option Numbers →
   pub room : ℕ
   pub boots : room ≤ downs trace + (if has_opened trace then 0 else 1)
   pub fails : MayFailAt room p e
-  pub full : (dev : ℕ) → e ≡ Halted (DeviceFull dev) → fills OfBoot dev
-  pub again : (e ≡ Halted Memory → ⊥) → lies room p
+  pub full : (dev : ℕ) → e ≡ opening.Full dev → fills OfBoot dev
+  pub again : (e ≡ opening.Memory → ⊥) → lies room p
   pub stays : left (numbers_of e) room p
   pub flies : flight ≡ flight_told p.flight
 
@@ -53,7 +53,7 @@ pub record EndsWithin (trace : Trace) : Type 0 where
 -- or it was broken off within it
 pub record WithinOpening (lies : ℕ → Point → Type 0) (left : Option Numbers → ℕ → Point → Type 0) (fills : ToWrite → ℕ → Type 0) (flight : Option Flight) (e : OpenErr) (trace : Trace) (p : Point) : Type 0 where
   pub halt : Halt
-  pub halted : e ≡ Halted halt
+  pub halted : e ≡ halted_by halt
   pub halts : HaltsAt (lies 0) (left None 0) fills flight halt p
   pub place : (halt ≡ Memory) ⊎ EndsWithin trace
 

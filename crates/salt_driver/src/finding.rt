@@ -9,16 +9,15 @@ ghost use Rattle.salt_storage.specs.Netted.{net_begun};
 ghost use Rattle.salt_storage.specs.Staying.{StaysWithin};
 ghost use Rattle.salt_storage.specs.Writing.{FindsNoMore, OfOpening};
 ghost use Rattle.salt_storage.specs.declared.found.Found.{Found};
-ghost use Rattle.salt_storage.specs.declared.halt.Halt.TheVariants.{DeviceFull, Memory, Stopped};
-ghost use Rattle.salt_storage.specs.declared.open.OpenErr.TheVariants.{Halted};
-ghost use Rattle.salt_storage.specs.declared.open.OpenErr.{OpenErr};
+ghost use Rattle.salt_storage.specs.declared.halt.Halt.TheVariants.{Stopped};
+ghost use Rattle.salt_storage.specs.OpenErr.{OpenErr};
 ghost use Rattle.salt_place.specs.Placement.{GivesPlaceOf, TakesEachKey};
 ghost use Rattle.std.specs.Prelude.{Err, IfErr, IfOk, IsTrue, None, Ok, OnErr, OnOk, Some, ℕ, [], ◌<◌, ◌≡◌, ◌⊎◌};
 
 use salt_disk::Disks;
 use salt_model::{Event, Story, Why};
 use salt_place::{PlaceKind, Placement};
-use salt_storage::{Found, Halt, OpenErr, Storage};
+use salt_storage::{Found, OpenErr, Storage};
 use salt_values::Key;
 
 /// Opens a storage at first. None where a stop came meanwhile, and the run has fallen.
@@ -42,7 +41,7 @@ fn try_find<S: Storage, D: Disks, F: Fn(PlaceKind, &Key, u32) -> u32>(
     ensures falls { result ≡ Ok None → FallsUnfound (S.refuses (D.view disks.old) storage.old) (S.finds (D.view disks.old) storage.old)
         (S.refuses (D.view disks.new) storage.new) (S.finds (D.view disks.new) storage.new) story.old story.new }
     ensures fewer { result ≡ Ok None → stops_left (D.view disks.new) < stops_left (D.view disks.old) }
-    ensures refuses { IfErr result (λ e. S.refuses (D.view disks.old) storage.old e ⊎ (e ≡ Halted Memory)) }
+    ensures refuses { IfErr result (λ e. S.refuses (D.view disks.old) storage.old e ⊎ (e ≡ OpenErr.Memory)) }
     ensures unrefused { OnErr result (story.new ≡ story.old) }
     ensures stays { OnErr result (S.unopened storage.new) }
     ensures able { OnErr result (S.able (D.view disks.new) storage.new) }
@@ -53,8 +52,8 @@ fn try_find<S: Storage, D: Disks, F: Fn(PlaceKind, &Key, u32) -> u32>(
     ensures still { OnErr result (FindsNoMore (S.refuses (D.view disks.old) storage.old) (S.finds (D.view disks.old) storage.old)
         (S.refuses (D.view disks.new) storage.new) (S.finds (D.view disks.new) storage.new)) }
     ensures later { S.tried (D.view disks.old) storage.old → IfErr result IsLater }
-    ensures full { (dev : ℕ) → result ≡ Err (OpenErr.Halted (DeviceFull dev)) → S.fills (D.view disks.new) storage.new OfOpening dev }
-    ensures unstopped { result ≡ Err (Halted Stopped) → ⊥ }
+    ensures full { (dev : ℕ) → result ≡ Err (OpenErr.Full dev) → S.fills (D.view disks.new) storage.new OfOpening dev }
+    ensures unstopped { result ≡ Err OpenErr.Stopped → ⊥ }
     ensures within { StaysWithin (S.asked storage.old) (S.asked storage.new) (D.view disks.old) (D.view disks.new) }
     ensures counts { CountsOpening (D.view disks.old) (D.view disks.new) (open_disk_err result) story.old story.new }
 {
@@ -63,7 +62,7 @@ fn try_find<S: Storage, D: Disks, F: Fn(PlaceKind, &Key, u32) -> u32>(
             storage.stands(disks);
             Ok(Some(found))
         }
-        Err(OpenErr::Halted(Halt::Stopped)) => {
+        Err(OpenErr::Stopped) => {
             story.push(Event::Down(Why::Stopped))?;
             storage.restart(disks);
             storage.stands(disks);
@@ -96,7 +95,7 @@ pub fn find<S: Storage, D: Disks, F: Fn(PlaceKind, &Key, u32) -> u32>(
     ensures unwritten { (refusal : OpenErr) → IsRefusal refusal → S.refuses (D.view disks.old) storage.old refusal → IsTrue (D.view disks.old).told
         → KeepsAll (D.view disks.old) (D.view disks.new) (open_disk_err result) × (story.new ≡ []) }
     ensures rests { OnErr result ((k : Kept) → S.finds (D.view disks.old) storage.old k → S.rests (D.view disks.new) storage.new k) }
-    ensures unstopped { result ≡ Err (Halted Stopped) → ⊥ }
+    ensures unstopped { result ≡ Err OpenErr.Stopped → ⊥ }
     ensures within { StaysWithin (S.asked storage.old) (S.asked storage.new) (D.view disks.old) (D.view disks.new) }
     ensures counts { CountsOpening (D.view disks.old) (D.view disks.new) (open_disk_err result) [] story.new }
 {

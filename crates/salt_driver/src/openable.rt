@@ -18,7 +18,7 @@ ghost use Rattle.salt_storage.specs.Netted.{net_told};
 ghost use Rattle.salt_storage.specs.Staying.{StaysWithin};
 ghost use Rattle.salt_storage.specs.Writing.{OfBoot};
 ghost use Rattle.salt_storage.specs.declared.halt.Halt.TheVariants.{DeviceFull, Memory};
-ghost use Rattle.salt_storage.specs.declared.open.OpenErr.{OpenErr};
+ghost use Rattle.salt_storage.specs.OpenErr.{OpenErr};
 ghost use Rattle.salt_place.specs.Placement.{GivesPlaceOf, TakesEachKey};
 ghost use Rattle.std.specs.Prelude.{Err, IfErr, IfOk, None, OnErr, OnOk, Option, Some, option_map, ℕ, [], ◌++◌, ◌+◌, ◌<◌, ◌∷◌, ◌≡◌};
 
@@ -55,12 +55,12 @@ pub trait Openable: Stepping {
         requires answers { GivesPlaceOf (F.post place.now.place) }
         requires settled { settled (D.view disks.old) self.old }
         ensures found { OnOk result (is_found (D.view disks.new) self.new) }
-        ensures again { (result ≡ Err (OpenErr.Halted Memory) → ⊥) → (room : ℕ) (p : Point) → IsSoundPoint p → p.state.units.phase ≡ Fallen → Self.lies (D.view disks.old) self.old room p →
+        ensures again { (result ≡ Err OpenErr.Memory → ⊥) → (room : ℕ) (p : Point) → IsSoundPoint p → p.state.units.phase ≡ Fallen → Self.lies (D.view disks.old) self.old room p →
             Self.lies (D.view disks.new) self.new room p }
         ensures left { (room : ℕ) (p : Point) → IsSoundPoint p → p.state.units.phase ≡ Fallen → Self.lies (D.view disks.old) self.old room p → Self.left (D.view disks.new) self.new (numbers_told result) room p }
         ensures later { IfErr result (λ e. (room : ℕ) (p : Point) → IsSoundPoint p → p.state.units.phase ≡ Fallen → Self.lies (D.view disks.old) self.old room p → MayFailAt room p e) }
         ensures flies { Self.flight self.new ≡ Self.flight self.old }
-        ensures full { (dev : ℕ) → result ≡ Err (OpenErr.Halted (DeviceFull dev)) → ⊥ }
+        ensures full { (dev : ℕ) → result ≡ Err (OpenErr.Full dev) → ⊥ }
         ensures within { StaysWithin (Self.asked self.old) (Self.asked self.new) (D.view disks.old) (D.view disks.new) }
         ensures counts { CountsStops (D.view disks.old) (D.view disks.new) (open_disk_err result) [] 0 };
 

@@ -1,6 +1,7 @@
 //! A run is opened, at first and behind a fall, and through the stops that come meanwhile.
 
 ghost use Rattle.salt_ast.specs.declared.lines.Line.TheVariants.{Nothing};
+ghost use Rattle.salt_storage.specs.OpenErr.{OpenErr};
 ghost use Rattle.salt_disk.specs.Disks.{stops_left};
 ghost use Rattle.law_states.specs.Points.{Point};
 ghost use Rattle.law_states.specs.Steps.{units_after};
@@ -13,10 +14,9 @@ ghost use Rattle.salt_driver.specs.Opening.{halt_of};
 ghost use Rattle.salt_driver.specs.Reopening.{BreaksOpening, OpensOrFalls, Reopens};
 ghost use Rattle.salt_driver.specs.Serving.{Halts, IsDown};
 ghost use Rattle.salt_driver.specs.Standing.{IsOpeningAt, IsSoundPoint, OpensOn};
-ghost use Rattle.salt_storage.specs.Answers.{disk_err, open_disk_err};
+ghost use Rattle.salt_storage.specs.Answers.{disk_err, halted_by, open_disk_err};
 ghost use Rattle.salt_storage.specs.Staying.{StaysWithin};
 ghost use Rattle.salt_storage.specs.declared.halt.Halt.TheVariants.{Stopped};
-ghost use Rattle.salt_storage.specs.declared.open.OpenErr.TheVariants.{Halted};
 ghost use Rattle.salt_place.specs.Placement.{GivesPlaceOf, TakesEachKey};
 ghost use Rattle.std.specs.Prelude.{Err, IfErr, IfOk, List, None, Ok, OnErr, OnOk, Some, [], drop, false, ◌++◌, ◌+◌, ◌<◌, ◌≡◌, ◌≤◌};
 
@@ -135,7 +135,7 @@ pub fn open_found<E: Openable, D: Disks, F: Fn(PlaceKind, &Key, u32) -> u32>(
     ensures ok { OnOk result ((start : Start) (trace : Trace) → IsDown (E.lies (D.view disks.old) database.old) (E.flight database.old) start story.old trace →
         Reopens (E.sees (D.view disks.new)) start trace story.old database.new story.new) }
     ensures err { IfErr result (λ halt. (start : Start) (trace : Trace) → IsDown (E.lies (D.view disks.old) database.old) (E.flight database.old) start story.old trace →
-        BreaksOpening (E.lies (D.view disks.new) database.new) (E.left (D.view disks.new) database.new) (E.fills (D.view disks.new) database.new) (E.flight database.new) (Halted halt) start trace story.old story.new) }
+        BreaksOpening (E.lies (D.view disks.new) database.new) (E.left (D.view disks.new) database.new) (E.fills (D.view disks.new) database.new) (E.flight database.new) (halted_by halt) start trace story.old story.new) }
     ensures within { StaysWithin (E.asked database.old) (E.asked database.new) (D.view disks.old) (D.view disks.new) }
     ensures counts { CountsOpening (D.view disks.old) (D.view disks.new) (disk_err result) story.old story.new }
 {
@@ -183,13 +183,13 @@ fn try_open<E: Openable, D: Disks, F: Fn(PlaceKind, &Key, u32) -> u32>(
     ensures fewer { result ≡ Ok false → stops_left (D.view disks.new) < stops_left (D.view disks.old) }
     ensures err { IfErr result (λ e. (start : Start) (trace : Trace) → IsDown (E.lies (D.view disks.old) database.old) (E.flight database.old) start story.old trace →
         BreaksOpening (E.lies (D.view disks.new) database.new) (E.left (D.view disks.new) database.new) (E.fills (D.view disks.new) database.new) (E.flight database.new) e start trace story.old story.new) }
-    ensures unstopped { result ≡ Err (Halted Stopped) → ⊥ }
+    ensures unstopped { result ≡ Err OpenErr.Stopped → ⊥ }
     ensures within { StaysWithin (E.asked database.old) (E.asked database.new) (D.view disks.old) (D.view disks.new) }
     ensures counts { CountsOpening (D.view disks.old) (D.view disks.new) (open_disk_err result) story.old story.new }
 {
     match open_once(database, disks, place, story) {
         Ok(()) => Ok(true),
-        Err(OpenErr::Halted(Halt::Stopped)) => {
+        Err(OpenErr::Stopped) => {
             story.push(Event::Down(Why::Stopped))?;
             database.fall(disks);
             Ok(false)
@@ -214,7 +214,7 @@ pub fn open<E: Openable, D: Disks, F: Fn(PlaceKind, &Key, u32) -> u32>(
         Reopens (E.sees (D.view disks.new)) start trace story.old database.new story.new) }
     ensures err { IfErr result (λ e. (start : Start) (trace : Trace) → IsDown (E.lies (D.view disks.old) database.old) (E.flight database.old) start story.old trace →
         BreaksOpening (E.lies (D.view disks.new) database.new) (E.left (D.view disks.new) database.new) (E.fills (D.view disks.new) database.new) (E.flight database.new) e start trace story.old story.new) }
-    ensures unstopped { result ≡ Err (Halted Stopped) → ⊥ }
+    ensures unstopped { result ≡ Err OpenErr.Stopped → ⊥ }
     ensures within { StaysWithin (E.asked database.old) (E.asked database.new) (D.view disks.old) (D.view disks.new) }
     ensures counts { CountsOpening (D.view disks.old) (D.view disks.new) (open_disk_err result) story.old story.new }
 {
@@ -238,7 +238,7 @@ pub fn recover<E: Openable, D: Disks, F: Fn(PlaceKind, &Key, u32) -> u32>(
         Reopens (E.sees (D.view disks.new)) start trace story.old database.new story.new) }
     ensures err { IfErr result (λ e. (start : Start) (trace : Trace) → Halts (E.lies (D.view disks.old) database.old 0) (E.left (D.view disks.old) database.old None 0) (E.fills (D.view disks.old) database.old) (E.flight database.old) (halt_of why) start story.old trace →
         BreaksOpening (E.lies (D.view disks.new) database.new) (E.left (D.view disks.new) database.new) (E.fills (D.view disks.new) database.new) (E.flight database.new) e start trace story.old story.new) }
-    ensures unstopped { result ≡ Err (Halted Stopped) → ⊥ }
+    ensures unstopped { result ≡ Err OpenErr.Stopped → ⊥ }
     ensures within { StaysWithin (E.asked database.old) (E.asked database.new) (D.view disks.old) (D.view disks.new) }
     ensures counts { CountsFall why (D.view disks.old) (D.view disks.new) (open_disk_err result) story.old story.new }
 {

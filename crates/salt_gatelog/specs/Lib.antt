@@ -3,3 +3,4 @@ pub mod Log
 pub mod Entry
 pub mod Open
 pub mod Pair
+pub mod Answers

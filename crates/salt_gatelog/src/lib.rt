@@ -7,8 +7,10 @@ mod entry;
 mod log;
 mod open;
 mod pair;
+mod unopened;
 
 pub use entry::rejected;
 pub use log::{GateLog, create, new_frame};
 pub use open::{LogErr, open_log};
 pub use pair::{PairErr, follows, next_generation};
+pub use unopened::OpenErr;

@@ -46,9 +46,9 @@ use Rattle.salt_driver.specs.Reopening.{Reopens}
 use Rattle.salt_driver.specs.Standing.{IsIdleAt, IsSoundPoint}
 use Rattle.salt_storage.specs.Answers.{IsLater}
 use Rattle.salt_storage.specs.Writing.{ToWrite}
-use Rattle.salt_storage.specs.declared.halt.Halt.TheVariants as halt
-use Rattle.salt_storage.specs.declared.open.OpenErr.TheVariants.{Halted, NotSalt, NumbersSpent, OtherShape}
-use Rattle.salt_storage.specs.declared.open.OpenErr.{OpenErr}
+use Rattle.salt_storage.specs.OpenErr.TheVariants as opening
+use Rattle.salt_storage.specs.OpenErr.TheVariants.{NotSalt, NumbersSpent, OtherShape}
+use Rattle.salt_storage.specs.OpenErr.{OpenErr}
 use Rattle.std.proofs.Common.{ap, arith, inl, inr, subst, suc, sym, zero, ◌∙◌}
 use Rattle.salt_storage.specs.declared.found.Numbers.{Numbers}
 use Rattle.std.specs.Prelude.{Err, List, None, Ok, Option, Result, Some, [], false, refl, true, ℕ, ◌++◌, ◌∷◌, ◌≡◌, ◌⊎◌}
@@ -100,16 +100,19 @@ leaves-unfound e story (inr l) trace told down = leaves-later e l trace down
 leaves-unfound (NotSalt dev) story (inl none) trace told down = told ∙ none
 leaves-unfound (OtherShape kept asked) story (inl none) trace told down = told ∙ none
 leaves-unfound (NumbersSpent boot decisions) story (inl none) trace told down = down
-leaves-unfound (Halted h) story (inl none) trace told down = leaves-later (Halted h) tt trace down
+leaves-unfound opening.Failed story (inl none) trace told down = leaves-later opening.Failed tt trace down
+leaves-unfound opening.Stopped story (inl none) trace told down = leaves-later opening.Stopped tt trace down
+leaves-unfound (opening.Full dev) story (inl none) trace told down = leaves-later (opening.Full dev) tt trace down
+leaves-unfound opening.Memory story (inl none) trace told down = leaves-later opening.Memory tt trace down
 
 flies-unfound : (e : OpenErr) (trace : Trace) (flies : Option Flight) → flies ≡ None → flight trace ≡ None → IsFlightAt (status_opening e) trace flies
 flies-unfound (NotSalt dev) trace flies none unflown = none
 flies-unfound (OtherShape kept asked) trace flies none unflown = none
 flies-unfound (NumbersSpent boot decisions) trace flies none unflown = none ∙ sym (ap flight_told unflown)
-flies-unfound (Halted halt.Stopped) trace flies none unflown = none ∙ sym (ap flight_told unflown)
-flies-unfound (Halted halt.DiskFault) trace flies none unflown = none ∙ sym (ap flight_told unflown)
-flies-unfound (Halted (halt.DeviceFull dev)) trace flies none unflown = none ∙ sym (ap flight_told unflown)
-flies-unfound (Halted halt.Memory) trace flies none unflown = inl none
+flies-unfound opening.Stopped trace flies none unflown = none ∙ sym (ap flight_told unflown)
+flies-unfound opening.Failed trace flies none unflown = none ∙ sym (ap flight_told unflown)
+flies-unfound (opening.Full dev) trace flies none unflown = none ∙ sym (ap flight_told unflown)
+flies-unfound opening.Memory trace flies none unflown = inl none
 
 -- NO LINE WAS ASKED
 
@@ -208,10 +211,10 @@ pub of-reason : (e : OpenErr) → IsOfDevices (stop_opening e)
 of-reason (NotSalt dev) = tt
 of-reason (OtherShape kept asked) = tt
 of-reason (NumbersSpent boot decisions) = tt
-of-reason (Halted halt.Stopped) = tt
-of-reason (Halted halt.DiskFault) = tt
-of-reason (Halted (halt.DeviceFull dev)) = tt
-of-reason (Halted halt.Memory) = tt
+of-reason opening.Stopped = tt
+of-reason opening.Failed = tt
+of-reason (opening.Full dev) = tt
+of-reason opening.Memory = tt
 
 module _ (reason : OpenErr) (story : List Event) (unfound : IsUnfound story) (empty : (story ≡ []) ⊎ IsLater reason) (s : Stop) (how : IsWrittenOf (stop_opening reason) s) (start : Start) where
   abbrev fallen : Trace

@@ -1,4 +1,6 @@
 -- Where a run ends: behind an opening that breaks off, in a line, or between lines.
+use Rattle.salt_storage.proofs.Halted.{no_numbers, same_halt}
+use Rattle.salt_storage.specs.OpenErr.TheVariants as opening
 use Rattle.law_states.proofs.NextTold.{devices-told, may-stand}
 use Rattle.law_states.specs.Laws.{IsSound, is_of_run}
 use Rattle.law_states.specs.OpenUnits.{UnitState}
@@ -29,12 +31,12 @@ use Rattle.salt_driver.specs.Reopening.{BreaksOpening, EndsWithin, NotBegun, Wit
 use Rattle.salt_driver.specs.Serving.{Halts, Serves}
 use Rattle.salt_driver.specs.Standing.{IsIdleAt, IsSoundPoint}
 use Rattle.salt_driver.specs.Writing.{IsWrittenAt}
-use Rattle.salt_storage.specs.Answers.{IsLater, numbers_of, open_disk_err_of}
+use Rattle.salt_storage.specs.Answers.{IsLater, halted_by, numbers_of, open_disk_err_of}
 use Rattle.salt_storage.specs.Writing.{OfBoot, ToWrite}
 use Rattle.salt_storage.specs.declared.halt.Halt.TheVariants as halt
 use Rattle.salt_storage.specs.declared.halt.Halt.{Halt}
-use Rattle.salt_storage.specs.declared.open.OpenErr.TheVariants.{Halted, NotSalt, NumbersSpent, OtherShape}
-use Rattle.salt_storage.specs.declared.open.OpenErr.{OpenErr}
+use Rattle.salt_storage.specs.OpenErr.TheVariants.{NotSalt, NumbersSpent, OtherShape}
+use Rattle.salt_storage.specs.OpenErr.{OpenErr}
 use Rattle.std.proofs.Common.{ap, append-nil, arith, inl, inr, subst, sym, ◌∙◌}
 use Rattle.salt_storage.specs.declared.found.Numbers.{Numbers}
 use Rattle.std.specs.Prelude.{Bool, Err, IsTrue, List, None, Ok, Option, Result, Some, [], false, not, refl, true, ℕ, ◌||◌, ◌≡◌, ◌⊎◌}
@@ -53,37 +55,37 @@ pub leaves-later : (e : OpenErr) → IsLater e → (trace : Trace) → is_servin
 leaves-later (NotSalt dev) l trace h = absurd l
 leaves-later (OtherShape kept asked) l trace h = absurd l
 leaves-later (NumbersSpent boot decisions) l trace h = h
-leaves-later (Halted halt.Stopped) l trace h = h
-leaves-later (Halted halt.DiskFault) l trace h = h
-leaves-later (Halted (halt.DeviceFull dev)) l trace h = at-devices trace h
-leaves-later (Halted halt.Memory) l trace h = tt
+leaves-later opening.Stopped l trace h = h
+leaves-later opening.Failed l trace h = h
+leaves-later (opening.Full dev) l trace h = at-devices trace h
+leaves-later opening.Memory l trace h = tt
 
 flies-later : (e : OpenErr) → IsLater e → (trace : Trace) (flies : Option Flight) → flies ≡ flight_told (flight trace) → IsFlightAt (status_opening e) trace flies
 flies-later (NotSalt dev) l trace flies h = absurd l
 flies-later (OtherShape kept asked) l trace flies h = absurd l
 flies-later (NumbersSpent boot decisions) l trace flies h = h
-flies-later (Halted halt.Stopped) l trace flies h = h
-flies-later (Halted halt.DiskFault) l trace flies h = h
-flies-later (Halted (halt.DeviceFull dev)) l trace flies h = h
-flies-later (Halted halt.Memory) l trace flies h = inr h
+flies-later opening.Stopped l trace flies h = h
+flies-later opening.Failed l trace flies h = h
+flies-later (opening.Full dev) l trace flies h = h
+flies-later opening.Memory l trace flies h = inr h
 
 pub later-stop : (e : OpenErr) → IsLater e → IsLaterStop (stop_opening e)
 later-stop (NotSalt dev) l = absurd l
 later-stop (OtherShape kept asked) l = absurd l
 later-stop (NumbersSpent boot decisions) l = tt
-later-stop (Halted halt.Stopped) l = tt
-later-stop (Halted halt.DiskFault) l = tt
-later-stop (Halted (halt.DeviceFull dev)) l = tt
-later-stop (Halted halt.Memory) l = tt
+later-stop opening.Stopped l = tt
+later-stop opening.Failed l = tt
+later-stop (opening.Full dev) l = tt
+later-stop opening.Memory l = tt
 
-pub full-reason : (e : OpenErr) (dev : ℕ) → status_opening e ≡ DeviceFull dev → e ≡ Halted (halt.DeviceFull dev)
+pub full-reason : (e : OpenErr) (dev : ℕ) → status_opening e ≡ DeviceFull dev → e ≡ opening.Full dev
 full-reason (NotSalt d) dev h = absurd cc
 full-reason (OtherShape kept asked) dev h = absurd cc
 full-reason (NumbersSpent boot decisions) dev h = absurd cc
-full-reason (Halted halt.Stopped) dev h = absurd cc
-full-reason (Halted halt.DiskFault) dev h = absurd cc
-full-reason (Halted (halt.DeviceFull d)) dev h = cc
-full-reason (Halted halt.Memory) dev h = absurd cc
+full-reason opening.Stopped dev h = absurd cc
+full-reason opening.Failed dev h = absurd cc
+full-reason (opening.Full d) dev h = cc
+full-reason opening.Memory dev h = absurd cc
 
 -- how it may fail there
 
@@ -91,12 +93,12 @@ may-fail : (room : ℕ) (p : Point) (e : OpenErr) → p.state.units.phase ≡ Fa
 may-fail room p (NotSalt dev) fell h = h
 may-fail room p (OtherShape kept asked) fell h = h
 may-fail room p (NumbersSpent boot decisions) fell h = (fell, h)
-may-fail room p (Halted halt.Stopped) fell h = tt
-may-fail room p (Halted halt.DiskFault) fell h = tt
-may-fail room p (Halted (halt.DeviceFull dev)) fell h = tt
-may-fail room p (Halted halt.Memory) fell h = tt
+may-fail room p opening.Stopped fell h = tt
+may-fail room p opening.Failed fell h = tt
+may-fail room p (opening.Full dev) fell h = tt
+may-fail room p opening.Memory fell h = tt
 
-may-halt : (room : ℕ) (p : Point) (h : Halt) → MayEndAt room p (status_opening (Halted h))
+may-halt : (room : ℕ) (p : Point) (h : Halt) → MayEndAt room p (status_opening (halted_by h))
 may-halt room p halt.Stopped = tt
 may-halt room p halt.DiskFault = tt
 may-halt room p (halt.DeviceFull dev) = tt
@@ -108,10 +110,10 @@ same-numbers : (e : OpenErr) → numbers_of e ≡ numbers_told (status_opening e
 same-numbers (NotSalt dev) = refl
 same-numbers (OtherShape kept asked) = refl
 same-numbers (NumbersSpent boot decisions) = refl
-same-numbers (Halted halt.Stopped) = refl
-same-numbers (Halted halt.DiskFault) = refl
-same-numbers (Halted (halt.DeviceFull dev)) = refl
-same-numbers (Halted halt.Memory) = refl
+same-numbers opening.Stopped = refl
+same-numbers opening.Failed = refl
+same-numbers (opening.Full dev) = refl
+same-numbers opening.Memory = refl
 
 untold : (left : Option Numbers → ℕ → Point → Type 0) → ((numbers : Numbers) (room : ℕ) (p : Point) → left (Some numbers) room p → left None room p) → (told : Option Numbers) (room : ℕ) (p : Point) →
     left told room p → left None room p
@@ -155,17 +157,14 @@ module _ (lies : ℕ → Point → Type 0) (left : Option Numbers → ℕ → Po
       keeps = b.keeps;
       boots = omega arith;
       may = subst (λ x. MayEndAt 0 b.point (status_opening x)) (sym w.halted) (may-halt 0 b.point w.halt);
-      again = λ some. w.halts.again (λ m. some (ap status_opening (w.halted ∙ ap Halted m)));
-      stands = subst (λ (told : Option Numbers). left told 0 b.point) (sym (ap numbers_of w.halted) ∙ same-numbers e) w.halts.stays;
-      full = λ dev is. by dev (w.halts.full dev (halted-so w.halt (halt.DeviceFull dev) (sym w.halted ∙ full-reason e dev is)));
+      again = λ some. w.halts.again (λ m. some (ap status_opening (w.halted ∙ ap halted_by m)));
+      stands = subst (λ (told : Option Numbers). left told 0 b.point) (sym (ap numbers_of w.halted ∙ no_numbers w.halt) ∙ same-numbers e) w.halts.stays;
+      full = λ dev is. by dev (w.halts.full dev (same_halt w.halt (halt.DeviceFull dev) (sym w.halted ∙ full-reason e dev is)));
     };
   }
     where
-      halted-so : (g h : Halt) → Halted g ≡ Halted h → g ≡ h
-      halted-so g h same = cc
-
-      short : w.halt ≡ halt.Memory → e ≡ Halted halt.Memory
-      short m = w.halted ∙ ap Halted m
+      short : w.halt ≡ halt.Memory → e ≡ opening.Memory
+      short m = w.halted ∙ ap halted_by m
 
       place : (w.halt ≡ halt.Memory) ⊎ EndsWithin b.after → MayLeave (leave_of (status_opening e)) b.after
       place (inl m) = subst (λ x. MayLeave (leave_of (status_opening x)) b.after) (sym (short m)) tt
@@ -392,14 +391,14 @@ module _ (lies : ℕ → Point → Type 0) (left : Option Numbers → ℕ → Po
 
 -- THE ANSWER OF A DEVICE
 
-pub answers-opening : (e : OpenErr) → (e ≡ Halted halt.Stopped → ⊥) → open_disk_err_of e ≡ answer_of (status_opening e)
+pub answers-opening : (e : OpenErr) → (e ≡ opening.Stopped → ⊥) → open_disk_err_of e ≡ answer_of (status_opening e)
 answers-opening (NotSalt dev) some = refl
 answers-opening (OtherShape kept asked) some = refl
 answers-opening (NumbersSpent boot decisions) some = refl
-answers-opening (Halted halt.Stopped) some = absurd (some refl)
-answers-opening (Halted halt.DiskFault) some = refl
-answers-opening (Halted (halt.DeviceFull dev)) some = refl
-answers-opening (Halted halt.Memory) some = refl
+answers-opening opening.Stopped some = absurd (some refl)
+answers-opening opening.Failed some = refl
+answers-opening (opening.Full dev) some = refl
+answers-opening opening.Memory some = refl
 
 -- either way a stop leaves of the devices what is kept there
 

@@ -1,4 +1,5 @@
 -- How a run ends on its devices.
+use Rattle.salt_storage.specs.OpenErr.TheVariants as opening
 use Rattle.law_states.specs.Points.{KeepsPoint, Point}
 use Rattle.law_states.specs.States.{State}
 use Rattle.salt_model.specs.Arming.{armed_by_lines}
@@ -20,9 +21,7 @@ use Rattle.salt_driver.specs.Along.{GoesAlong}
 use Rattle.salt_driver.specs.Serving.{Grows, IsFitting, Serves}
 use Rattle.salt_driver.specs.Writing.{IsWrittenAt}
 use Rattle.salt_storage.specs.Writing.{OfBoot, ToWrite}
-use Rattle.salt_storage.specs.declared.halt.Halt.TheVariants as halt
-use Rattle.salt_storage.specs.declared.open.OpenErr.TheVariants.{Halted}
-use Rattle.salt_storage.specs.declared.open.OpenErr.{OpenErr}
+use Rattle.salt_storage.specs.OpenErr.{OpenErr}
 use Rattle.salt_storage.specs.declared.found.Numbers.{Numbers}
 use Rattle.std.specs.Prelude.{List, Option, if◌then◌else◌, true, ℕ, ◌+◌, ◌≡◌, ◌≤◌, ◌⊎◌, ⊤}
 
@@ -84,4 +83,4 @@ pub record EndsOpening (lies : ℕ → Point → Type 0) (left : Option Numbers 
 
 -- the status is that of an opening that ends so, or the sink failed behind it
 abbrev pub IsStatusOf : OpenErr → Status → Type 0
-IsStatusOf e status = (status ≡ status_opening e) ⊎ ((status ≡ WriteFault) × (e ≡ Halted halt.Memory → ⊥))
+IsStatusOf e status = (status ≡ status_opening e) ⊎ ((status ≡ WriteFault) × (e ≡ opening.Memory → ⊥))

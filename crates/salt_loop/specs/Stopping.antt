@@ -9,8 +9,8 @@ use Rattle.salt_loop.specs.declared.stop.Stop.{Stop}
 use Rattle.salt_storage.specs.declared.found.Numbers.{Numbers}
 use Rattle.salt_storage.specs.declared.halt.Halt.TheVariants as halt
 use Rattle.salt_storage.specs.declared.halt.Halt.{Halt}
-use Rattle.salt_storage.specs.declared.open.OpenErr.TheVariants as opening
-use Rattle.salt_storage.specs.declared.open.OpenErr.{OpenErr}
+use Rattle.salt_storage.specs.OpenErr.TheVariants as opening
+use Rattle.salt_storage.specs.OpenErr.{OpenErr}
 use Rattle.std.specs.Prelude.{Bool, Err, None, Ok, Option, Result, Some, false, true, ⊤}
 
 abbrev pub stop_of : LineErr → Stop
@@ -29,7 +29,10 @@ abbrev pub stop_opening : OpenErr → Stop
 stop_opening (opening.NotSalt dev) = NotSalt dev
 stop_opening (opening.OtherShape kept asked) = OtherShape kept asked
 stop_opening (opening.NumbersSpent boot decisions) = NumbersSpent boot decisions
-stop_opening (opening.Halted h) = stop_at h
+stop_opening opening.Failed = DiskFault
+stop_opening opening.Stopped = DiskFault
+stop_opening (opening.Full dev) = DeviceFull dev
+stop_opening opening.Memory = Memory
 
 abbrev pub status_of : Stop → Status
 status_of Memory = status.Memory

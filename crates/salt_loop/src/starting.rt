@@ -1,5 +1,6 @@
 //! A run begins over what was found; or nothing was.
 
+ghost use Rattle.salt_storage.specs.OpenErr.{OpenErr};
 ghost use Rattle.salt_io.specs.Streams.{Rose};
 ghost use Rattle.salt_model.specs.Trace.{Start, Trace};
 ghost use Rattle.salt_loop.specs.Ending.{EndsOpening, IsStatusOf};
@@ -11,8 +12,6 @@ ghost use Rattle.salt_driver.specs.Reopening.{Reopens};
 ghost use Rattle.salt_driver.specs.Serving.{IsDown};
 ghost use Rattle.salt_storage.specs.Answers.{IsLater};
 ghost use Rattle.salt_storage.specs.Staying.{StaysWithin};
-ghost use Rattle.salt_storage.specs.declared.halt.Halt.TheVariants.{Stopped};
-ghost use Rattle.salt_storage.specs.declared.open.OpenErr.TheVariants.{Halted};
 ghost use Rattle.salt_place.specs.Placement.{GivesPlaceOf, TakesEachKey};
 ghost use Rattle.std.specs.Prelude.{Err, IfErr, List, None, OnOk, Option, ℕ, [], ◌≡◌, ◌≢◌, ◌≤◌, ◌⊎◌};
 
@@ -61,7 +60,7 @@ pub fn tell_unfound<K: Sink>(
     sink: &mut K,
     story: &Story,
 ) -> Result<(), Stop>
-    requires unstopped { reason ≢ Halted Stopped }
+    requires unstopped { reason ≢ OpenErr.Stopped }
     requires unfound { IsUnfound story.now }
     requires empty { (story.now ≡ []) ⊎ IsLater reason }
     ensures is { IsStatusOf reason (outcome result) }

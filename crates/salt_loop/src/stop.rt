@@ -1,9 +1,9 @@
 //! Why a run ends before its lines do.
 
+ghost use Rattle.salt_storage.specs.OpenErr.{OpenErr};
 ghost use Rattle.salt_loop.specs.Stopping.{IsOfDevices, is_memory, ran_short, status_of, stop_at, stop_of, stop_opening};
 ghost use Rattle.salt_loop.specs.declared.stop.Stop.TheVariants.{Memory, WriteFault};
 ghost use Rattle.salt_storage.specs.declared.halt.Halt.TheVariants.{Stopped};
-ghost use Rattle.salt_storage.specs.declared.open.OpenErr.TheVariants.{Halted};
 ghost use Rattle.std.specs.Prelude.{◌≡◌, ◌≢◌};
 
 use salt_io::{IoFailed, LineErr};
@@ -89,7 +89,7 @@ fn stop_at(halt: Halt) -> Stop
 
 /// Why a run ends whose opening ends so.
 pub fn stop_opening(e: OpenErr) -> Stop
-    requires { e ≢ Halted Stopped }
+    requires { e ≢ OpenErr.Stopped }
     ensures is { result ≡ stop_opening e }
     ensures of_devices { IsOfDevices result }
 {
@@ -97,7 +97,10 @@ pub fn stop_opening(e: OpenErr) -> Stop
         OpenErr::NotSalt(dev) => Stop::NotSalt(dev),
         OpenErr::OtherShape { kept, asked } => Stop::OtherShape { kept, asked },
         OpenErr::NumbersSpent { boot, decisions } => Stop::NumbersSpent { boot, decisions },
-        OpenErr::Halted(halt) => stop_at(halt),
+        OpenErr::Failed => Stop::DiskFault,
+        OpenErr::Stopped => unreachable!(),
+        OpenErr::Full(dev) => Stop::DeviceFull(dev),
+        OpenErr::Memory => Stop::Memory,
     }
 }
 

@@ -23,8 +23,9 @@ use Rattle.salt_stands.specs.Stands as opening
 use Rattle.salt_stands.specs.Stands.{Found, Opening, Stands, found_with, logs_of, nothing_found, of_coordinator, opening_of}
 use Rattle.salt_stands.specs.Words.{each_from, if_sound, or_fault}
 use Rattle.salt_storage.specs.Answers.{IsRefusal}
-use Rattle.salt_storage.specs.declared.open.OpenErr.TheVariants.{Halted, NotSalt, NumbersSpent, OtherShape}
-use Rattle.salt_storage.specs.declared.open.OpenErr.{OpenErr}
+use Rattle.salt_storage.specs.OpenErr.TheVariants as open_err
+use Rattle.salt_storage.specs.OpenErr.TheVariants.{NotSalt, NumbersSpent, OtherShape}
+use Rattle.salt_storage.specs.OpenErr.{OpenErr}
 use Rattle.salt_place.specs.declared.placement.Shape.{Shape}
 use Rattle.std.proofs.Common.{ap, arith, eq-or-lt_of_le, inl, inr, subst, sym, ◌∙◌}
 use Rattle.std.specs.Prelude.{Bool, Err, List, Ok, Option, Result, Some, false, option_map, refl, suc, true, zero, ℕ, ◌+◌, ◌<◌, ◌∷◌, ◌≡◌, ◌⊎◌}
@@ -200,4 +201,7 @@ blank-opens shape bytes blank h = by h.refusal h.some h.is
     by (NotSalt dev) some (inr (inr o)) = let both : BothBlank ≡ Counts o.which o.log = sym blank ∙ o.counts in absurd (cc both)
     by (OtherShape kept asked) some is = let both : Stands (nothing_found shape) ≡ opening.OtherShape kept asked = sym opens ∙ is in absurd (cc both)
     by (NumbersSpent boot decisions) some is = let both : Stands (nothing_found shape) ≡ opening.NumbersSpent boot decisions = sym opens ∙ is in absurd (cc both)
-    by (Halted e) some is = absurd some
+    by open_err.Failed some is = absurd some
+    by open_err.Stopped some is = absurd some
+    by (open_err.Full dev) some is = absurd some
+    by open_err.Memory some is = absurd some

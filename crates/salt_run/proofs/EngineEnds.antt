@@ -70,9 +70,8 @@ use Rattle.salt_storage.specs.Staying.{Setup}
 use Rattle.salt_storage.specs.Storing.{IsSoundKept}
 use Rattle.salt_storage.specs.Writing.{OfOpening, ToWrite}
 use Rattle.salt_storage.specs.declared.found.Numbers.{Numbers}
-use Rattle.salt_storage.specs.declared.halt.Halt.TheVariants as halt
-use Rattle.salt_storage.specs.declared.open.OpenErr.{OpenErr}
-use Rattle.salt_storage.specs.declared.open.OpenErr.TheVariants as open_err
+use Rattle.salt_storage.specs.OpenErr.{OpenErr}
+use Rattle.salt_storage.specs.OpenErr.TheVariants as open_err
 use Rattle.salt_workload.specs.Summary.{summary_text}
 use Rattle.salt_place.specs.declared.placement.Shape.{Shape}
 use Rattle.salt_promise.specs.declared.command.Command.{Command}
@@ -100,7 +99,7 @@ may-end room p status h = tt
 
 -- WHAT IS REFUSED
 
-pub refused-so : (d : View) (shape : Shape) (reason r : OpenErr) → reason ≡ r → (r ≡ open_err.Halted halt.Memory → ⊥) → Refuses d true shape reason ⊎ (reason ≡ open_err.Halted halt.Memory) → Refuses d true shape r
+pub refused-so : (d : View) (shape : Shape) (reason r : OpenErr) → reason ≡ r → (r ≡ open_err.Memory → ⊥) → Refuses d true shape reason ⊎ (reason ≡ open_err.Memory) → Refuses d true shape r
 refused-so d shape reason r is other (inl h) = subst (Refuses d true shape) is h
 refused-so d shape reason r is other (inr m) = absurd (other (sym is ∙ m))
 
@@ -118,10 +117,10 @@ as-before d e reason status how k = record { images = λ dev. k.images dev (λ x
     of-reason (open_err.NotSalt dev) k h = same-as-before d e k.shape k.kept
     of-reason (open_err.OtherShape kept asked) k h = same-as-before d e k.shape k.kept
     of-reason (open_err.NumbersSpent boot decisions) k h = same-as-before d e k.shape k.kept
-    of-reason (open_err.Halted halt.Stopped) k h = never h
-    of-reason (open_err.Halted halt.DiskFault) k h = never h
-    of-reason (open_err.Halted (halt.DeviceFull dev)) k h = same-as-before d e k.shape k.kept
-    of-reason (open_err.Halted halt.Memory) k h = same-as-before d e k.shape k.kept
+    of-reason open_err.Stopped k h = never h
+    of-reason open_err.Failed k h = never h
+    of-reason (open_err.Full dev) k h = same-as-before d e k.shape k.kept
+    of-reason open_err.Memory k h = same-as-before d e k.shape k.kept
 
     by : (r : OpenErr) → IsStatusOf r status → KeepsAll d e (open_disk_err_of r) → may_have_failed status ≡ false → AreUnchanged d e
     by r (inl same) k h = of-reason r k (ap may_have_failed (sym same) ∙ h)
@@ -155,7 +154,7 @@ module _ (command : Command) (d : View) (started0 : Bool) (shape0 : Shape) (was 
     finds-then : (k : Kept) → Finds d true (shape_of command) k → Finds d started0 shape0 k
     finds-then k h = subst (λ (s : Shape). Finds d started0 s k) (sym asked0) (subst (λ (b : Bool). Finds d b (shape_of command) k) (sym was) h)
 
-    was-refused : Refuses d true (shape_of command) reason ⊎ (reason ≡ open_err.Halted halt.Memory)
+    was-refused : Refuses d true (shape_of command) reason ⊎ (reason ≡ open_err.Memory)
     was-refused = elim x.refused [ inl h ↦ inl (refuses-first reason h) | inr m ↦ inr m ]
 
     pub nothing : (status : Status) (f : Option Flight) (s : Streams) → IsStatusOf reason status → IsUnfound story → ((start : Start) → WellKept start.kept → Replays command status f s story start) →
@@ -401,19 +400,19 @@ unfound-status reason old status is (inr w) = inr (w.0, λ m. w.1 (is ∙ ap sta
 
 -- WHAT IS COUNTED, over what was found and behind it
 
-memory-reason : (reason : OpenErr) → (reason ≡ open_err.Halted halt.Stopped → ⊥) → status_opening reason ≡ Memory → reason ≡ open_err.Halted halt.Memory
+memory-reason : (reason : OpenErr) → (reason ≡ open_err.Stopped → ⊥) → status_opening reason ≡ Memory → reason ≡ open_err.Memory
 memory-reason (open_err.NotSalt dev) never is = absurd cc
 memory-reason (open_err.OtherShape kept asked) never is = absurd cc
 memory-reason (open_err.NumbersSpent boot decisions) never is = absurd cc
-memory-reason (open_err.Halted halt.Stopped) never is = absurd (never refl)
-memory-reason (open_err.Halted halt.DiskFault) never is = absurd cc
-memory-reason (open_err.Halted (halt.DeviceFull dev)) never is = absurd cc
-memory-reason (open_err.Halted halt.Memory) never is = refl
+memory-reason open_err.Stopped never is = absurd (never refl)
+memory-reason open_err.Failed never is = absurd cc
+memory-reason (open_err.Full dev) never is = absurd cc
+memory-reason open_err.Memory never is = refl
 
 pub found-counts : (d mid e : View) (status : Status) (told story : List Event) → CountsOpening d mid None [] told → CountsAdded mid e status told story → CountsRun d e status story
 found-counts d mid e status told story g h = run-added d mid e status told story (run-opened d mid Done told g) h
 
-pub unfound-counts : (d e : View) (reason : OpenErr) (status : Status) (story : List Event) → (reason ≡ open_err.Halted halt.Stopped → ⊥) → CountsOpening d e (open_disk_err_of reason) [] story →
+pub unfound-counts : (d e : View) (reason : OpenErr) (status : Status) (story : List Event) → (reason ≡ open_err.Stopped → ⊥) → CountsOpening d e (open_disk_err_of reason) [] story →
     IsStatusOf reason status → CountsRun d e status story
 unfound-counts d e reason status story never g how = by how
   where
@@ -426,7 +425,7 @@ unfound-counts d e reason status story never g how = by how
         subst (λ (t : Status). CountsRun d e t story) (sym w.0) (run-unwritten d e (status_opening reason) story (λ m. w.1 (memory-reason reason never m)) first)
 
 -- each stop was armed before it came, where nothing was found
-pub unfound-stops : (d e : View) (reason : OpenErr) (status : Status) (story : List Event) → (reason ≡ open_err.Halted halt.Stopped → ⊥) → CountsOpening d e (open_disk_err_of reason) [] story →
+pub unfound-stops : (d e : View) (reason : OpenErr) (status : Status) (story : List Event) → (reason ≡ open_err.Stopped → ⊥) → CountsOpening d e (open_disk_err_of reason) [] story →
     IsStatusOf reason status → Stops status (armed_behind story (Some d.armed)) e.armed
 unfound-stops d e reason status story never g how = by how
   where

@@ -29,11 +29,12 @@ use Rattle.salt_stands.proofs.Pairs.{pair_same}
 use Rattle.salt_stands.specs.CoordinatorLog.{coordinator_generation, coordinator_in}
 use Rattle.salt_stands.specs.Stands as opening
 use Rattle.salt_stands.specs.Stands.{Opening, logs_of}
-use Rattle.salt_storage.specs.Answers.{IsLater, IsRefusal}
+use Rattle.salt_storage.specs.Answers.{IsLater, IsRefusal, halted_by}
 use Rattle.salt_storage.specs.declared.halt.Halt.TheVariants as halt
 use Rattle.salt_storage.specs.declared.halt.Halt.{Halt}
-use Rattle.salt_storage.specs.declared.open.OpenErr.TheVariants.{Halted, NotSalt, NumbersSpent, OtherShape}
-use Rattle.salt_storage.specs.declared.open.OpenErr.{OpenErr}
+use Rattle.salt_storage.specs.OpenErr.TheVariants as open_err
+use Rattle.salt_storage.specs.OpenErr.TheVariants.{NotSalt, NumbersSpent, OtherShape}
+use Rattle.salt_storage.specs.OpenErr.{OpenErr}
 use Rattle.salt_place.specs.Placement.{IsParts}
 use Rattle.salt_place.specs.declared.placement.Shape.{Shape}
 use Rattle.salt_promise.specs.declared.command.Command.{Command}
@@ -50,7 +51,7 @@ record EndsAnyway (status : Status) : Type 0 where
   shape : (kept asked : Shape) → EndsRefused (opening.OtherShape kept asked) status
   numbers : (boot decisions : ℕ) → EndsRefused (opening.NumbersSpent boot decisions) status
 
-ends-anyway : (e : Halt) (status : Status) → IsStatusOf (Halted e) status → ((dev : ℕ) → status ≡ DeviceFull dev → ⊥) → EndsAnyway status
+ends-anyway : (e : Halt) (status : Status) → IsStatusOf (halted_by e) status → ((dev : ℕ) → status ≡ DeviceFull dev → ⊥) → EndsAnyway status
 ends-anyway e status (inr w) full = subst EndsAnyway (sym w.0) (record { salt = λ dev. tt; shape = λ kept asked. tt; numbers = λ boot decisions. tt })
 ends-anyway halt.Stopped status (inl is) full = subst EndsAnyway (sym is) (record { salt = λ dev. tt; shape = λ kept asked. tt; numbers = λ boot decisions. tt })
 ends-anyway halt.DiskFault status (inl is) full = subst EndsAnyway (sym is) (record { salt = λ dev. tt; shape = λ kept asked. tt; numbers = λ boot decisions. tt })
@@ -94,8 +95,8 @@ module _ (reads : IsReader definition_in) (r : Run) (command : Command) (parts :
         by true told = refused (NumbersSpent boot decisions) is tt (x.unwritten (NumbersSpent boot decisions) tt of told).1
         by false none = silent none x.empty
 
-    module _ (e : Halt) (is : x.reason ≡ Halted e) where
-      status : IsStatusOf (Halted e) r.status
+    module _ (e : Halt) (is : x.reason ≡ halted_by e) where
+      status : IsStatusOf (halted_by e) r.status
       status = subst (λ (o : OpenErr). IsStatusOf o r.status) is x.is
 
       -- they open
@@ -128,7 +129,10 @@ module _ (reads : IsReader definition_in) (r : Run) (command : Command) (parts :
         by-refusal (NotSalt dev) some so = answer (opening.NotSalt dev) (answers-salt reads (shape_of command) r.before.devices.bytes dev so) (ends.salt dev)
         by-refusal (OtherShape kept asked) some so = answer (opening.OtherShape kept asked) (answers-shape reads (shape_of command) r.before.devices.bytes kept asked so) (ends.shape kept asked)
         by-refusal (NumbersSpent boot decisions) some so = answer (opening.NumbersSpent boot decisions) (answers-spent reads (shape_of command) r.before.devices.bytes boot decisions so) (ends.numbers boot decisions)
-        by-refusal (Halted e) some so = absurd some
+        by-refusal open_err.Failed some so = absurd some
+        by-refusal open_err.Stopped some so = absurd some
+        by-refusal (open_err.Full dev) some so = absurd some
+        by-refusal open_err.Memory some so = absurd some
 
       of-halt : Goes
       of-halt = by r.before.devices.told refl
@@ -141,7 +145,10 @@ module _ (reads : IsReader definition_in) (r : Run) (command : Command) (parts :
     found-nothing (NotSalt dev) is = refused (NotSalt dev) is tt (at-once (NotSalt dev) is (λ later. later))
     found-nothing (OtherShape kept asked) is = refused (OtherShape kept asked) is tt (at-once (OtherShape kept asked) is (λ later. later))
     found-nothing (NumbersSpent boot decisions) is = of-numbers boot decisions is
-    found-nothing (Halted e) is = of-halt e is
+    found-nothing open_err.Failed is = of-halt halt.DiskFault is
+    found-nothing open_err.Stopped is = of-halt halt.Stopped is
+    found-nothing (open_err.Full dev) is = of-halt (halt.DeviceFull dev) is
+    found-nothing open_err.Memory is = of-halt halt.Memory is
 
   pub goes : Runs command r.before.devices r.after.devices r.status r.flight r.net (streams_of r) r.story → Goes
   goes (inl x) = inr (over r reads command parts count agrees x.may x (does x.replays.trace x.replays.does))

@@ -25,9 +25,8 @@ use Rattle.salt_loop.specs.Stopping.{status_opening}
 use Rattle.salt_stands.specs.Stands as opening
 use Rattle.salt_stands.specs.Stands.{Opening}
 use Rattle.salt_storage.specs.Answers.{IsRefusal}
-use Rattle.salt_storage.specs.declared.halt.Halt.TheVariants as halt
-use Rattle.salt_storage.specs.declared.open.OpenErr.TheVariants as open_err
-use Rattle.salt_storage.specs.declared.open.OpenErr.{OpenErr}
+use Rattle.salt_storage.specs.OpenErr.TheVariants as open_err
+use Rattle.salt_storage.specs.OpenErr.{OpenErr}
 use Rattle.salt_place.specs.Placement.{IsParts}
 use Rattle.salt_promise.specs.declared.command.Command.{Command}
 use Rattle.std.proofs.Common.{ap, inl, inr, subst, sym, ◌∙◌}
@@ -86,7 +85,7 @@ module _ (r : Run) (command : Command) (does : (trace : Trace) → Does command 
   module _ (reads : IsReader definition_in) (parts : IsParts (shape_of command).parts) (count : 26 ≤ r.before.devices.count)
       (x : FindsNothing command r.before.devices r.after.devices r.status r.flight r.net (streams_of r) r.story) (empty : r.story ≡ []) where
     -- its refusal, by the bytes that were there
-    module _ (reason : OpenErr) (is : x.reason ≡ reason) (some : reason ≡ open_err.Halted halt.Memory → ⊥) (refusal : IsRefusal reason) where
+    module _ (reason : OpenErr) (is : x.reason ≡ reason) (some : reason ≡ open_err.Memory → ⊥) (refusal : IsRefusal reason) where
       refused : Refuses r.before.devices true (shape_of command) reason
       refused = refused-so r.before.devices (shape_of command) x.reason reason is some x.refused
 
@@ -106,4 +105,7 @@ module _ (r : Run) (command : Command) (does : (trace : Trace) → Does command 
     by-reason (open_err.NotSalt dev) is h = by-answer (open_err.NotSalt dev) is (λ m. cc) h (opening.NotSalt dev) (λ bytes. answers-salt reads (shape_of command) bytes dev) refl tt
     by-reason (open_err.OtherShape kept asked) is h = by-answer (open_err.OtherShape kept asked) is (λ m. cc) h (opening.OtherShape kept asked) (λ bytes. answers-shape reads (shape_of command) bytes kept asked) refl tt
     by-reason (open_err.NumbersSpent boot decisions) is h = by-answer (open_err.NumbersSpent boot decisions) is (λ m. cc) h (opening.NumbersSpent boot decisions) (λ bytes. answers-spent reads (shape_of command) bytes boot decisions) refl tt
-    by-reason (open_err.Halted e) is h = absurd h
+    by-reason open_err.Failed is h = absurd h
+    by-reason open_err.Stopped is h = absurd h
+    by-reason (open_err.Full dev) is h = absurd h
+    by-reason open_err.Memory is h = absurd h

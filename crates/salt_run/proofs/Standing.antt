@@ -11,9 +11,9 @@ use Rattle.salt_partition.specs.Openings.{are_some}
 use Rattle.salt_promise.proofs.Opens.{opens}
 use Rattle.salt_promise.specs.Standing.{AnswersTo, IsReader, NamesPages, OpenAs, StandFor}
 use Rattle.salt_stands.specs.Stands as opening
-use Rattle.salt_stands.specs.Stands.{Opening, are_spent}
-use Rattle.salt_storage.specs.declared.open.OpenErr.TheVariants as open_err
-use Rattle.salt_storage.specs.declared.open.OpenErr.{OpenErr}
+use Rattle.salt_stands.specs.Stands.{are_spent}
+use Rattle.salt_storage.specs.OpenErr.TheVariants as open_err
+use Rattle.salt_storage.specs.OpenErr.{OpenErr}
 use Rattle.salt_place.specs.Placement.{IsParts}
 use Rattle.salt_place.specs.declared.placement.Shape.{Shape}
 use Rattle.std.proofs.Common.{arith, inl, inr, sym, ◌∙◌}

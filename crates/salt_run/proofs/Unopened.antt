@@ -1,4 +1,5 @@
 -- A run that ends in its first opening, over devices that open or do not tell: it is as promised.
+use Rattle.salt_storage.specs.Answers.{halted_by}
 use Rattle.law_definitions.specs.Texts.{definition_in}
 use Rattle.salt_devices.specs.Leaving.{StandsFor}
 use Rattle.salt_disk.specs.Disks.{IsImage}
@@ -42,9 +43,8 @@ use Rattle.salt_stands.specs.Turning.{turning}
 use Rattle.salt_driver.specs.Opening.{fallen_often, start_over}
 use Rattle.salt_storage.specs.declared.halt.Halt.TheVariants as halt
 use Rattle.salt_storage.specs.declared.halt.Halt.{Halt}
-use Rattle.salt_storage.specs.declared.open.OpenErr.TheVariants as open_err
-use Rattle.salt_storage.specs.declared.open.OpenErr.TheVariants.{Halted}
-use Rattle.salt_storage.specs.declared.open.OpenErr.{OpenErr}
+use Rattle.salt_storage.specs.OpenErr.TheVariants as open_err
+use Rattle.salt_storage.specs.OpenErr.{OpenErr}
 use Rattle.salt_promise.specs.declared.command.Command.{Command}
 use Rattle.std.proofs.Common.{ap, arith, inl, inr, subst, sym, ◌∙◌}
 use Rattle.std.specs.Prelude.{Bool, IfSome, IsTrue, List, None, Option, Some, [], false, if◌then◌else◌, refl, suc, true, zero, ℕ, ◌&&◌, ◌+◌, ◌++◌, ◌∷◌, ◌≡◌}
@@ -103,7 +103,7 @@ pub record IsEndOver (k : Kept) (status : Status) : Type 0 where
 halted-as : (k : Kept) (status same : Status) → status ≡ same → IsEndOver k same → IsEndOver k status
 halted-as k status same is h = subst (IsEndOver k) (sym is) h
 
-pub halted : (k : Kept) (e : Halt) (status : Status) → IsStatusOf (Halted e) status → IsEndOver k status
+pub halted : (k : Kept) (e : Halt) (status : Status) → IsStatusOf (halted_by e) status → IsEndOver k status
 halted k e status (inr w) = halted-as k status WriteFault w.0 (record { may = tt; numbers = tt; spent = λ boot decisions is. absurd (cc is) })
 halted k halt.Stopped status (inl is) = halted-as k status DiskFault is (record { may = tt; numbers = tt; spent = λ boot decisions is. absurd (cc is) })
 halted k halt.DiskFault status (inl is) = halted-as k status DiskFault is (record { may = tt; numbers = tt; spent = λ boot decisions is. absurd (cc is) })
@@ -130,10 +130,10 @@ unfound-between reason status (inl is) = ap ends_between is ∙ by reason
     by (open_err.NotSalt dev) = refl
     by (open_err.OtherShape kept asked) = refl
     by (open_err.NumbersSpent boot decisions) = refl
-    by (Halted halt.Stopped) = refl
-    by (Halted halt.DiskFault) = refl
-    by (Halted (halt.DeviceFull dev)) = refl
-    by (Halted halt.Memory) = refl
+    by open_err.Failed = refl
+    by open_err.Stopped = refl
+    by (open_err.Full dev) = refl
+    by open_err.Memory = refl
 
 none-left : (command : Command) (status : Status) (trace : Trace) → ends_between status ≡ false → net_left command status trace ≡ None
 none-left command status trace is = by (over_net_of command) (ends_between status) is

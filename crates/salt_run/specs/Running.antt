@@ -1,4 +1,5 @@
 -- What a run has to be: its start, its trace, what it writes, and what it leaves.
+use Rattle.salt_storage.specs.OpenErr.TheVariants as opening
 use Rattle.salt_devices.specs.Filling.{FillsIn}
 use Rattle.salt_devices.specs.Refusing.{Finds, Refuses}
 use Rattle.salt_disk.specs.Disks.{IsImage, View}
@@ -29,9 +30,7 @@ use Rattle.salt_driver.specs.Opening.{IsUnfound}
 use Rattle.salt_storage.specs.Answers.{IsLater, IsRefusal}
 use Rattle.salt_storage.specs.Storing.{IsSoundKept}
 use Rattle.salt_storage.specs.Writing.{OfOpening}
-use Rattle.salt_storage.specs.declared.halt.Halt.TheVariants as halt
-use Rattle.salt_storage.specs.declared.open.OpenErr.TheVariants.{Halted}
-use Rattle.salt_storage.specs.declared.open.OpenErr.{OpenErr}
+use Rattle.salt_storage.specs.OpenErr.{OpenErr}
 use Rattle.salt_promise.specs.declared.command.Command.{Command}
 use Rattle.std.specs.Prelude.{IsTrue, List, None, Option, Some, [], false, true, ℕ, ◌≡◌, ◌⊎◌}
 
@@ -75,7 +74,7 @@ pub record FindsNothing (command : Command) (old new : View) (status : Status) (
   pub reason : OpenErr
   pub none : net ≡ None
   pub is : IsStatusOf reason status
-  pub refused : Refuses old true (shape_of command) reason ⊎ (reason ≡ Halted halt.Memory)
+  pub refused : Refuses old true (shape_of command) reason ⊎ (reason ≡ opening.Memory)
   pub unfound : IsUnfound story
   pub empty : (story ≡ []) ⊎ IsLater reason
   pub replays : (start : Start) → WellKept start.kept → Replays command status flight s story start

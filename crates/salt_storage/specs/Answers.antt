@@ -2,13 +2,15 @@
 use Rattle.salt_disk.specs.Disks.{KeepsAll, View}
 use Rattle.salt_disk.specs.declared.disks.DiskErr.TheVariants as disk
 use Rattle.salt_disk.specs.declared.disks.DiskErr.{DiskErr}
+pub use Rattle.salt_gatelog.specs.Answers.{open_disk_err, open_disk_err_of}
 use Rattle.salt_model.specs.Kept.{Kept}
 use Rattle.salt_stands.specs.Stands.{are_spent}
 use Rattle.salt_storage.specs.declared.found.Numbers.{Numbers}
 use Rattle.salt_storage.specs.declared.halt.Halt.TheVariants.{DeviceFull, DiskFault, Memory, Stopped}
 use Rattle.salt_storage.specs.declared.halt.Halt.{Halt}
-use Rattle.salt_storage.specs.declared.open.OpenErr.TheVariants.{Halted, NotSalt, NumbersSpent, OtherShape}
-use Rattle.salt_storage.specs.declared.open.OpenErr.{OpenErr}
+use Rattle.salt_gatelog.specs.declared.unopened.OpenErr.TheVariants.{NotSalt, NumbersSpent, OtherShape}
+use Rattle.salt_gatelog.specs.declared.unopened.OpenErr.TheVariants as opening
+use Rattle.salt_gatelog.specs.declared.unopened.OpenErr.{OpenErr}
 use Rattle.std.specs.Prelude.{Err, None, Ok, Option, Result, Some, true, ℕ, ⊤, ◌≡◌, ◌⊎◌}
 
 -- what the device call answered that broke off, or would have for want of memory
@@ -22,16 +24,12 @@ abbrev pub disk_err : {T : Type 0} → Result T Halt → Option DiskErr
 disk_err (Ok x) = None
 disk_err (Err e) = Some (disk_err_of e)
 
--- of an opening: a refusal is no answer of a device
-abbrev pub open_disk_err_of : OpenErr → Option DiskErr
-open_disk_err_of (NotSalt dev) = None
-open_disk_err_of (OtherShape kept asked) = None
-open_disk_err_of (NumbersSpent boot decisions) = None
-open_disk_err_of (Halted e) = Some (disk_err_of e)
-
-abbrev pub open_disk_err : {T : Type 0} → Result T OpenErr → Option DiskErr
-open_disk_err (Ok x) = None
-open_disk_err (Err e) = open_disk_err_of e
+-- why an opening ends where a line would halt
+abbrev pub halted_by : Halt → OpenErr
+halted_by Stopped = opening.Stopped
+halted_by DiskFault = opening.Failed
+halted_by (DeviceFull dev) = opening.Full dev
+halted_by Memory = opening.Memory
 
 -- the one or the other is all that a stop may leave, and these are its numbers, which are spent
 pub record IsSpent (rests : Kept → Type 0) (a b : Kept) (boot decisions : ℕ) : Type 0 where
@@ -47,21 +45,21 @@ abbrev pub MayFail : (rests : Kept → Type 0) → (a b : Kept) → OpenErr → 
 MayFail rests a b (NotSalt dev) = ⊥
 MayFail rests a b (OtherShape kept asked) = ⊥
 MayFail rests a b (NumbersSpent boot decisions) = IsSpent rests a b boot decisions
-MayFail rests a b (Halted e) = ⊤
+MayFail rests a b e = ⊤
 
 -- where an opening finds what it may find, only spent numbers or a halt keep it from being opened
 abbrev pub IsLater : OpenErr → Type 0
 IsLater (NotSalt dev) = ⊥
 IsLater (OtherShape kept asked) = ⊥
 IsLater (NumbersSpent boot decisions) = are_spent boot decisions ≡ true
-IsLater (Halted halt) = ⊤
+IsLater e = ⊤
 
 -- an opening refuses what it has come upon
 abbrev pub IsRefusal : OpenErr → Type 0
 IsRefusal (NotSalt dev) = ⊤
 IsRefusal (OtherShape kept asked) = ⊤
 IsRefusal (NumbersSpent boot decisions) = ⊤
-IsRefusal (Halted halt) = ⊥
+IsRefusal e = ⊥
 
 -- it has written nothing, so no stop has come
 pub record WritesNothing (old new : View) (answer : Option DiskErr) : Type 0 where

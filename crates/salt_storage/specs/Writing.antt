@@ -1,7 +1,7 @@
 -- What is written next.
 use Rattle.salt_bytes.specs.declared.moves.Move.{Move}
 use Rattle.salt_model.specs.Kept.{Kept}
-use Rattle.salt_storage.specs.declared.open.OpenErr.{OpenErr}
+use Rattle.salt_gatelog.specs.declared.unopened.OpenErr.{OpenErr}
 use Rattle.salt_values.specs.declared.change.Change.{Change}
 use Rattle.salt_values.specs.declared.id.Id.{Id}
 use Rattle.std.specs.Prelude.{List, ℕ}

@@ -1,10 +1,11 @@
 //! Why a line or an opening is broken off.
 
 ghost use Rattle.std.specs.Prelude.{◌≡◌};
-ghost use Rattle.salt_storage.specs.Answers.{disk_err_of};
+ghost use Rattle.salt_storage.specs.Answers.{disk_err_of, halted_by};
 ghost use Rattle.salt_storage.specs.declared.halt.Halt.TheVariants.{Memory};
 
 use salt_disk::DiskErr;
+use salt_gatelog::OpenErr;
 use std::alloc::AllocError;
 use thiserror::Error;
 
@@ -38,6 +39,19 @@ impl From<DiskErr> for Halt {
             DiskErr::Failed => Halt::DiskFault,
             DiskErr::Full(dev) => Halt::DeviceFull(dev),
             DiskErr::Memory => Halt::Memory,
+        }
+    }
+}
+
+impl From<Halt> for OpenErr {
+    ghost from_gives = { λ halt e. e ≡ halted_by halt };
+
+    fn from(halt: Halt) -> Self {
+        match halt {
+            Halt::Stopped => OpenErr::Stopped,
+            Halt::DiskFault => OpenErr::Failed,
+            Halt::DeviceFull(dev) => OpenErr::Full(dev),
+            Halt::Memory => OpenErr::Memory,
         }
     }
 }

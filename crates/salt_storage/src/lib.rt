@@ -3,10 +3,9 @@
 
 mod found;
 mod halt;
-mod open;
 mod storage;
 
 pub use found::{Found, Numbers};
 pub use halt::Halt;
-pub use open::OpenErr;
+pub use salt_gatelog::OpenErr;
 pub use storage::Storage;

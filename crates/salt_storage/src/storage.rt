@@ -11,8 +11,8 @@ ghost use Rattle.salt_storage.specs.Netted.{net_armed, net_begun, net_committed}
 ghost use Rattle.salt_storage.specs.Staying.{Setup, StaysWithin};
 ghost use Rattle.salt_storage.specs.Storing.{IsFound, IsPartOf, IsSoundKept, MayDecide, MayDefine, Reopens, booted, decided, defined};
 ghost use Rattle.salt_storage.specs.Writing.{FindsNoMore, OfBoot, OfDefinition, OfOpening, OfUnit, ToWrite};
-ghost use Rattle.salt_storage.specs.declared.halt.Halt.TheVariants.{DeviceFull, Stopped};
-ghost use Rattle.salt_storage.specs.declared.open.OpenErr.{OpenErr};
+ghost use Rattle.salt_storage.specs.declared.halt.Halt.TheVariants.{DeviceFull};
+ghost use Rattle.salt_gatelog.specs.declared.unopened.OpenErr.{OpenErr};
 ghost use Rattle.salt_stands.specs.Stands.{are_spent};
 ghost use Rattle.salt_values.specs.Id.{is_same_id};
 ghost use Rattle.salt_place.specs.Placement.{GivesPlaceOf, TakesEachKey};
@@ -22,10 +22,10 @@ ghost use Rattle.std.specs.Prelude.{Err, IfErr, IfOk, IsTrue, List, OnErr, OnOk,
 
 use crate::found::{Found, Numbers};
 use crate::halt::Halt;
-use crate::open::OpenErr;
 use salt_bytes::Move;
 use salt_disk::Disks;
 use salt_eval::Tables;
+use salt_gatelog::OpenErr;
 use salt_model::Reach;
 use salt_net::Net;
 use salt_place::{PlaceKind, Placement};
@@ -91,12 +91,12 @@ pub trait Storage {
         ensures still { OnErr result (FindsNoMore (refuses (D.view disks.old) self.old) (finds (D.view disks.old) self.old) (refuses (D.view disks.new) self.new) (finds (D.view disks.new) self.new)) }
         ensures rests { OnErr result ((k : Kept) → finds (D.view disks.old) self.old k → rests (D.view disks.new) self.new k) }
         ensures unopened { OnErr result (unopened self.new) }
-        ensures tried { result ≡ Err (OpenErr.Halted Stopped) → tried (D.view disks.new) self.new }
+        ensures tried { result ≡ Err OpenErr.Stopped → tried (D.view disks.new) self.new }
         ensures later { tried (D.view disks.old) self.old → IfErr result IsLater }
         ensures unwritten { (refusal : OpenErr) → IsRefusal refusal → refuses (D.view disks.old) self.old refusal → IsTrue (D.view disks.old).told
             → WritesNothing (D.view disks.old) (D.view disks.new) (open_disk_err result) }
         ensures able { OnErr result (able (D.view disks.new) self.new) }
-        ensures full { (dev : ℕ) → result ≡ Err (OpenErr.Halted (DeviceFull dev)) → fills (D.view disks.new) self.new OfOpening dev }
+        ensures full { (dev : ℕ) → result ≡ Err (OpenErr.Full dev) → fills (D.view disks.new) self.new OfOpening dev }
         ensures net { OnOk result (net self.new ≡ net_begun (asked self.new)) }
         ensures within { StaysWithin (asked self.old) (asked self.new) (D.view disks.old) (D.view disks.new) }
         ensures cause { HasCause (D.view disks.old) (D.view disks.new) (open_disk_err result) };
@@ -116,7 +116,7 @@ pub trait Storage {
         ensures numbers { IfOk result (λ found. are_spent found.boot found.decisions ≡ false) }
         ensures leaves { OnErr result ((a b : Kept) → leaves (D.view disks.old) self.old a b → leaves (D.view disks.new) self.new a b) }
         ensures known { IfErr result (λ e. (a b : Kept) → leaves (D.view disks.old) self.old a b → MayFail (rests (D.view disks.new) self.new) a b e) }
-        ensures full { (dev : ℕ) → result ≡ Err (OpenErr.Halted (DeviceFull dev)) → ⊥ }
+        ensures full { (dev : ℕ) → result ≡ Err (OpenErr.Full dev) → ⊥ }
         ensures net { OnOk result (net self.new ≡ net_begun (asked self.new)) }
         ensures within { StaysWithin (asked self.old) (asked self.new) (D.view disks.old) (D.view disks.new) }
         ensures cause { HasCause (D.view disks.old) (D.view disks.new) (open_disk_err result) };

@@ -2,7 +2,7 @@ use Rattle.salt_commit.proofs.Beginning.{begins, begun_image, begun_unnamed, bla
 use Rattle.salt_commit.proofs.Limits.{decisions_full, parts_full}
 use Rattle.salt_commit.proofs.open.begin_store.Goals as goal
 use Rattle.salt_commit.specs.Stores.{reading}
-use Rattle.salt_decisions.specs.Errors.{open_err}
+use Rattle.salt_gatelog.specs.Answers.{open_disk_err}
 use Rattle.std.proofs.Common.{Err, None, Some, ap, arith, ◌<◌, ◌∙◌}
 use Rattle.std.proofs.lemmas.Result.{err_from_is_err_and}
 use Rattle.std.specs.Result.{result_err}
@@ -25,7 +25,7 @@ returns-in_err-decisions-clause-images g c told image left =
     let keeps = c.in_ok-parts.ensures.others in
     let known : 1 < b.count = omega (arith, c.requires.room.known 0 (omega (arith, c.requires.parts.0)), keeps.shape.count) in
     let blank = still_blank d b c.args.shape.parts keeps.kept (c.requires.blank told) in
-    begun_image reading c.args.shape c.requires.parts b (g.D.Disks.view c.open_decisions.new.disks) (open_err c.open_decisions.result) c.open_decisions.ensures.others c.in_ok-parts.parts.items c.in_ok-parts.ensures.made.0 c.in_ok-parts.ensures.made.1 (keeps.shape.told ∙ told) known
+    begun_image reading c.args.shape c.requires.parts b (g.D.Disks.view c.open_decisions.new.disks) (open_disk_err c.open_decisions.result) c.open_decisions.ensures.others c.in_ok-parts.parts.items c.in_ok-parts.ensures.made.0 c.in_ok-parts.ensures.made.1 (keeps.shape.told ∙ told) known
     (c.open_decisions.ensures.images_a blank) (c.open_decisions.ensures.images_b blank) image left
 
 pub returns-in_err-decisions-clause-others : goal.returns-in_err-decisions-clause-others
@@ -45,7 +45,7 @@ returns-clause-images g c told image left =
     let keeps = c.in_ok-parts.ensures.others in
     let known : 1 < b.count = omega (arith, c.requires.room.known 0 (omega (arith, c.requires.parts.0)), keeps.shape.count) in
     let blank = still_blank d b c.args.shape.parts keeps.kept (c.requires.blank told) in
-    begun_image reading c.args.shape c.requires.parts b (g.D.Disks.view c.open_decisions.new.disks) (open_err c.open_decisions.result) c.open_decisions.ensures.others c.in_ok-parts.parts.items c.in_ok-parts.ensures.made.0 c.in_ok-parts.ensures.made.1 (keeps.shape.told ∙ told) known
+    begun_image reading c.args.shape c.requires.parts b (g.D.Disks.view c.open_decisions.new.disks) (open_disk_err c.open_decisions.result) c.open_decisions.ensures.others c.in_ok-parts.parts.items c.in_ok-parts.ensures.made.0 c.in_ok-parts.ensures.made.1 (keeps.shape.told ∙ told) known
     (c.open_decisions.ensures.images_a blank) (c.open_decisions.ensures.images_b blank) image left
 
 pub returns-clause-others : goal.returns-clause-others
@@ -65,7 +65,7 @@ returns-in_err-decisions-clause-pages g c told image left dev leaves =
     let keeps = c.in_ok-parts.ensures.others in
     let known : 1 < b.count = omega (arith, c.requires.room.known 0 (omega (arith, c.requires.parts.0)), keeps.shape.count) in
     let blank = still_blank d b c.args.shape.parts keeps.kept (c.requires.blank told) in
-    begun_unnamed reading c.args.shape c.requires.parts b (g.D.Disks.view c.open_decisions.new.disks) (open_err c.open_decisions.result) c.open_decisions.ensures.others c.in_ok-parts.parts.items c.in_ok-parts.ensures.made.0 c.in_ok-parts.ensures.made.1 (keeps.shape.told ∙ told) known
+    begun_unnamed reading c.args.shape c.requires.parts b (g.D.Disks.view c.open_decisions.new.disks) (open_disk_err c.open_decisions.result) c.open_decisions.ensures.others c.in_ok-parts.parts.items c.in_ok-parts.ensures.made.0 c.in_ok-parts.ensures.made.1 (keeps.shape.told ∙ told) known
     (c.open_decisions.ensures.images_a blank) (c.open_decisions.ensures.images_b blank) image left dev leaves
 
 pub returns-clause-pages : goal.returns-clause-pages
@@ -75,7 +75,7 @@ returns-clause-pages g c told image left dev leaves =
     let keeps = c.in_ok-parts.ensures.others in
     let known : 1 < b.count = omega (arith, c.requires.room.known 0 (omega (arith, c.requires.parts.0)), keeps.shape.count) in
     let blank = still_blank d b c.args.shape.parts keeps.kept (c.requires.blank told) in
-    begun_unnamed reading c.args.shape c.requires.parts b (g.D.Disks.view c.open_decisions.new.disks) (open_err c.open_decisions.result) c.open_decisions.ensures.others c.in_ok-parts.parts.items c.in_ok-parts.ensures.made.0 c.in_ok-parts.ensures.made.1 (keeps.shape.told ∙ told) known
+    begun_unnamed reading c.args.shape c.requires.parts b (g.D.Disks.view c.open_decisions.new.disks) (open_disk_err c.open_decisions.result) c.open_decisions.ensures.others c.in_ok-parts.parts.items c.in_ok-parts.ensures.made.0 c.in_ok-parts.ensures.made.1 (keeps.shape.told ∙ told) known
     (c.open_decisions.ensures.images_a blank) (c.open_decisions.ensures.images_b blank) image left dev leaves
 
 pub returns-in_err-parts-clause-full : goal.returns-in_err-parts-clause-full

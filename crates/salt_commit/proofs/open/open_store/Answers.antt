@@ -6,7 +6,7 @@ use Rattle.salt_commit.proofs.open.open_store.Goals as goal
 use Rattle.salt_commit.specs.Openings.{OpeningFails, StorePassesLimit}
 use Rattle.salt_stands.specs.LogDevices.{IsPartLog, IsStoreLog}
 use Rattle.salt_commit.specs.Stores.{reading}
-use Rattle.salt_decisions.specs.Errors.{open_err}
+use Rattle.salt_gatelog.specs.Answers.{open_disk_err}
 use Rattle.salt_disk.proofs.CallAfterCall.{keeps_on}
 use Rattle.salt_stands.specs.Coordinator.{coordinator_pair}
 use Rattle.salt_stands.specs.Stands.{logs_of}
@@ -44,7 +44,7 @@ returns-clause-err g c told =
 pub returns-clause-kept : goal.returns-clause-kept
 returns-clause-kept g c told some =
     let keeps = c.in_ok-peek.ensures.kept in
-    keeps_on (λ _. ⊥) (g.D.Disks.view c.args.disks.now) (g.D.Disks.view c.peek.new.disks) (g.D.Disks.view c.open_counting.new.disks) (open_err c.open_counting.result) keeps (c.open_counting.ensures.kept (keeps.shape.told ∙ told))
+    keeps_on (λ _. ⊥) (g.D.Disks.view c.args.disks.now) (g.D.Disks.view c.peek.new.disks) (g.D.Disks.view c.open_counting.new.disks) (open_disk_err c.open_counting.result) keeps (c.open_counting.ensures.kept (keeps.shape.told ∙ told))
 
 pub returns-in_err-peek-clause-err : goal.returns-in_err-peek-clause-err
 returns-in_err-peek-clause-err g c told =

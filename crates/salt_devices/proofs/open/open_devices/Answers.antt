@@ -4,15 +4,13 @@ use Rattle.salt_commit.proofs.Opening.{nothing, opens_at}
 use Rattle.salt_commit.proofs.Standing.{if_some}
 use Rattle.salt_commit.specs.Openings.{StorePassesLimit}
 use Rattle.salt_stands.specs.LogDevices.{IsStoreLog}
-use Rattle.salt_decisions.specs.Errors.{disk_err_in}
 use Rattle.salt_devices.proofs.Answered.{like_finds, like_stands}
-use Rattle.salt_devices.proofs.Opening.{disk_answer, full_is, is_open, like_opened, like_unwritten, new_stands, opened_newest, opens_as, refused_as, stopped_blank}
+use Rattle.salt_devices.proofs.Opening.{full_is, is_open, like_opened, like_unwritten, new_stands, opened_newest, opens_as, refused_as, stopped_blank}
 use Rattle.salt_devices.proofs.open.open_devices.Goals as goal
 use Rattle.salt_devices.proofs.Refused.{stopped_err, writes_nothing}
-use Rattle.salt_devices.specs.Errors.{open_err_of}
 use Rattle.salt_devices.specs.Refusing.{RefusedAs}
 use Rattle.salt_disk.proofs.CallAfterCall.{cause_memory, cause_on, keeps_on, shape_goes_on}
-use Rattle.salt_disk.specs.Disks.{HasCause, KeepsAll}
+use Rattle.salt_disk.specs.Disks.{KeepsAll}
 use Rattle.salt_disk.specs.declared.disks.DiskErr.TheVariants.{Failed, Memory, Stopped}
 use Rattle.salt_gatelog.proofs.Entries.{not_told}
 use Rattle.salt_stands.specs.Coordinator.{coordinator_pair}
@@ -140,7 +138,7 @@ returns-clause-err g c told =
     let b = g.D.Disks.view c.schema_of_log.new.disks in
     let e = g.D.Disks.view c.open_store.new.disks in
     let first = c.in_ok-schema.ensures.kept in
-    rw c.open_err_of.ensures (subst (λ (bytes : ℕ → List ℕ). RefusedAs c.args.shape bytes (open_err_of c.in-Err.e)) (same_bytes d b first) (refused_as c.args.shape b.bytes c.in-Err.e (c.in-Err.ensures.err (first.shape.told ∙ told))))
+    subst (λ (bytes : ℕ → List ℕ). RefusedAs c.args.shape bytes c.in-Err.e) (same_bytes d b first) (refused_as c.args.shape b.bytes c.in-Err.e (c.in-Err.ensures.err (first.shape.told ∙ told)))
 
 pub returns-clause-kept : goal.returns-clause-kept
 returns-clause-kept g c told some =
@@ -149,7 +147,7 @@ returns-clause-kept g c told some =
     let e = g.D.Disks.view c.open_store.new.disks in
     let first = c.in_ok-schema.ensures.kept in
     let some_b : ¬ (coordinator_pair (logs_of b.bytes) ≡ BothBlank) = λ blank. some (sym (ap (λ (bytes : ℕ → List ℕ). coordinator_pair (logs_of bytes)) (same_bytes d b first)) ∙ blank) in
-    rw c.open_err_of.ensures (subst (KeepsAll d e) (sym (disk_answer c.in-Err.e)) (keeps_on (λ _. ⊥) d b e (disk_err_in c.in-Err.e) first (c.in-Err.ensures.kept (first.shape.told ∙ told) some_b)))
+    keeps_on (λ _. ⊥) d b e (open_disk_err_of c.in-Err.e) first (c.in-Err.ensures.kept (first.shape.told ∙ told) some_b)
 
 pub returns-clause-still : goal.returns-clause-still
 returns-clause-still g c told image left =
@@ -158,7 +156,7 @@ returns-clause-still g c told image left =
     let e = g.D.Disks.view c.open_store.new.disks in
     let first = c.in_ok-schema.ensures.kept in
     like_finds c.args.shape d.bytes image
-    (like_opened d c.args.shape c.requires.parts c.requires.room b e (disk_err_in c.in-Err.e) first (c.in-Err.ensures.kept (first.shape.told ∙ told)) (c.in-Err.ensures.images (first.shape.told ∙ told)) (c.in-Err.ensures.pages (first.shape.told ∙ told)) image left)
+    (like_opened d c.args.shape c.requires.parts c.requires.room b e (open_disk_err_of c.in-Err.e) first (c.in-Err.ensures.kept (first.shape.told ∙ told)) (c.in-Err.ensures.images (first.shape.told ∙ told)) (c.in-Err.ensures.pages (first.shape.told ∙ told)) image left)
 
 pub returns-clause-rests : goal.returns-clause-rests
 returns-clause-rests g c told image left =
@@ -167,18 +165,18 @@ returns-clause-rests g c told image left =
     let e = g.D.Disks.view c.open_store.new.disks in
     let first = c.in_ok-schema.ensures.kept in
     like_stands c.args.shape d.bytes image
-    (like_opened d c.args.shape c.requires.parts c.requires.room b e (disk_err_in c.in-Err.e) first (c.in-Err.ensures.kept (first.shape.told ∙ told)) (c.in-Err.ensures.images (first.shape.told ∙ told)) (c.in-Err.ensures.pages (first.shape.told ∙ told)) image left)
+    (like_opened d c.args.shape c.requires.parts c.requires.room b e (open_disk_err_of c.in-Err.e) first (c.in-Err.ensures.kept (first.shape.told ∙ told)) (c.in-Err.ensures.images (first.shape.told ∙ told)) (c.in-Err.ensures.pages (first.shape.told ∙ told)) image left)
 
 pub returns-clause-stopped : goal.returns-clause-stopped
 returns-clause-stopped g c is told image left =
     let b = g.D.Disks.view c.schema_of_log.new.disks in
     let told_b : IsTrue b.told = c.in_ok-schema.ensures.kept.shape.told ∙ told in
-    let blank = stopped_blank c.args.shape b.bytes c.in-Err.e (sym c.open_err_of.ensures ∙ cc is) (c.in-Err.ensures.err told_b) in
+    let blank = stopped_blank c.args.shape b.bytes c.in-Err.e (cc is) (c.in-Err.ensures.err told_b) in
     new_stands c.args.shape image (c.in-Err.ensures.images told_b blank image left) (c.in-Err.ensures.pages told_b blank image left)
 
 pub returns-clause-full : goal.returns-clause-full
 returns-clause-full g c dev is told =
-    full_is (StorePassesLimit (g.D.Disks.view c.open_store.new.disks) c.args.shape) c.in-Err.e dev (sym c.open_err_of.ensures ∙ cc is) (c.in-Err.ensures.full (c.in_ok-schema.ensures.kept.shape.told ∙ told))
+    full_is (StorePassesLimit (g.D.Disks.view c.open_store.new.disks) c.args.shape) c.in-Err.e dev (cc is) (c.in-Err.ensures.full (c.in_ok-schema.ensures.kept.shape.told ∙ told))
 
 pub returns-in_err-schema-clause-unwritten : goal.returns-in_err-schema-clause-unwritten
 returns-in_err-schema-clause-unwritten g c refusal is refused told =
@@ -205,8 +203,8 @@ returns-clause-unwritten g c refusal is refused told =
     let b = g.D.Disks.view c.schema_of_log.new.disks in
     let first = c.in_ok-schema.ensures.kept in
     let same : coordinator_pair (logs_of b.bytes) ≡ coordinator_pair (logs_of d.bytes) = ap (λ (bytes : ℕ → List ℕ). coordinator_pair (logs_of bytes)) (same_bytes d b first) in
-    writes_nothing d (g.D.Disks.view c.open_store.new.disks) c.args.shape (open_disk_err_of c.open_err_of.result) refusal is refused (returns-clause-kept g c told)
-    (λ stop. sym same ∙ stopped_blank c.args.shape b.bytes c.in-Err.e (sym c.open_err_of.ensures ∙ stopped_err c.open_err_of.result stop) (c.in-Err.ensures.err (first.shape.told ∙ told)))
+    writes_nothing d (g.D.Disks.view c.open_store.new.disks) c.args.shape (open_disk_err_of c.in-Err.e) refusal is refused (returns-clause-kept g c told)
+    (λ stop. sym same ∙ stopped_blank c.args.shape b.bytes c.in-Err.e (stopped_err c.in-Err.e stop) (c.in-Err.ensures.err (first.shape.told ∙ told)))
 
 pub returns-in-Ok-None-clause-cause : goal.returns-in-Ok-None-clause-cause
 returns-in-Ok-None-clause-cause g c =
@@ -227,4 +225,4 @@ returns-clause-cause g c =
     let d = g.D.Disks.view c.args.disks.now in
     let b = g.D.Disks.view c.schema_of_log.new.disks in
     let e = g.D.Disks.view c.open_store.new.disks in
-    rw c.open_err_of.ensures (subst (HasCause d e) (sym (disk_answer c.in-Err.e)) (cause_on d b e (disk_err_in c.in-Err.e) c.in_ok-schema.ensures.cause c.in-Err.ensures.cause))
+    cause_on d b e (open_disk_err_of c.in-Err.e) c.in_ok-schema.ensures.cause c.in-Err.ensures.cause

@@ -6,7 +6,7 @@ use Rattle.salt_driver.specs.Opening.{IsUnfound}
 use Rattle.salt_storage.specs.Answers.{IsRefusal}
 use Rattle.salt_storage.specs.Writing.{FindsNoMore}
 use Rattle.salt_storage.specs.Staying.{StaysWithin}
-use Rattle.salt_storage.specs.declared.open.OpenErr.{OpenErr}
+use Rattle.salt_storage.specs.OpenErr.{OpenErr}
 use Rattle.std.specs.Prelude.{IsTrue, None, [], ◌≡◌, ◌⊎◌}
 
 abbrev pub invariant-stops : goal.invariant-stops

@@ -1,4 +1,4 @@
-use Rattle.salt_driver.proofs.Counted.{opening-join, opening-untold}
+use Rattle.salt_driver.proofs.Counted.{opening-halted, opening-join, opening-untold}
 use Rattle.salt_driver.proofs.Openings.{finding-fails, found-down, not-short}
 use Rattle.salt_driver.proofs.opening.open_once.Goals as goal
 use Rattle.salt_storage.proofs.Staying.{stays-behind}
@@ -59,9 +59,10 @@ returns-in_err-open_found-clause-counts g c =
     let view = g.D.Disks.view in
     let story = c.args.story.now in
     let p = err_from_is_err_and c.from_residual-in_err-open_found.result c.from_residual-in_err-open_found.ensures.1 in
-    rw (p.1, p.2) (opening-join (view c.args.disks.now) (view c.find.new.disks) (view c.open_found.new.disks) _ story story c.open_found.new.story
+    rw (p.1, p.2) (opening-halted (view c.args.disks.now) (view c.open_found.new.disks) c.in_err-open_found.field-0.0 story c.open_found.new.story
+    (opening-join (view c.args.disks.now) (view c.find.new.disks) (view c.open_found.new.disks) _ story story c.open_found.new.story
     (opening-untold (view c.args.disks.now) (view c.find.new.disks) None story story c.in_ok-find.ensures.counts refl)
-    c.in_err-open_found.ensures.counts)
+    c.in_err-open_found.ensures.counts))
 
 pub returns-clause-counts : goal.returns-clause-counts
 returns-clause-counts g c =

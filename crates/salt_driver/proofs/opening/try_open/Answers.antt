@@ -5,9 +5,8 @@ use Rattle.salt_driver.specs.Counting.{CountsOpening}
 use Rattle.salt_driver.specs.Reopening.{BreaksOpening}
 use Rattle.salt_storage.proofs.Staying.{stays-behind}
 use Rattle.salt_storage.specs.Answers.{open_disk_err_of}
-use Rattle.salt_storage.specs.declared.open.OpenErr.TheVariants.{Halted}
-use Rattle.salt_storage.specs.declared.open.OpenErr.{OpenErr}
-use Rattle.std.proofs.Common.{ap, rules, subst, ◌∙◌}
+use Rattle.salt_storage.specs.OpenErr.{OpenErr}
+use Rattle.std.proofs.Common.{ap, rules, subst}
 use Rattle.std.proofs.lemmas.Result.{err_from_is_err_and}
 
 pub fall-requires : goal.fall-requires
@@ -15,52 +14,52 @@ fall-requires g c =
     let down = c.requires.down in
     let view = g.D.Disks.view c.open_once.new.disks in
     let e = c.open_once.new.database in
-    lies-somewhere (g.E.Stepping.lies view e) (g.E.Stepping.left view e) (g.E.Stepping.fills view e) (g.E.Stepping.flight e) c.in-Err-Halted-Stopped.field-0 down.0 down.1 c.args.story.now c.open_once.new.story
-    (c.in-Err-Halted-Stopped.field-0-is ∙ ap Halted c.in-Err-Halted-Stopped.field-0-0-is) (c.in-Err-Halted-Stopped.ensures.err down.0 down.1 down.2)
+    lies-somewhere (g.E.Stepping.lies view e) (g.E.Stepping.left view e) (g.E.Stepping.fills view e) (g.E.Stepping.flight e) c.in-Err-Stopped.field-0 down.0 down.1 c.args.story.now c.open_once.new.story
+    c.in-Err-Stopped.field-0-is (c.in-Err-Stopped.ensures.err down.0 down.1 down.2)
 
-pub returns-in_err-push-in-Err-Halted-Stopped-clause-err : goal.returns-in_err-push-in-Err-Halted-Stopped-clause-err
-returns-in_err-push-in-Err-Halted-Stopped-clause-err g c =
+pub returns-in_err-push-in-Err-Stopped-clause-err : goal.returns-in_err-push-in-Err-Stopped-clause-err
+returns-in_err-push-in-Err-Stopped-clause-err g c =
     let p = err_from_is_err_and c.from_residual.result c.from_residual.ensures.1 in
     rw (p.1, p.2) (λ start trace d.
     let view = g.D.Disks.view c.open_once.new.disks in
     let e = c.open_once.new.database in
-    let stop = c.in-Err-Halted-Stopped in
-    breaks-short (g.E.Stepping.lies view e) (g.E.Stepping.left view e) (g.E.Stepping.fills view e) (g.E.Stepping.flight e) stop.field-0 start trace c.args.story.now c.open_once.new.story c.push.new.self (stop.field-0-is ∙ ap Halted stop.field-0-0-is)
-    c.in_err-push-in-Err-Halted-Stopped.ensures.err (stop.ensures.err start trace d))
+    let stop = c.in-Err-Stopped in
+    breaks-short (g.E.Stepping.lies view e) (g.E.Stepping.left view e) (g.E.Stepping.fills view e) (g.E.Stepping.flight e) stop.field-0 start trace c.args.story.now c.open_once.new.story c.push.new.self stop.field-0-is
+    c.in_err-push-in-Err-Stopped.ensures.err (stop.ensures.err start trace d))
 
-pub returns-in_ok-push-in-Err-Halted-Stopped-clause-ok : goal.returns-in_ok-push-in-Err-Halted-Stopped-clause-ok
-returns-in_ok-push-in-Err-Halted-Stopped-clause-ok g c = λ start trace d.
-    let stop = c.in-Err-Halted-Stopped in
+pub returns-in_ok-push-in-Err-Stopped-clause-ok : goal.returns-in_ok-push-in-Err-Stopped-clause-ok
+returns-in_ok-push-in-Err-Stopped-clause-ok g c = λ start trace d.
+    let stop = c.in-Err-Stopped in
     falls-anew (g.E.Stepping.lies (g.D.Disks.view c.open_once.new.disks) c.open_once.new.database) (g.E.Stepping.left (g.D.Disks.view c.open_once.new.disks) c.open_once.new.database) (g.E.Stepping.lies (g.D.Disks.view c.fall.new.disks) c.fall.new.self) (g.E.Stepping.fills (g.D.Disks.view c.open_once.new.disks) c.open_once.new.database) (g.E.Stepping.flight c.open_once.new.database) (g.E.Stepping.flight c.fall.new.self)
-    stop.field-0 start trace c.args.story.now c.open_once.new.story c.push.new.self (stop.field-0-is ∙ ap Halted stop.field-0-0-is) c.fall.ensures.lies c.fall.ensures.flies
-    c.in_ok-push-in-Err-Halted-Stopped.ensures.ok (stop.ensures.err start trace d)
+    stop.field-0 start trace c.args.story.now c.open_once.new.story c.push.new.self stop.field-0-is c.fall.ensures.lies c.fall.ensures.flies
+    c.in_ok-push-in-Err-Stopped.ensures.ok (stop.ensures.err start trace d)
 
-pub returns-in_ok-push-in-Err-Halted-Stopped-clause-counts : goal.returns-in_ok-push-in-Err-Halted-Stopped-clause-counts
-returns-in_ok-push-in-Err-Halted-Stopped-clause-counts g c =
+pub returns-in_ok-push-in-Err-Stopped-clause-counts : goal.returns-in_ok-push-in-Err-Stopped-clause-counts
+returns-in_ok-push-in-Err-Stopped-clause-counts g c =
     let view = g.D.Disks.view in
-    let stop = c.in-Err-Halted-Stopped in
+    let stop = c.in-Err-Stopped in
     opening-fallen (view c.args.disks.now) (view c.open_once.new.disks) (view c.fall.new.disks) c.args.story.now c.open_once.new.story c.push.new.self
-    (subst (λ (e : OpenErr). CountsOpening (view c.args.disks.now) (view c.open_once.new.disks) (open_disk_err_of e) c.args.story.now c.open_once.new.story) (stop.field-0-is ∙ ap Halted stop.field-0-0-is) stop.ensures.counts)
-    c.fall.ensures.faults c.fall.ensures.stops c.in_ok-push-in-Err-Halted-Stopped.ensures.ok
+    (subst (λ (e : OpenErr). CountsOpening (view c.args.disks.now) (view c.open_once.new.disks) (open_disk_err_of e) c.args.story.now c.open_once.new.story) stop.field-0-is stop.ensures.counts)
+    c.fall.ensures.faults c.fall.ensures.stops c.in_ok-push-in-Err-Stopped.ensures.ok
 
-pub returns-in_ok-push-in-Err-Halted-Stopped-clause-fewer : goal.returns-in_ok-push-in-Err-Halted-Stopped-clause-fewer
-returns-in_ok-push-in-Err-Halted-Stopped-clause-fewer g c = λ is.
+pub returns-in_ok-push-in-Err-Stopped-clause-fewer : goal.returns-in_ok-push-in-Err-Stopped-clause-fewer
+returns-in_ok-push-in-Err-Stopped-clause-fewer g c = λ is.
     let view = g.D.Disks.view in
-    let stop = c.in-Err-Halted-Stopped in
+    let stop = c.in-Err-Stopped in
     fewer-stops (view c.args.disks.now) (view c.open_once.new.disks) (view c.fall.new.disks) c.args.story.now c.open_once.new.story
-    (subst (λ (e : OpenErr). CountsOpening (view c.args.disks.now) (view c.open_once.new.disks) (open_disk_err_of e) c.args.story.now c.open_once.new.story) (stop.field-0-is ∙ ap Halted stop.field-0-0-is) stop.ensures.counts)
+    (subst (λ (e : OpenErr). CountsOpening (view c.args.disks.now) (view c.open_once.new.disks) (open_disk_err_of e) c.args.story.now c.open_once.new.story) stop.field-0-is stop.ensures.counts)
     c.fall.ensures.stops
 
-pub returns-in_ok-push-in-Err-Halted-Stopped-clause-within : goal.returns-in_ok-push-in-Err-Halted-Stopped-clause-within
-returns-in_ok-push-in-Err-Halted-Stopped-clause-within g c = stays-behind c.in-Err-Halted-Stopped.ensures.within c.fall.ensures.within
+pub returns-in_ok-push-in-Err-Stopped-clause-within : goal.returns-in_ok-push-in-Err-Stopped-clause-within
+returns-in_ok-push-in-Err-Stopped-clause-within g c = stays-behind c.in-Err-Stopped.ensures.within c.fall.ensures.within
 
-pub returns-in_err-push-in-Err-Halted-Stopped-clause-counts : goal.returns-in_err-push-in-Err-Halted-Stopped-clause-counts
-returns-in_err-push-in-Err-Halted-Stopped-clause-counts g c =
+pub returns-in_err-push-in-Err-Stopped-clause-counts : goal.returns-in_err-push-in-Err-Stopped-clause-counts
+returns-in_err-push-in-Err-Stopped-clause-counts g c =
     let view = g.D.Disks.view in
-    let stop = c.in-Err-Halted-Stopped in
+    let stop = c.in-Err-Stopped in
     let p = err_from_is_err_and c.from_residual.result c.from_residual.ensures.1 in
     rw (p.1, p.2) (short-counts (view c.args.disks.now) (view c.open_once.new.disks) _ c.args.story.now c.open_once.new.story c.push.new.self stop.ensures.counts
-    c.in_err-push-in-Err-Halted-Stopped.ensures.err (ap open_disk_err_of (stop.field-0-is ∙ ap Halted stop.field-0-0-is)))
+    c.in_err-push-in-Err-Stopped.ensures.err (ap open_disk_err_of stop.field-0-is))
 
 pub returns-in-Err-clause-err : goal.returns-in-Err-clause-err
 returns-in-Err-clause-err g c = λ start trace d.

@@ -1,3 +1,4 @@
+use Rattle.salt_storage.specs.OpenErr.TheVariants as opening
 use Rattle.salt_disk.specs.declared.disks.DiskErr.{DiskErr}
 use Rattle.salt_loop.proofs.Leaving.{answers-opening, ends-early, later-stop}
 use Rattle.salt_loop.proofs.starting.start.Goals as goal
@@ -5,8 +6,6 @@ use Rattle.salt_loop.specs.Ending.{EndsOpening}
 use Rattle.salt_loop.specs.Stopping.{IsLaterStop, answer_of, status_of}
 use Rattle.salt_loop.specs.declared.stop.Stop.{Stop}
 use Rattle.salt_driver.specs.Counting.{CountsOpening}
-use Rattle.salt_storage.specs.declared.halt.Halt.TheVariants.{Stopped}
-use Rattle.salt_storage.specs.declared.open.OpenErr.TheVariants.{Halted}
 use Rattle.std.proofs.Common.{ap, subst, sym, ◌∙◌}
 use Rattle.std.specs.Prelude.{Err, Option, ◌≡◌}
 
@@ -32,6 +31,6 @@ returns-in-Err-clause-later g c =
 pub returns-in-Err-clause-counts : goal.returns-in-Err-clause-counts
 returns-in-Err-clause-counts g c =
     let view = g.D.Disks.view in
-    let never : c.in-Err.e ≡ Halted Stopped → ⊥ = λ is. c.open.ensures.unstopped (c.in-Err.is ∙ ap Err is) in
+    let never : c.in-Err.e ≡ opening.Stopped → ⊥ = λ is. c.open.ensures.unstopped (c.in-Err.is ∙ ap Err is) in
     subst (λ (a : Option DiskErr). CountsOpening (view c.args.disks.now) (view c.open.new.disks) a c.args.story.now c.open.new.story)
     (answers-opening c.in-Err.e never ∙ sym (ap (λ (s : Stop). answer_of (status_of s)) c.stop_opening.ensures.is)) c.in-Err.ensures.counts

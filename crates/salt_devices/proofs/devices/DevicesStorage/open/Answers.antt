@@ -1,9 +1,8 @@
+use Rattle.salt_storage.specs.OpenErr.TheVariants as opening
 use Rattle.salt_devices.proofs.Begun.{no_more, opened_finds, opened_held, opens_behind, passes_on, refused_bytes, rests_behind, tried_behind, upon_bytes}
 use Rattle.salt_devices.proofs.Started.{called}
 use Rattle.salt_devices.proofs.devices.DevicesStorage.open.Goals as goal
 use Rattle.salt_devices.specs.Leaving.{CanOpen}
-use Rattle.salt_storage.specs.declared.halt.Halt.TheVariants.{DeviceFull}
-use Rattle.salt_storage.specs.declared.open.OpenErr.TheVariants.{Halted}
 use Rattle.std.proofs.Common.{Bool, Err, ap, refl, subst, ◌≡◌}
 
 pub open_first-requires-clause-room : goal.open_first-requires-clause-room
@@ -50,7 +49,7 @@ returns-in-Err-clause-able g c =
 
 pub returns-in-Err-clause-full : goal.returns-in-Err-clause-full
 returns-in-Err-clause-full g c dev is =
-    let full : c.in-Err.e ≡ Halted (DeviceFull dev) = cc is in
+    let full : c.in-Err.e ≡ opening.Full dev = cc is in
     passes_on (g.D.Disks.view c.args.disks.now) (g.D.Disks.view c.open_first.new.disks) c.args.self.now.shape dev (c.in-Err.ensures.within c.args.self.now.over_net).shape (c.in-Err.ensures.full dev (ap Err full))
 
 pub returns-in-Ok-clause-unwritten : goal.returns-in-Ok-clause-unwritten

@@ -1,6 +1,6 @@
 -- The answers of an opening.
-use Rattle.salt_decisions.specs.declared.error.OpenErr.TheVariants as opening
-use Rattle.salt_decisions.specs.declared.error.OpenErr.{OpenErr}
+use Rattle.salt_gatelog.specs.declared.unopened.OpenErr.TheVariants as opening
+use Rattle.salt_gatelog.specs.declared.unopened.OpenErr.{OpenErr}
 use Rattle.salt_disk.specs.declared.disks.DiskErr.TheVariants.{Failed, Full, Memory, Stopped}
 use Rattle.salt_disk.specs.declared.disks.DiskErr.{DiskErr}
 use Rattle.salt_gatelog.specs.declared.pair.PairErr.TheVariants as pair
@@ -19,15 +19,15 @@ open_err_of_pair (pair.NotSalt dev) = opening.NotSalt dev
 open_err_of_pair (pair.Disk e) = open_err_of e
 
 -- what a disk call answered, if that was why
-abbrev pub disk_err_in : OpenErr → Option DiskErr
-disk_err_in opening.Failed = Some Failed
-disk_err_in opening.Stopped = Some Stopped
-disk_err_in (opening.Full dev) = Some (Full dev)
-disk_err_in opening.Memory = Some Memory
-disk_err_in (opening.NotSalt dev) = None
-disk_err_in (opening.OtherShape kept asked) = None
-disk_err_in (opening.NumbersSpent boot decisions) = None
+abbrev pub open_disk_err_of : OpenErr → Option DiskErr
+open_disk_err_of opening.Failed = Some Failed
+open_disk_err_of opening.Stopped = Some Stopped
+open_disk_err_of (opening.Full dev) = Some (Full dev)
+open_disk_err_of opening.Memory = Some Memory
+open_disk_err_of (opening.NotSalt dev) = None
+open_disk_err_of (opening.OtherShape kept asked) = None
+open_disk_err_of (opening.NumbersSpent boot decisions) = None
 
-abbrev pub open_err : {T : Type 0} → Result T OpenErr → Option DiskErr
-open_err (Ok x) = None
-open_err (Err e) = disk_err_in e
+abbrev pub open_disk_err : {T : Type 0} → Result T OpenErr → Option DiskErr
+open_disk_err (Ok x) = None
+open_disk_err (Err e) = open_disk_err_of e

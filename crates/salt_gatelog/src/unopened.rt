@@ -1,11 +1,11 @@
 //! Why nothing is opened.
 
-ghost use Rattle.salt_decisions.specs.Errors.{open_err_of, open_err_of_pair};
-ghost use Rattle.salt_decisions.specs.declared.error.OpenErr.TheVariants.{Memory};
+ghost use Rattle.salt_gatelog.specs.Answers.{open_err_of, open_err_of_pair};
+ghost use Rattle.salt_gatelog.specs.declared.unopened.OpenErr.TheVariants.{Memory};
 ghost use Rattle.std.specs.Prelude.{◌≡◌};
 
+use crate::pair::PairErr;
 use salt_disk::DiskErr;
-use salt_gatelog::PairErr;
 use salt_place::Shape;
 use std::alloc::AllocError;
 
