@@ -1,3 +1,4 @@
+mod AtEnd
 pub mod AtParts
 pub mod ByName
 pub mod Calls

@@ -1,5 +1,6 @@
 -- What is to come next, told by a state.
 use Rattle.salt_books.specs.Asking.{IsAskedBy}
+use Rattle.salt_books.specs.Ends.{done_of}
 use Rattle.salt_books.specs.declared.coming.Coming.TheVariants as coming
 use Rattle.salt_books.specs.declared.coming.Coming.{Coming}
 use Rattle.law_states.specs.OpenUnits.{OpenUnit, UnitState, unit_named}
@@ -32,3 +33,10 @@ CanCome (coming.Act a) s = (o : OpenUnit) × IsAskedBy a s o
 CanCome (coming.Commit u) s = IsSome (unit_named u s.units)
 CanCome (coming.Branch u b cause) s = IsLaterUnit s u b
 CanCome c s = ⊤
+
+-- an open unit whose last statement is done is to commit; else nothing is to come
+abbrev pub CommitsAtEnd : UnitState → Id → Coming → Type 0
+CommitsAtEnd s u coming.Nothing = done_of s None (unit_named u s.units) ≡ None
+CommitsAtEnd s u (coming.Commit v) =
+    (v ≡ u) × IsSome (unit_named u s.units) × (done_of s None (unit_named u s.units) ≡ option_map (commits_in s) (unit_named u s.units))
+CommitsAtEnd s u c = ⊥

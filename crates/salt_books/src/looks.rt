@@ -2,6 +2,7 @@
 
 ghost use Rattle.salt_ast.specs.declared.trees.Statement.{Statement};
 ghost use Rattle.salt_books.specs.Books.{AreBooks, known_in};
+ghost use Rattle.salt_books.specs.Coming.{CommitsAtEnd};
 ghost use Rattle.salt_books.specs.Held.{is_of_program, is_of_session, seen};
 ghost use Rattle.salt_books.specs.declared.held.Held.{Held};
 ghost use Rattle.law_states.specs.OpenUnits.{UnitState, asking, asks_next, names_in, unit_named, unit_of_program, unit_of_session};
@@ -16,6 +17,7 @@ ghost use Rattle.std.specs.Option.{option_copied};
 ghost use Rattle.std.specs.Prelude.{IfOk, None, length, map, option_map, ◌≡◌};
 
 use crate::books::Books;
+use crate::coming::Coming;
 use crate::held::Held;
 use crate::kinds::program_begun;
 use crate::known::Known;
@@ -145,11 +147,25 @@ impl Books {
     }
 
     /// Whether a unit ends with its last statement: behind the last of its block, or where it began with a line that is one.
-    pub fn is_at_end(&self, held: &Held) -> bool
+    fn is_at_end(&self, held: &Held) -> bool
         ensures { (s : UnitState) → AreBooks self.now s → result ≡ is_at_end_in (seen held.now) (block_of_kind s.kept held.now.kind) }
     {
         let block = self.known.block_of_kind(&held.kind);
         ends_block(held, block)
+    }
+
+    /// A unit whose last statement is done is to commit.
+    pub fn commit_at_end(&self, unit: Id) -> Coming
+        ensures { (s : UnitState) → AreBooks self.now s → CommitsAtEnd s unit result }
+    {
+        let Some(held) = self.unit_named(unit) else {
+            return Coming::Nothing;
+        };
+        if self.is_at_end(held) {
+            Coming::Commit(unit)
+        } else {
+            Coming::Nothing
+        }
     }
 
     /// What a statement of a unit reaches.

@@ -1,10 +1,11 @@
 -- What is chosen: the one, or where that is nothing the other.
 use Rattle.salt_books.specs.Asking.{IsAsked}
+use Rattle.salt_books.specs.Coming.{CommitsAtEnd}
 use Rattle.salt_books.specs.Ends.{done_of}
 use Rattle.salt_books.specs.declared.asking.Asking.{Asking}
 use Rattle.law_states.specs.Follows.{cut_in, cuts_or_drains_in, drains_in, unfinished_in}
 use Rattle.law_states.specs.OpenUnits.{UnitState}
-use Rattle.law_states.specs.Told.{begins_in, finishes_in, serve_in}
+use Rattle.law_states.specs.Told.{begins_in, commits_in, finishes_in, serve_in}
 use Rattle.salt_model.specs.Kept.{cont_of}
 use Rattle.salt_model.specs.Words.{first_of_list, is_empty}
 use Rattle.salt_model.specs.declared.events.Cause.{Cause}
@@ -30,7 +31,7 @@ use Rattle.salt_model.specs.declared.events.Event.{Event}
 use Rattle.salt_drain.specs.Recovering.{AnswersWithComing, AnswersWith, IsReady, StandsForState}
 use Rattle.salt_drain.specs.declared.recovery.Recovery.{Recovery}
 use Rattle.std.proofs.Common.{ap, subst, sym, ◌∙◌}
-use Rattle.std.specs.Prelude.{None, Option, Some, is_some, refl, true, ◌≡◌}
+use Rattle.std.specs.Prelude.{IsSome, None, Option, Some, is_some, option_map, refl, true, ◌≡◌}
 
 -- where nothing is chosen, nothing has been done
 pub still-stands : (s : State) (a : Option Event) (x : Recovery) (c : Coming) → AnswersWithComing s a x c → c ≡ coming.Nothing → StandsForState x s
@@ -137,6 +138,14 @@ fail-brings s u b part o cause x stands named kind = record {
   meant = sym (done-branched s.units u b part o cause named kind);
   ready = (stands, record { unit = o; part = part; named = named; kind = kind });
 }
+
+pub end-brings : (s : State) (u : Id) (x : Recovery) (c : Coming) → StandsForState x s → CommitsAtEnd s.units u c → AnswersWithComing s (done_of s.units None (unit_named u s.units.units)) x c
+end-brings s u x coming.Nothing stands none = record { meant = sym none; ready = (stands, tt) }
+end-brings s u x (coming.Commit v) stands end = record {
+  meant = ap (λ w. option_map (commits_in s.units) (unit_named w s.units.units)) end.0 ∙ sym end.2;
+  ready = (stands, subst (λ w. IsSome (unit_named w s.units.units)) (sym end.0) end.1);
+}
+end-brings s u x c stands end = absurd end
 
 copied-none : (found : Option (Bor Cont)) (o : Option Cont) → option_copied found ≡ o → is_some found ≡ false → is_none o ≡ true
 copied-none None o e h = sym (ap (λ (p : Option Cont). is_none p) e)

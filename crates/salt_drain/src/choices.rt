@@ -142,20 +142,6 @@ impl Recovery {
         }
     }
 
-    /// A unit whose last statement is done is to commit.
-    fn commit_at_end(&self, unit: Id) -> Coming
-        ensures { ChoosesOf unit (λ s. done_of s None (unit_named unit s.units)) self.now result }
-    {
-        let Some(held) = self.books.unit_named(unit) else {
-            return Coming::Nothing;
-        };
-        if self.books.is_at_end(held) {
-            Coming::Commit(unit)
-        } else {
-            Coming::Nothing
-        }
-    }
-
     /// How a unit is to end that has done a statement, if it ends.
     fn end_behind(&self, unit: Id, failed: Option<Cause>) -> Coming
         requires { IsInOpeningOf unit self.now }
@@ -163,7 +149,7 @@ impl Recovery {
     {
         match failed {
             Some(cause) => self.fail(unit, cause),
-            None => self.commit_at_end(unit),
+            None => self.books.commit_at_end(unit),
         }
     }
 

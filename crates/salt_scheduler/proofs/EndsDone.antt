@@ -1,10 +1,10 @@
 -- A unit has ended, by a decision or without one.
 use Rattle.std.specs.Option.{option_copied}
-use Rattle.std.specs.Bool.{then_some}
 use Rattle.salt_books.proofs.Decided.{undecided as nothing-decided}
 use Rattle.salt_books.proofs.Shown.{have-unit}
 use Rattle.salt_books.specs.Books.{AreBooks, HaveUnit}
 use Rattle.salt_books.specs.Called.{name_told}
+use Rattle.salt_books.specs.Coming.{CommitsAtEnd}
 use Rattle.salt_books.specs.Ends.{IsUndecided}
 use Rattle.salt_books.specs.declared.books.Books.{Books}
 use Rattle.salt_scheduler.proofs.ApartCircles.{commits-close-none}
@@ -13,12 +13,13 @@ use Rattle.salt_scheduler.proofs.Calm.{calm-behind, calm-stays, undecided-brings
 use Rattle.salt_scheduler.proofs.Done.{IsCalledAt, at-follow, called-at, called-stays, gives, gives-same, into-first, into-programs, state_by, sub-called, a_program, beginning, to_accept}
 use Rattle.salt_scheduler.proofs.Facts.{facts-ended}
 use Rattle.salt_scheduler.proofs.InTurn.{branched, committed, undecided}
-use Rattle.salt_books.proofs.Named.{done-branched, is-some, named-unit}
+use Rattle.salt_books.proofs.Named.{done-branched, named-unit}
 use Rattle.salt_scheduler.specs.Calm.{is_calm_behind}
 use Rattle.salt_scheduler.specs.Follows.{FollowsOn, behind_branch, behind_commit}
 use Rattle.salt_books.specs.Ends.{done_of}
 use Rattle.salt_scheduler.specs.Standing.{AnswersWithComing, AnswersWith, StandsForState, accepting, bases_called, watched_by}
 use Rattle.salt_books.specs.declared.coming.Coming.TheVariants as coming
+use Rattle.salt_books.specs.declared.coming.Coming.{Coming}
 use Rattle.salt_scheduler.specs.declared.scheduler.Scheduler.{Scheduler}
 use Rattle.salt_scheduler.specs.declared.follow.Follow.TheVariants.{Finish, Nothing}
 use Rattle.law_states.specs.DependencyCalls.{IsCommitted}
@@ -27,11 +28,10 @@ use Rattle.law_states.specs.OpenUnits.{OpenUnit, UnitState, unit_named}
 use Rattle.law_states.specs.Overlays.{Edit, edits_of}
 use Rattle.law_states.specs.States.{State}
 use Rattle.law_states.specs.Steps.{units_after}
-use Rattle.law_states.specs.Told.{commits_in, fails_in, is_at_end_in, next_decision}
+use Rattle.law_states.specs.Told.{commits_in, fails_in, next_decision}
 use Rattle.law_states.specs.UnitFacts.{UnitFacts, facts_in, facts_of}
 use Rattle.law_states.specs.WatchSteps.{base_by, first_by}
 use Rattle.law_states.specs.Watches.{Watch}
-use Rattle.salt_model.specs.Kept.{block_of_kind}
 use Rattle.salt_model.specs.Units.{program_begun, program_of_kind}
 use Rattle.salt_model.specs.declared.events.Cause.{Cause}
 use Rattle.salt_model.specs.declared.events.End.TheVariants.{Branched, Committed, Failed}
@@ -45,7 +45,7 @@ use Rattle.salt_values.specs.declared.id.Id.{Id}
 use Rattle.salt_conflicts.specs.Watched.{GoesBy, IsWatch, place_of}
 use Rattle.salt_conflicts.specs.declared.watching.Watching.{Watching}
 use Rattle.std.proofs.Common.{Bor, ap, inl, inr, subst, sym, ◌∙◌}
-use Rattle.std.specs.Prelude.{Bool, List, None, Option, Some, [], false, is_some, map, option_map, refl, true, ℕ, ◌∷◌, ◌≡◌}
+use Rattle.std.specs.Prelude.{Bool, IsSome, List, None, Option, Some, [], false, is_some, map, option_map, refl, true, ℕ, ◌∷◌, ◌≡◌}
 
 -- the facts that calls of the watch ask for
 
@@ -178,11 +178,6 @@ branch-gives x new u base part cause o s given stands named kind told books watc
 
 -- behind a statement
 
-pub done-at-end : (s : UnitState) (found : Option OpenUnit) (o : OpenUnit) → found ≡ Some o → is_at_end_in o (block_of_kind s.kept o.kind) ≡ true →
-    done_of s None found ≡ option_map (commits_in s) found
-done-at-end s found o at end =
-    ap (done_of s None) at ∙ ap (λ b. then_some b (commits_in s o)) end ∙ sym (ap (option_map (commits_in s)) at)
-
 pub copied-none : {A : Type 0} (r : Option (Bor A)) (o : Option A) → option_copied r ≡ o → is_some r ≡ false → o ≡ None
 copied-none None o same none = sym same
 copied-none (Some x) o same none = cc
@@ -209,12 +204,13 @@ done-failed s u o c named other =
 
 -- a unit is to commit, or to go on behind its failure
 
-pub commit-brings : (x : Scheduler) (s : State) (u : Id) (o : OpenUnit) (want : Option Event) → StandsForState x s → unit_named u s.units.units ≡ Some o →
-    want ≡ option_map (commits_in s.units) (unit_named u s.units.units) → AnswersWithComing s want x (coming.Commit u)
-commit-brings x s u o want stands named wanted = record {
-  meant = sym wanted;
-  ready = (stands, is-some (unit_named u s.units.units) o named);
+pub end-brings : (x : Scheduler) (s : State) (u : Id) (c : Coming) → StandsForState x s → CommitsAtEnd s.units u c → AnswersWithComing s (done_of s.units None (unit_named u s.units.units)) x c
+end-brings x s u coming.Nothing stands none = record { meant = sym none; ready = (stands, tt) }
+end-brings x s u (coming.Commit v) stands end = record {
+  meant = ap (λ w. option_map (commits_in s.units) (unit_named w s.units.units)) end.0 ∙ sym end.2;
+  ready = (stands, subst (λ w. IsSome (unit_named w s.units.units)) (sym end.0) end.1);
 }
+end-brings x s u c stands end = absurd end
 
 pub branch-brings : (x : Scheduler) (s : State) (u b : Id) (part : ℕ) (o : OpenUnit) (c : Cause) → StandsForState x s → unit_named u s.units.units ≡ Some o →
     o.kind ≡ Later b part → AnswersWithComing s (done_of s.units (Some c) (unit_named u s.units.units)) x (coming.Branch u b c)

@@ -111,20 +111,6 @@ impl Scheduler {
         }
     }
 
-    /// A unit whose last statement is done commits.
-    fn commit_at_end(&self, line: &Line, unit: Id) -> Coming
-        ensures { ChoosesNext (λ s r. done_of s.units None (unit_named unit s.units.units)) line.now self.now self.now result }
-    {
-        let Some(held) = self.books.unit_named(unit) else {
-            return Coming::Nothing;
-        };
-        if self.books.is_at_end(held) {
-            Coming::Commit(unit)
-        } else {
-            Coming::Nothing
-        }
-    }
-
     /// What follows a statement: its unit ends by the cause of its failure, or behind its last statement.
     fn go_on_behind(
         &mut self,
@@ -137,7 +123,7 @@ impl Scheduler {
     {
         match failed {
             Some(cause) => self.fail(line, unit, cause),
-            None => Ok(self.commit_at_end(line, unit)),
+            None => Ok(self.books.commit_at_end(unit)),
         }
     }
 

@@ -1,4 +1,5 @@
 use Rattle.salt_scheduler.proofs.Done.{brings-same}
+use Rattle.salt_scheduler.proofs.EndsDone.{end-brings}
 use Rattle.salt_scheduler.proofs.scheduler.Scheduler.go_on_behind.Goals as goal
 use Rattle.salt_books.specs.Ends.{done_of}
 use Rattle.law_states.specs.OpenUnits.{unit_named}
@@ -12,4 +13,4 @@ returns-in-Some c =
 
 pub returns-in-None : goal.returns-in-None
 returns-in-None c = λ s r stands serves.
-    brings-same s _ _ _ _ (ap (λ f. done_of s.units f (unit_named c.args.unit s.units.units)) c.in-None.is) (c.commit_at_end.ensures s r stands serves)
+    brings-same s _ _ _ _ (ap (λ f. done_of s.units f (unit_named c.args.unit s.units.units)) c.in-None.is) (end-brings c.args.self.now s c.args.unit c.commit_at_end.result stands (c.commit_at_end.ensures s.units stands.books))
