@@ -17,7 +17,7 @@ use Rattle.salt_model.specs.declared.events.End.TheVariants.{Branched, Committed
 use Rattle.salt_model.specs.declared.events.Event.TheVariants.{Did, Ended}
 use Rattle.salt_values.specs.declared.cont.Cont.{Cont}
 use Rattle.salt_values.specs.declared.id.Id.{Id}
-use Rattle.std.specs.Prelude.{List, Some, ◌≡◌}
+use Rattle.std.specs.Prelude.{List, Some, ℕ, ◌≡◌}
 
 -- what a unit's statement answers over rows that are those in its reach, and what it makes
 abbrev pub AnswersTo : Id → Statement → Tables → Books → Answer → Type 0
@@ -37,11 +37,11 @@ abbrev pub IsMoveOfBranch : Books → Id → Move → Type 0
 IsMoveOfBranch x u made = (s : UnitState) (o : OpenUnit) → AreBooks x s → unit_named u s.units ≡ Some o → IsUnitAtPart s u → CanMove s.kept o.kind →
     MovesTo made s.kept (conts_branched s.kept o.kind)
 
--- the unit has committed by the next decision, with this move, or has ended by a branch
-abbrev pub HasCommitted : Id → Move → (old new : Books) → Type 0
-HasCommitted u made old new = (s : UnitState) (o : OpenUnit) (conts : List Cont) → AreBooks old s → Rising (names_in s.units) → unit_named u s.units ≡ Some o → MovesTo made s.kept conts →
+-- the unit has committed by the next decision, of this number, with this move, or has ended by a branch
+abbrev pub HasCommitted : Id → Move → (number : ℕ) → (old new : Books) → Type 0
+HasCommitted u made number old new = (s : UnitState) (o : OpenUnit) (conts : List Cont) → number ≡ next_decision s → AreBooks old s → Rising (names_in s.units) → unit_named u s.units ≡ Some o → MovesTo made s.kept conts →
     conts ≡ conts_committed s.kept (next_decision s) o.kind o.vars → AreBooks new (units_after (Ended u (Committed (next_decision s))) s)
 
-abbrev pub HasBranched : Id → Move → (old new : Books) → Type 0
-HasBranched u made old new = (s : UnitState) (o : OpenUnit) (conts : List Cont) (cause : Cause) → AreBooks old s → Rising (names_in s.units) → unit_named u s.units ≡ Some o → MovesTo made s.kept conts →
+abbrev pub HasBranched : Id → Move → (number : ℕ) → (old new : Books) → Type 0
+HasBranched u made number old new = (s : UnitState) (o : OpenUnit) (conts : List Cont) (cause : Cause) → number ≡ next_decision s → AreBooks old s → Rising (names_in s.units) → unit_named u s.units ≡ Some o → MovesTo made s.kept conts →
     conts ≡ conts_branched s.kept o.kind → AreBooks new (units_after (Ended u (Branched (next_decision s) cause)) s)

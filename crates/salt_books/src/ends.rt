@@ -9,7 +9,6 @@ ghost use Rattle.salt_eval.specs.Views.{tables_of};
 ghost use Rattle.law_states.specs.OpenUnits.{UnitState, names_in, unit_named};
 ghost use Rattle.law_states.specs.Rising.{Rising};
 ghost use Rattle.law_states.specs.Steps.{units_after};
-ghost use Rattle.law_states.specs.Told.{next_decision};
 ghost use Rattle.salt_model.specs.declared.events.End.{End};
 ghost use Rattle.salt_model.specs.declared.events.Event.{Event};
 ghost use Rattle.salt_units.specs.Acting.{leaves_keys};
@@ -87,28 +86,26 @@ impl Books {
         self.known.move_of_branch(&held.kind)
     }
 
-    /// A unit has committed, with this move. The number of the decision.
-    pub fn commit(&mut self, unit: Id, made: Move) -> Result<u64, AllocError>
+    /// A unit has committed by the decision of this number, with this move.
+    pub fn commit(&mut self, unit: Id, made: Move, number: u64) -> Result<(), AllocError>
         requires { HaveUnit self.old unit }
-        ensures number { IfOk result (λ number. (s : UnitState) → AreBooks self.old s → number ≡ next_decision s) }
-        ensures state { OnOk result (HasCommitted unit made self.old self.new) }
+        ensures { OnOk result (HasCommitted unit made number self.old self.new) }
     {
         let at = place_named(self.units.as_slice(), self.rising, unit);
         let _held = self.units.remove(at);
-        let number = self.known.commit(made)?;
-        Ok(number)
+        self.known.commit(made, number)?;
+        Ok(())
     }
 
-    /// A unit of a later part has failed, and its program has gone on behind the failure by this move. The number of the
-    /// decision.
-    pub fn branch(&mut self, unit: Id, made: Move) -> Result<u64, AllocError>
+    /// A unit of a later part has failed, and its program has gone on behind the failure by this move and the decision of this
+    /// number.
+    pub fn branch(&mut self, unit: Id, made: Move, number: u64) -> Result<(), AllocError>
         requires { HaveUnit self.old unit }
-        ensures number { IfOk result (λ number. (s : UnitState) → AreBooks self.old s → number ≡ next_decision s) }
-        ensures state { OnOk result (HasBranched unit made self.old self.new) }
+        ensures { OnOk result (HasBranched unit made number self.old self.new) }
     {
         let at = place_named(self.units.as_slice(), self.rising, unit);
         let _held = self.units.remove(at);
-        let number = self.known.commit(made)?;
-        Ok(number)
+        self.known.commit(made, number)?;
+        Ok(())
     }
 }

@@ -290,19 +290,17 @@ impl Known {
         )
     }
 
-    /// A decided unit has made this move. The number of the decision.
-    pub fn commit(&mut self, made: Move) -> Result<u64, AllocError>
-        ensures number { IfOk result (λ number. number ≡ decisions_known self.old + 1) }
-        ensures kept { OnOk result ((k : Kept) (conts : List Cont) → IsKnown self.old k → MovesTo made k conts
-            → (es : Tables) → IsKnown self.new (record k { decisions = k.decisions + 1; tables = es; conts = conts })) }
+    /// A unit that is decided by the decision of this number has made this move.
+    pub fn commit(&mut self, made: Move, number: u64) -> Result<(), AllocError>
+        ensures { OnOk result ((k : Kept) (conts : List Cont) → IsKnown self.old k → MovesTo made k conts
+            → (es : Tables) → IsKnown self.new (record k { decisions = number; tables = es; conts = conts })) }
     {
-        let number = next_number(self.decisions)?;
         let was = self.rising;
         self.rising = false;
         let rising = make_move(self.alloc, &mut self.conts, was, made)?;
         self.rising = rising;
         self.decisions = number;
-        Ok(number)
+        Ok(())
     }
 
     /// Defines a table that is not refused.

@@ -104,7 +104,7 @@ module _ (x : Recovery) (a : Asking) (rows : BTreeMap Place (List Value)) (s : S
 
 -- A COMMIT
 
-module _ (x : Recovery) (u : Id) (m : Move) (s : State) (can : CanTakeUp x (given.Committed u m) s) where
+module _ (x : Recovery) (u : Id) (m : Move) (n : ℕ) (s : State) (can : CanTakeUp x (given.Committed u m n) s) where
   pub commit-stands : recovering.StandsForState x s
   commit-stands = can.ready.0
 
@@ -124,7 +124,7 @@ module _ (x : Recovery) (u : Id) (m : Move) (s : State) (can : CanTakeUp x (give
 
 -- A BRANCH
 
-module _ (x : Recovery) (u base : Id) (cause : Cause) (m : Move) (s : State) (can : CanTakeUp x (given.Branched u base cause m) s) where
+module _ (x : Recovery) (u base : Id) (cause : Cause) (m : Move) (n : ℕ) (s : State) (can : CanTakeUp x (given.Branched u base cause m n) s) where
   pub branch-stands : recovering.StandsForState x s
   branch-stands = can.ready.0
 

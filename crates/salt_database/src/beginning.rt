@@ -5,14 +5,22 @@ ghost use Rattle.salt_books.specs.Books.{decisions_in};
 ghost use Rattle.law_states.specs.States.{State};
 ghost use Rattle.salt_model.specs.declared.events.Event.{Event};
 ghost use Rattle.salt_drain.specs.Follows.{rest_in};
-ghost use Rattle.salt_drain.specs.Recovering.{AnswersWith};
-ghost use Rattle.std.specs.Prelude.{IfOk, Option, Some, nat_lt, ℕ, ◌≡◌};
+ghost use Rattle.salt_drain.specs.Recovering.{AnswersWith, books_of};
+ghost use Rattle.std.specs.Prelude.{IfOk, Option, Some, nat_lt, ℕ, ◌+◌, ◌≡◌};
 
 use salt_books::{Books, Coming};
 use salt_drain::Recovery;
 use salt_engine::InFlight;
 use salt_model::Event;
+use salt_values::next_number;
 use std::alloc::{AllocError, Global};
+
+/// The number of the decision that was in flight: it is the one behind the last that is known.
+fn number_in_flight(recovery: &Recovery) -> Result<u64, AllocError>
+    ensures { IfOk result (λ number. number ≡ decisions_in (books_of recovery.now) + 1) }
+{
+    next_number(recovery.books().known().decisions())
+}
 
 /// The decision that was in flight stands: it is told.
 fn flown(recovery: &mut Recovery, in_flight: &InFlight) -> Result<Event, AllocError>
@@ -22,11 +30,13 @@ fn flown(recovery: &mut Recovery, in_flight: &InFlight) -> Result<Event, AllocEr
     match in_flight {
         InFlight::Commit(unit) => {
             let made = recovery.books().move_of_commit(*unit)?;
-            recovery.committed(*unit, made)
+            let number = number_in_flight(recovery)?;
+            recovery.committed(*unit, made, number)
         }
         InFlight::Branch { unit, base, cause } => {
             let made = recovery.books().move_of_branch(*unit)?;
-            recovery.branched(*unit, *base, *cause, made)
+            let number = number_in_flight(recovery)?;
+            recovery.branched(*unit, *base, *cause, made, number)
         }
         InFlight::Table { def, .. } => recovery.table_defined(def),
         InFlight::Program { def, .. } => recovery.program_defined(def),

@@ -42,13 +42,14 @@ fn take_up<L: Ledger>(
         Given::Nothing => unreachable!(),
         Given::Told(event) => Ok(event),
         Given::Rows { asking, rows } => recovery.done(asking, &rows, steps),
-        Given::Committed { unit, made } => recovery.committed(unit, made),
+        Given::Committed { unit, made, number } => recovery.committed(unit, made, number),
         Given::Branched {
             unit,
             base,
             cause,
             made,
-        } => recovery.branched(unit, base, cause, made),
+            number,
+        } => recovery.branched(unit, base, cause, made, number),
     }
 }
 

@@ -25,14 +25,14 @@ abbrev pub HasDone : Asking → Tables → (old new : Recovery) → Event → Ty
 HasDone a rows old new e = (s : State) (o : OpenUnit) → StandsForState old s → IsRecovering s → IsAskedBy a s.units o → IsOfPart o → AreLoaded a.reach rows s.units.kept.tables →
     AnswersWith s (Some (does_in s.units o a.statement)) new (Some e)
 
--- the commit of a unit, with this move of its program
-abbrev pub HasCommitted : Id → Move → (old new : Recovery) → Event → Type 0
-HasCommitted u made old new e = (s : State) (o : OpenUnit) → StandsForState old s → IsRecovering s → unit_named u s.units.units ≡ Some o →
+-- the commit of a unit by the next decision, of this number, with this move of its program
+abbrev pub HasCommitted : Id → Move → (number : ℕ) → (old new : Recovery) → Event → Type 0
+HasCommitted u made number old new e = (s : State) (o : OpenUnit) → number ≡ next_decision s.units → StandsForState old s → IsRecovering s → unit_named u s.units.units ≡ Some o →
     MovesTo made s.units.kept (conts_committed s.units.kept (next_decision s.units) o.kind o.vars) → AnswersWith s (Some (commits_in s.units o)) new (Some e)
 
 -- the branch of a unit of a later part
-abbrev pub HasBranched : Id → (base : Id) → Cause → Move → (old new : Recovery) → Event → Type 0
-HasBranched u base cause made old new e = (s : State) (o : OpenUnit) (part : ℕ) → StandsForState old s → IsRecovering s → unit_named u s.units.units ≡ Some o → o.kind ≡ Later base part →
+abbrev pub HasBranched : Id → (base : Id) → Cause → Move → (number : ℕ) → (old new : Recovery) → Event → Type 0
+HasBranched u base cause made number old new e = (s : State) (o : OpenUnit) (part : ℕ) → number ≡ next_decision s.units → StandsForState old s → IsRecovering s → unit_named u s.units.units ≡ Some o → o.kind ≡ Later base part →
     MovesTo made s.units.kept (conts_branched s.units.kept o.kind) → AnswersWith s (Some (Ended u (Branched (next_decision s.units) cause))) new (Some e)
 
 -- what the last line defines, by this text

@@ -61,13 +61,13 @@ impl Recovery {
     }
 
     /// The commit of a unit has been decided, with this move of its program: it commits.
-    pub fn committed(&mut self, unit: Id, made: Move) -> Result<Event, AllocError>
+    pub fn committed(&mut self, unit: Id, made: Move, number: u64) -> Result<Event, AllocError>
         requires { HaveUnit (books_of self.old) unit }
-        ensures { IfOk result (HasCommitted unit made self.old self.new) }
+        ensures { IfOk result (HasCommitted unit made number self.old self.new) }
     {
         let held = self.books.held(unit);
         let behind = behind_commit(&held.kind);
-        let number = self.books.commit(unit, made)?;
+        self.books.commit(unit, made, number)?;
         self.behind = behind;
         Ok(Event::Ended {
             unit,
@@ -83,11 +83,12 @@ impl Recovery {
         base: Id,
         cause: Cause,
         made: Move,
+        number: u64,
     ) -> Result<Event, AllocError>
         requires { HaveUnit (books_of self.old) unit }
-        ensures { IfOk result (HasBranched unit base cause made self.old self.new) }
+        ensures { IfOk result (HasBranched unit base cause made number self.old self.new) }
     {
-        let number = self.books.branch(unit, made)?;
+        self.books.branch(unit, made, number)?;
         self.behind = Behind::Finish(base);
         Ok(Event::Ended {
             unit,

@@ -63,8 +63,10 @@ module _ (holds : Kept → Type 0) (is_new : Id → Type 0) (x : Books) (s : Uni
       commit-new = is-new-unit holds is_new x s o u (Committed (next_decision s)) b named may refl
 
       pub commit-done : (now : Kept → Type 0) (new_now : Id → Type 0) → now (decided s.kept cs (conts_committed s.kept (next_decision s) o.kind o.vars)) →
-          ((v : Id) → is_same_id v u ≡ false → is_new v → new_now v) → IsCommitted now new_now m s o
-      commit-done now new_now holding stays = record {
+          ((v : Id) → is_same_id v u ≡ false → is_new v → new_now v) → (number : ℕ) → number ≡ next_decision s →
+          IsCommitted now new_now (record { made = m; number = number }) s o
+      commit-done now new_now holding stays number is = record {
+        number = is;
         moves = moves;
         stored = ended-stored holds is_new x s o u (Committed (next_decision s)) b named may now new_now (subst now ends.leaves holding) stays;
       }
@@ -96,8 +98,10 @@ module _ (holds : Kept → Type 0) (is_new : Id → Type 0) (x : Books) (s : Uni
       branch-new = is-new-unit holds is_new x s o u (Branched (next_decision s) cause) b named may refl
 
       pub branch-done : (now : Kept → Type 0) (new_now : Id → Type 0) → now (decided s.kept cs (conts_branched s.kept o.kind)) →
-          ((v : Id) → is_same_id v u ≡ false → is_new v → new_now v) → IsBranched now new_now m s o cause
-      branch-done now new_now holding stays = record {
+          ((v : Id) → is_same_id v u ≡ false → is_new v → new_now v) → (number : ℕ) → number ≡ next_decision s →
+          IsBranched now new_now (record { made = m; number = number }) s o cause
+      branch-done now new_now holding stays number is = record {
+        number = is;
         moves = moves;
         stored = ended-stored holds is_new x s o u (Branched (next_decision s) cause) b named may now new_now (subst now branches.leaves holding) stays;
       }

@@ -6,7 +6,7 @@ use Rattle.salt_books.specs.declared.asking.Asking.{Asking}
 use Rattle.salt_books.specs.declared.books.Books.{Books}
 use Rattle.salt_books.specs.declared.coming.Coming.TheVariants as coming
 use Rattle.salt_books.specs.declared.coming.Coming.{Coming}
-use Rattle.salt_bytes.specs.declared.moves.Move.{Move}
+use Rattle.salt_engine.specs.declared.deciding.Decided.{Decided}
 use Rattle.salt_engine.proofs.Broken.{breaks, breaks-lost, noted}
 use Rattle.salt_engine.proofs.Decided.{named-unit}
 use Rattle.salt_engine.proofs.Flying.{kept-decided, none-flies}
@@ -143,11 +143,11 @@ module _ (holds : Kept → Type 0) (is_new : Id → Type 0) (x : Books) (u : Id)
   commit-flies : IsInFlight (Some (asked.Commit u)) (decision_in (Some commit-event)) s.units
   commit-flies = (commit-unit, commit-named, refl)
 
-  pub commit-given : (now : Kept → Type 0) (new_now : Id → Type 0) (m : Move) → IsCommitted now new_now m s.units commit-unit →
-      IsGiven now new_now (Some (asked.Commit u)) (coming.Commit u) (given.Committed u m) s
-  commit-given now new_now m done =
-      given-by now new_now (Some (asked.Commit u)) (coming.Commit u) (given.Committed u m) commit-event s commit-meant refl
-      (commit-unit, commit-named, done.moves) done.stored (kept-decided commit-event s.units refl) commit-flies
+  pub commit-given : (now : Kept → Type 0) (new_now : Id → Type 0) (d : Decided) → IsCommitted now new_now d s.units commit-unit →
+      IsGiven now new_now (Some (asked.Commit u)) (coming.Commit u) (given.Committed u d.made d.number) s
+  commit-given now new_now d done =
+      given-by now new_now (Some (asked.Commit u)) (coming.Commit u) (given.Committed u d.made d.number) commit-event s commit-meant refl
+      (commit-unit, commit-named, done.moves, done.number) done.stored (kept-decided commit-event s.units refl) commit-flies
 
   pub commit-undone : (leaves : Kept → Kept → Type 0) (fills : ToWrite → ℕ → Type 0) (halt : Halt) → Undone leaves fills halt s.units commit-event →
       IsUndone leaves fills halt x (Some (asked.Commit u)) (event_meant s.units (coming.Commit u)) s.units
@@ -175,10 +175,10 @@ module _ (holds : Kept → Type 0) (is_new : Id → Type 0) (x : Books) (u base 
   branch-flies : IsInFlight (Some (asked.Branch u base cause)) (decision_in (Some branch-event)) s.units
   branch-flies = (branch-unit, refl)
 
-  pub branch-given : (now : Kept → Type 0) (new_now : Id → Type 0) (m : Move) → IsBranched now new_now m s.units branch-unit.unit cause →
-      IsGiven now new_now (Some (asked.Branch u base cause)) (coming.Branch u base cause) (given.Branched u base cause m) s
-  branch-given now new_now m done =
-      given-by now new_now (Some (asked.Branch u base cause)) (coming.Branch u base cause) (given.Branched u base cause m) branch-event s refl refl (branch-unit, done.moves)
+  pub branch-given : (now : Kept → Type 0) (new_now : Id → Type 0) (d : Decided) → IsBranched now new_now d s.units branch-unit.unit cause →
+      IsGiven now new_now (Some (asked.Branch u base cause)) (coming.Branch u base cause) (given.Branched u base cause d.made d.number) s
+  branch-given now new_now d done =
+      given-by now new_now (Some (asked.Branch u base cause)) (coming.Branch u base cause) (given.Branched u base cause d.made d.number) branch-event s refl refl (branch-unit, done.moves, done.number)
       (subst (λ v. Stored now new_now (units_after (branches_in s.units v cause) s.units)) (named-unit u s.units.units branch-unit.unit branch-unit.named) done.stored)
       (kept-decided branch-event s.units refl) branch-flies
 

@@ -38,7 +38,7 @@ use Rattle.salt_values.specs.declared.id.Id.{Id}
 use Rattle.salt_values.specs.declared.value.Value.{Value}
 use Rattle.std.proofs.Common.{subst, sym, ◌∙◌}
 use Rattle.std.specs.BTreeMap.{BTreeMap}
-use Rattle.std.specs.Prelude.{List, None, Option, Some, refl, true, ◌≡◌}
+use Rattle.std.specs.Prelude.{List, None, Option, Some, refl, true, ℕ, ◌≡◌}
 
 -- of what was given in other words
 pub can-take : (x : Scheduler) (g h : Given) (s : State) → g ≡ h → CanTakeUp x g s → CanTakeUp x h s
@@ -83,7 +83,7 @@ module _ (x : Scheduler) (a : Asking) (rows : BTreeMap Place (List Value)) (s : 
 
 -- A COMMIT
 
-module _ (x : Scheduler) (u : Id) (m : Move) (s : State) (can : CanTakeUp x (given.Committed u m) s) where
+module _ (x : Scheduler) (u : Id) (m : Move) (n : ℕ) (s : State) (can : CanTakeUp x (given.Committed u m n) s) where
   pub commit-stands : StandsForState x s
   commit-stands = can.ready.0
 
@@ -101,7 +101,7 @@ module _ (x : Scheduler) (u : Id) (m : Move) (s : State) (can : CanTakeUp x (giv
 
 -- A BRANCH
 
-module _ (x : Scheduler) (u base : Id) (cause : Cause) (m : Move) (s : State) (can : CanTakeUp x (given.Branched u base cause m) s) where
+module _ (x : Scheduler) (u base : Id) (cause : Cause) (m : Move) (n : ℕ) (s : State) (can : CanTakeUp x (given.Branched u base cause m n) s) where
   pub branch-stands : StandsForState x s
   branch-stands = can.ready.0
 

@@ -4,8 +4,8 @@ use Rattle.salt_books.specs.Books.{AreBooks, AreLoaded}
 use Rattle.salt_books.specs.Coming.{IsLaterUnit}
 use Rattle.salt_books.specs.declared.asking.Asking.{Asking}
 use Rattle.salt_books.specs.declared.books.Books.{Books}
-use Rattle.salt_bytes.specs.declared.moves.Move.{Move}
 use Rattle.salt_disk.specs.Disks.{View}
+use Rattle.salt_engine.specs.declared.deciding.Decided.{Decided}
 use Rattle.salt_engine.specs.Netted.{net_after}
 use Rattle.salt_engine.specs.Stored.{LeavesEither, Stored}
 use Rattle.law_states.specs.Keeps.{KeepsUnits}
@@ -56,13 +56,15 @@ pub record IsBefore (holds : Kept → Type 0) (is_new : Id → Type 0) (x : Book
 abbrev pub branches_in : UnitState → Id → Cause → Event
 branches_in s u cause = Ended u (Branched (next_decision s) cause)
 
--- a unit has been decided, with the move of its program that its commit makes, or its branch
-pub record IsCommitted (holds : Kept → Type 0) (is_new : Id → Type 0) (m : Move) (s : UnitState) (o : OpenUnit) : Type 0 where
-  pub moves : make_move s.kept.conts m ≡ Some (conts_committed s.kept (next_decision s) o.kind o.vars)
+-- a unit has been decided by the next decision, with the move of its program that its commit makes, or its branch
+pub record IsCommitted (holds : Kept → Type 0) (is_new : Id → Type 0) (d : Decided) (s : UnitState) (o : OpenUnit) : Type 0 where
+  pub number : d.number ≡ next_decision s
+  pub moves : make_move s.kept.conts d.made ≡ Some (conts_committed s.kept (next_decision s) o.kind o.vars)
   pub stored : Stored holds is_new (units_after (commits_in s o) s)
 
-pub record IsBranched (holds : Kept → Type 0) (is_new : Id → Type 0) (m : Move) (s : UnitState) (o : OpenUnit) (cause : Cause) : Type 0 where
-  pub moves : make_move s.kept.conts m ≡ Some (conts_branched s.kept o.kind)
+pub record IsBranched (holds : Kept → Type 0) (is_new : Id → Type 0) (d : Decided) (s : UnitState) (o : OpenUnit) (cause : Cause) : Type 0 where
+  pub number : d.number ≡ next_decision s
+  pub moves : make_move s.kept.conts d.made ≡ Some (conts_branched s.kept o.kind)
   pub stored : Stored holds is_new (units_after (branches_in s o.unit cause) s)
 
 -- An event was to come next, and was broken off: a stop leaves what is kept before or behind it; unless memory ran out it is at the
@@ -90,7 +92,7 @@ module _ {S : Type 0} (holds : View → S → Kept → Type 0) (is_new : View �
   abbrev pub CanCommit : View → S → Books → Id → Type 0
   CanCommit d x books u = (s : UnitState) × (o : OpenUnit) × IsBefore (holds d x) (is_new d x) books (commits_in s o) s × (unit_named u s.units ≡ Some o)
 
-  abbrev pub DecidesCommit : (d e : View) (x y : S) → Books → Id → Move → Type 0
+  abbrev pub DecidesCommit : (d e : View) (x y : S) → Books → Id → Decided → Type 0
   DecidesCommit d e x y books u made =
       (s : UnitState) (o : OpenUnit) → IsBefore (holds d x) (is_new d x) books (commits_in s o) s → unit_named u s.units ≡ Some o → IsCommitted (holds e y) (is_new e y) made s o
 
@@ -98,7 +100,7 @@ module _ {S : Type 0} (holds : View → S → Kept → Type 0) (is_new : View �
   abbrev pub CanBranch : View → S → Books → Id → Type 0
   CanBranch d x books u = (s : UnitState) × (b : Id) × (cause : Cause) × IsBefore (holds d x) (is_new d x) books (branches_in s u cause) s × IsLaterUnit s u b
 
-  abbrev pub DecidesBranch : (d e : View) (x y : S) → Books → Id → Move → Type 0
+  abbrev pub DecidesBranch : (d e : View) (x y : S) → Books → Id → Decided → Type 0
   DecidesBranch d e x y books u made = (s : UnitState) (b : Id) (cause : Cause) → IsBefore (holds d x) (is_new d x) books (branches_in s u cause) s → (later : IsLaterUnit s u b) →
       IsBranched (holds e y) (is_new e y) made s later.unit cause
 

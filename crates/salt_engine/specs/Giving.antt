@@ -59,8 +59,8 @@ abbrev pub coming_of : Given → Coming
 coming_of Nothing = coming.Nothing
 coming_of (Told e) = coming.Told e
 coming_of (Rows a rows) = coming.Act a
-coming_of (Committed u m) = coming.Commit u
-coming_of (Branched u b cause m) = coming.Branch u b cause
+coming_of (Committed u m n) = coming.Commit u
+coming_of (Branched u b cause m n) = coming.Branch u b cause
 
 -- the rows in the reach of a statement, which leaves the keys of rows as they are
 pub record AreRowsFor (a : Asking) (rows : Tables) (s : UnitState) : Type 0 where
@@ -68,11 +68,12 @@ pub record AreRowsFor (a : Asking) (rows : Tables) (s : UnitState) : Type 0 wher
   pub keyed : IsKeyed rows
   pub leaves : leaves_keys (schema_of s.kept) a.statement ≡ true
 
--- it fits the units: the rows are those of the statement, the move is the one of the unit's end
+-- it fits the units: the rows are those of the statement, the move is the one of the unit's end, and the number that of the next decision
 abbrev pub FitsUnits : Given → UnitState → Type 0
 FitsUnits (Rows a rows) s = AreRowsFor a (tables_of rows.entries) s
-FitsUnits (Committed u m) s = (o : OpenUnit) × (unit_named u s.units ≡ Some o) × MovesTo m s.kept (conts_committed s.kept (next_decision s) o.kind o.vars)
-FitsUnits (Branched u b cause m) s = (later : IsLaterUnit s u b) × MovesTo m s.kept (conts_branched s.kept later.unit.kind)
+FitsUnits (Committed u m n) s =
+    (o : OpenUnit) × (unit_named u s.units ≡ Some o) × MovesTo m s.kept (conts_committed s.kept (next_decision s) o.kind o.vars) × (n ≡ next_decision s)
+FitsUnits (Branched u b cause m n) s = (later : IsLaterUnit s u b) × MovesTo m s.kept (conts_branched s.kept later.unit.kind) × (n ≡ next_decision s)
 FitsUnits g s = ⊤
 
 -- the units behind what comes next

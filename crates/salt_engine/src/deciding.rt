@@ -70,7 +70,14 @@ fn changes_of(
     }
 }
 
-/// Decides the commit of a unit. The move of its program.
+/// What was decided of a unit: the move of its program, and the number of the decision.
+#[derive(Drop)]
+pub struct Decided {
+    pub made: Move,
+    pub number: u64,
+}
+
+/// Decides the commit of a unit.
 pub(crate) fn decide_commit<S: Storage, D: Disks, F: Fn(PlaceKind, &Key, u32) -> u32>(
     alloc: Global,
     storage: &mut S,
@@ -78,7 +85,7 @@ pub(crate) fn decide_commit<S: Storage, D: Disks, F: Fn(PlaceKind, &Key, u32) ->
     place: &Placement<F>,
     books: &Books,
     unit: Id,
-) -> Result<Move, Halt>
+) -> Result<Decided, Halt>
     requires callable { TakesEachKey (F.pre place.now.place) }
     requires answers { GivesPlaceOf (F.post place.now.place) }
     requires ready { CanCommit S.holds S.is_new (D.view disks.old) storage.old books.now unit }
@@ -92,18 +99,18 @@ pub(crate) fn decide_commit<S: Storage, D: Disks, F: Fn(PlaceKind, &Key, u32) ->
     storage.stands(disks);
     let made = books.move_of_commit(unit)?;
     let changes = changes_of(alloc, books, unit)?;
-    let _number = storage.commit(disks, place, unit, changes.as_slice(), &made)?;
-    Ok(made)
+    let number = storage.commit(disks, place, unit, changes.as_slice(), &made)?;
+    Ok(Decided { made, number })
 }
 
-/// Decides the branch of a unit of a later part, which has failed by this cause. The move of its program.
+/// Decides the branch of a unit of a later part, which has failed by this cause.
 pub(crate) fn decide_branch<S: Storage, D: Disks, F: Fn(PlaceKind, &Key, u32) -> u32>(
     storage: &mut S,
     disks: &mut D,
     place: &Placement<F>,
     books: &Books,
     unit: Id,
-) -> Result<Move, Halt>
+) -> Result<Decided, Halt>
     requires callable { TakesEachKey (F.pre place.now.place) }
     requires answers { GivesPlaceOf (F.post place.now.place) }
     requires ready { CanBranch S.holds S.is_new (D.view disks.old) storage.old books.now unit }
@@ -116,6 +123,6 @@ pub(crate) fn decide_branch<S: Storage, D: Disks, F: Fn(PlaceKind, &Key, u32) ->
     decided_ends_may_be_kept();
     storage.stands(disks);
     let made = books.move_of_branch(unit)?;
-    let _number = storage.commit(disks, place, unit, &[], &made)?;
-    Ok(made)
+    let number = storage.commit(disks, place, unit, &[], &made)?;
+    Ok(Decided { made, number })
 }

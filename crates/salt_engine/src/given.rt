@@ -9,7 +9,7 @@ ghost use Rattle.salt_storage.specs.Staying.{StaysWithin};
 ghost use Rattle.salt_place.specs.Placement.{GivesPlaceOf, TakesEachKey};
 ghost use Rattle.std.specs.Prelude.{IfErr, IfOk, None, OnOk, ◌≡◌};
 
-use crate::deciding::{decide_branch, decide_commit, load};
+use crate::deciding::{Decided, decide_branch, decide_commit, load};
 use crate::flights::InFlight;
 use salt_books::{Asking, Books, Coming};
 use salt_cont::Move;
@@ -32,17 +32,19 @@ pub enum Given {
         asking: Asking,
         rows: Tables,
     },
-    /// The commit of a unit is decided, with this move of its program.
+    /// The commit of a unit is decided, by the decision of this number and with this move of its program.
     Committed {
         unit: Id,
         made: Move,
+        number: u64,
     },
-    /// The branch of a unit of a later part of this program is decided, with this move.
+    /// The branch of a unit of a later part of this program is decided, by the decision of this number and with this move.
     Branched {
         unit: Id,
         base: Id,
         cause: Cause,
         made: Move,
+        number: u64,
     },
 }
 
@@ -77,17 +79,20 @@ pub fn provide<S: Storage, D: Disks, F: Fn(PlaceKind, &Key, u32) -> u32>(
         }
         Coming::Commit(unit) => {
             *in_flight = Some(InFlight::Commit(unit));
-            let made = decide_commit(alloc, storage, disks, place, books, unit)?;
-            Ok(Given::Committed { unit, made })
+            let decided = decide_commit(alloc, storage, disks, place, books, unit)?;
+            let Decided { made, number } = decided;
+            Ok(Given::Committed { unit, made, number })
         }
         Coming::Branch { unit, base, cause } => {
             *in_flight = Some(InFlight::Branch { unit, base, cause });
-            let made = decide_branch(storage, disks, place, books, unit)?;
+            let decided = decide_branch(storage, disks, place, books, unit)?;
+            let Decided { made, number } = decided;
             Ok(Given::Branched {
                 unit,
                 base,
                 cause,
                 made,
+                number,
             })
         }
     }

@@ -50,8 +50,8 @@ fn take_up(scheduler: &mut Scheduler, given: Given) -> Result<Option<Event>, All
             let event = scheduler.done(asking, &rows)?;
             Ok(Some(event))
         }
-        Given::Committed { unit, made } => {
-            let event = scheduler.committed(unit, made)?;
+        Given::Committed { unit, made, number } => {
+            let event = scheduler.committed(unit, made, number)?;
             Ok(Some(event))
         }
         Given::Branched {
@@ -59,8 +59,9 @@ fn take_up(scheduler: &mut Scheduler, given: Given) -> Result<Option<Event>, All
             base,
             cause,
             made,
+            number,
         } => {
-            let event = scheduler.branched(unit, base, cause, made)?;
+            let event = scheduler.branched(unit, base, cause, made, number)?;
             Ok(Some(event))
         }
     }

@@ -33,14 +33,14 @@ HasDone a rows old new e = (s : State) (o : OpenUnit) → StandsForState old s �
 abbrev pub HasWaited : Asking → List Owner → Line → (old new : Scheduler) → Event → Type 0
 HasWaited a owners now old new e = (s : State) (o : OpenUnit) → StandsForState old s → ServesLine now s → IsAskedBy a s.units o → AnswersWith s (Some (Waits a.unit owners)) new (Some e)
 
--- the commit of a unit, with this move of its program
-abbrev pub HasCommitted : Id → Move → (old new : Scheduler) → Event → Type 0
-HasCommitted u made old new e = (s : State) (o : OpenUnit) → StandsForState old s → IsSoundState s → unit_named u s.units.units ≡ Some o →
+-- the commit of a unit by the next decision, of this number, with this move of its program
+abbrev pub HasCommitted : Id → Move → (number : ℕ) → (old new : Scheduler) → Event → Type 0
+HasCommitted u made number old new e = (s : State) (o : OpenUnit) → number ≡ next_decision s.units → StandsForState old s → IsSoundState s → unit_named u s.units.units ≡ Some o →
     MovesTo made s.units.kept (conts_committed s.units.kept (next_decision s.units) o.kind o.vars) → AnswersWith s (Some (commits_in s.units o)) new (Some e)
 
 -- the branch of a unit of a later part
-abbrev pub HasBranched : Id → (base : Id) → Cause → Move → (old new : Scheduler) → Event → Type 0
-HasBranched u base cause made old new e = (s : State) (o : OpenUnit) (part : ℕ) → StandsForState old s → IsSoundState s → unit_named u s.units.units ≡ Some o → o.kind ≡ Later base part →
+abbrev pub HasBranched : Id → (base : Id) → Cause → Move → (number : ℕ) → (old new : Scheduler) → Event → Type 0
+HasBranched u base cause made number old new e = (s : State) (o : OpenUnit) (part : ℕ) → number ≡ next_decision s.units → StandsForState old s → IsSoundState s → unit_named u s.units.units ≡ Some o → o.kind ≡ Later base part →
     MovesTo made s.units.kept (conts_branched s.units.kept o.kind) → AnswersWith s (Some (Ended u (Branched (next_decision s.units) cause))) new (Some e)
 
 -- BEHIND AN EVENT it is ready for what this tells

@@ -39,16 +39,17 @@ impl Scheduler {
         }
     }
 
-    /// A unit that is to commit has been decided, with this move of its program: it commits.
-    pub fn committed(&mut self, unit: Id, made: Move) -> Result<Event, AllocError>
+    /// A unit that is to commit has been decided, by the decision of this number and with this move of its program: it
+    /// commits.
+    pub fn committed(&mut self, unit: Id, made: Move, number: u64) -> Result<Event, AllocError>
         requires { HaveUnit (books_of self.old) unit }
-        ensures { IfOk result (HasCommitted unit made self.old self.new) }
+        ensures { IfOk result (HasCommitted unit made number self.old self.new) }
     {
         let held = self.books.held(unit);
         let follow = behind_commit(&held.kind);
         let base = program_of(&held.kind);
         self.watch.commit(unit, base, held.open.changes())?;
-        let number = self.books.commit(unit, made)?;
+        self.books.commit(unit, made, number)?;
         self.follow = follow;
         self.calm = is_calm_behind(self.calm, base.is_none(), &self.watch);
         Ok(Event::Ended {
@@ -84,12 +85,13 @@ impl Scheduler {
         base: Id,
         cause: Cause,
         made: Move,
+        number: u64,
     ) -> Result<Event, AllocError>
         requires { HaveUnit (books_of self.old) unit }
-        ensures { IfOk result (HasBranched unit base cause made self.old self.new) }
+        ensures { IfOk result (HasBranched unit base cause made number self.old self.new) }
     {
         self.watch.end(unit, None);
-        let number = self.books.branch(unit, made)?;
+        self.books.branch(unit, made, number)?;
         self.follow = Follow::Finish(base);
         Ok(Event::Ended {
             unit,

@@ -1,6 +1,6 @@
 use Rattle.salt_database.proofs.Flown.{branch-flies, branch-moves, branch-there, branch-told, commit-flies, commit-moves, commit-there, commit-told, program-allowed, program-flies, program-told, table-allowed, table-flies, table-told}
 use Rattle.salt_database.proofs.beginning.flown.Goals as goal
-use Rattle.std.proofs.Common.{refl}
+use Rattle.std.proofs.Common.{ap, refl, ◌+◌, ◌∙◌}
 use Rattle.std.proofs.lemmas.Result.{IfOk-weaker}
 
 pub move_of_commit-requires : goal.move_of_commit-requires
@@ -10,14 +10,14 @@ move_of_commit-requires c =
 pub committed-requires : goal.committed-requires
 committed-requires c = commit-there c.args.recovery.now c.args.in_flight.now c.requires.1 c.requires.0 c.requires.2 c.in-Commit.unit c.in-Commit.is _ refl
 
-pub returns-in_ok-made-in-Commit : goal.returns-in_ok-made-in-Commit
-returns-in_ok-made-in-Commit c = IfOk-weaker c.committed.result _ _ (λ e h s f flies.
+pub returns-in_ok-number-in-Commit : goal.returns-in_ok-number-in-Commit
+returns-in_ok-number-in-Commit c = IfOk-weaker c.committed.result _ _ (λ e h s f flies.
     let x = c.args.recovery.now in
     let i = c.args.in_flight.now in
     let u = c.in-Commit.unit in
     let it = commit-flies x i f s flies u c.in-Commit.is in
     commit-told x i f s flies u c.in-Commit.is c.committed.new.self e
-    (h s it.0 flies.rests.stands flies.rests.recovers it.1
+    (h s it.0 (c.in_ok-number-in-Commit.ensures ∙ ap (λ n. n + 1) flies.rests.stands.books.known.decisions) flies.rests.stands flies.rests.recovers it.1
     (commit-moves x i f s flies u c.in-Commit.is c.books.result.now c.books.ensures c.in_ok-made-in-Commit.made c.in_ok-made-in-Commit.ensures))) c.committed.ensures
 
 pub move_of_branch-requires : goal.move_of_branch-requires
@@ -30,14 +30,14 @@ branched-requires c =
     let arm = c.in-Branch in
     branch-there c.args.recovery.now c.args.in_flight.now c.requires.1 c.requires.0 c.requires.2 arm.unit arm.base arm.cause arm.is _ refl
 
-pub returns-in_ok-made-in-Branch : goal.returns-in_ok-made-in-Branch
-returns-in_ok-made-in-Branch c = IfOk-weaker c.branched.result _ _ (λ e h s f flies.
+pub returns-in_ok-number-in-Branch : goal.returns-in_ok-number-in-Branch
+returns-in_ok-number-in-Branch c = IfOk-weaker c.branched.result _ _ (λ e h s f flies.
     let x = c.args.recovery.now in
     let i = c.args.in_flight.now in
     let arm = c.in-Branch in
     let later = (branch-flies x i f s flies arm.unit arm.base arm.cause arm.is).0 in
     branch-told x i f s flies arm.unit arm.base arm.cause arm.is c.branched.new.self e
-    (h s later.unit later.part flies.rests.stands flies.rests.recovers later.named later.kind
+    (h s later.unit later.part (c.in_ok-number-in-Branch.ensures ∙ ap (λ n. n + 1) flies.rests.stands.books.known.decisions) flies.rests.stands flies.rests.recovers later.named later.kind
     (branch-moves x i f s flies arm.unit arm.base arm.cause arm.is c.books-in-Branch.result.now c.books-in-Branch.ensures c.in_ok-made-in-Branch.made c.in_ok-made-in-Branch.ensures))) c.branched.ensures
 
 pub table_defined-requires : goal.table_defined-requires

@@ -82,8 +82,9 @@ committed-requires g c =
     let x = c.args.recovery.now in
     let u = c.in-Committed.unit in
     let m = c.in-Committed.made in
+    let n = c.in-Committed.number in
     let s = c.requires.0 in
-    commit-there x u m s (can-take x c.args.given (Committed u m) s c.in-Committed.is c.requires.1)
+    commit-there x u m n s (can-take x c.args.given (Committed u m n) s c.in-Committed.is c.requires.1)
 
 pub returns-in-Committed-clause-gives : goal.returns-in-Committed-clause-gives
 returns-in-Committed-clause-gives g c = IfOk-weaker c.committed.result _ _ (λ e done s.
@@ -91,18 +92,20 @@ returns-in-Committed-clause-gives g c = IfOk-weaker c.committed.result _ _ (λ e
     let y = c.committed.new.self in
     let u = c.in-Committed.unit in
     let m = c.in-Committed.made in
-    taken-as x y c.args.given (Committed u m) (Some e) s c.in-Committed.is
-    (λ can. commit-taken x u m s can y (Some e)
-    (done s (commit-unit x u m s can) (commit-stands x u m s can) can.recovers (commit-named x u m s can) can.fits.2))) c.committed.ensures
+    let n = c.in-Committed.number in
+    taken-as x y c.args.given (Committed u m n) (Some e) s c.in-Committed.is
+    (λ can. commit-taken x u m n s can y (Some e)
+    (done s (commit-unit x u m n s can) can.fits.3 (commit-stands x u m n s can) can.recovers (commit-named x u m n s can) can.fits.2))) c.committed.ensures
 
 pub returns-in-Committed-clause-ticks : goal.returns-in-Committed-clause-ticks
 returns-in-Committed-clause-ticks g c = IfOk-weaker c.committed.result _ _ (λ e done.
     let x = c.args.recovery.now in
     let u = c.in-Committed.unit in
     let m = c.in-Committed.made in
+    let n = c.in-Committed.number in
     let s = c.requires.0 in
-    let can = can-take x c.args.given (Committed u m) s c.in-Committed.is c.requires.1 in
-    let given = done s (commit-unit x u m s can) (commit-stands x u m s can) can.recovers (commit-named x u m s can) can.fits.2 in
+    let can = can-take x c.args.given (Committed u m n) s c.in-Committed.is c.requires.1 in
+    let given = done s (commit-unit x u m n s can) can.fits.3 (commit-stands x u m n s can) can.recovers (commit-named x u m n s can) can.fits.2 in
     let none : statements_in e ≡ 0 = ap statements_at given.told in
     omega arith) c.committed.ensures
 
@@ -114,7 +117,7 @@ branched-requires g c =
     let x = c.args.recovery.now in
     let arm = c.in-Branched in
     let s = c.requires.0 in
-    branch-there x arm.unit arm.base arm.cause arm.made s (can-take x c.args.given (Branched arm.unit arm.base arm.cause arm.made) s arm.is c.requires.1)
+    branch-there x arm.unit arm.base arm.cause arm.made arm.number s (can-take x c.args.given (Branched arm.unit arm.base arm.cause arm.made arm.number) s arm.is c.requires.1)
 
 pub returns-in-Branched-clause-gives : goal.returns-in-Branched-clause-gives
 returns-in-Branched-clause-gives g c = IfOk-weaker c.branched.result _ _ (λ e done s.
@@ -125,10 +128,11 @@ returns-in-Branched-clause-gives g c = IfOk-weaker c.branched.result _ _ (λ e d
     let b = arm.base in
     let cause = arm.cause in
     let m = arm.made in
-    taken-as x y c.args.given (Branched u b cause m) (Some e) s arm.is
+    let n = arm.number in
+    taken-as x y c.args.given (Branched u b cause m n) (Some e) s arm.is
     (λ can.
-    let later = branch-unit x u b cause m s can in
-    done s later.unit later.part (branch-stands x u b cause m s can) can.recovers later.named later.kind can.fits.1)) c.branched.ensures
+    let later = branch-unit x u b cause m n s can in
+    done s later.unit later.part can.fits.2 (branch-stands x u b cause m n s can) can.recovers later.named later.kind can.fits.1)) c.branched.ensures
 
 pub returns-in-Branched-clause-ticks : goal.returns-in-Branched-clause-ticks
 returns-in-Branched-clause-ticks g c = IfOk-weaker c.branched.result _ _ (λ e done.
@@ -138,10 +142,11 @@ returns-in-Branched-clause-ticks g c = IfOk-weaker c.branched.result _ _ (λ e d
     let b = arm.base in
     let cause = arm.cause in
     let m = arm.made in
+    let n = arm.number in
     let s = c.requires.0 in
-    let can = can-take x c.args.given (Branched u b cause m) s arm.is c.requires.1 in
-    let later = branch-unit x u b cause m s can in
-    let given = done s later.unit later.part (branch-stands x u b cause m s can) can.recovers later.named later.kind can.fits.1 in
+    let can = can-take x c.args.given (Branched u b cause m n) s arm.is c.requires.1 in
+    let later = branch-unit x u b cause m n s can in
+    let given = done s later.unit later.part can.fits.2 (branch-stands x u b cause m n s can) can.recovers later.named later.kind can.fits.1 in
     let none : statements_in e ≡ 0 = ap statements_at given.told in
     omega arith) c.branched.ensures
 

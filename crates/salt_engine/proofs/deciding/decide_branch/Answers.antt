@@ -59,11 +59,12 @@ returns-clause-branched g c = λ s base cause b0 later.
     let moves = branch-moves holds is_new x s later.unit c.args.unit c.stands.ensures.sound later.named cause b c.in_ok-made.made c.in_ok-made.ensures in
     let may = branch-may holds is_new x s later.unit c.args.unit c.stands.ensures.sound later.named cause b c.decided_ends_may_be_kept.ensures.branch [] refl c.in_ok-made.made moves in
     branch-done holds is_new x s later.unit c.args.unit c.stands.ensures.sound later.named cause b c.decided_ends_may_be_kept.ensures.branch [] refl c.in_ok-made.made moves _ _
-    (c.in_ok-_number.ensures.holds s.kept (conts_branched s.kept later.unit.kind) b.stored.holding may) c.in_ok-_number.ensures.is_new
+    (c.in_ok-number.ensures.holds s.kept (conts_branched s.kept later.unit.kind) b.stored.holding may) c.in_ok-number.ensures.is_new
+    c.in_ok-number.number (c.in_ok-number.ensures.number s.kept b.stored.holding)
 
-pub returns-in_err-_number-clause-undone : goal.returns-in_err-_number-clause-undone
-returns-in_err-_number-clause-undone g c =
-    by-err _ c.from_residual-in_err-_number.result _ c.from_residual-in_err-_number.ensures.1 (λ s base cause b0 later.
+pub returns-in_err-number-clause-undone : goal.returns-in_err-number-clause-undone
+returns-in_err-number-clause-undone g c =
+    by-err _ c.from_residual-in_err-number.result _ c.from_residual-in_err-number.ensures.1 (λ s base cause b0 later.
     let view = g.D.Disks.view c.args.disks.now in
     let holds = g.S.Storage.holds view c.args.storage.now in
     let is_new = g.S.Storage.is_new view c.args.storage.now in
@@ -76,8 +77,8 @@ returns-in_err-_number-clause-undone g c =
     let may = branch-may holds is_new x s o c.args.unit sound later.named cause b law [] refl c.in_ok-made.made moves in
     own-undone _ _ _ s c.args.unit base cause later
     (branch-undone holds is_new x s o c.args.unit sound later.named cause b law [] refl c.in_ok-made.made moves _ _ _
-    (c.in_err-_number.ensures.leaves s.kept (conts_branched s.kept o.kind) b.stored.holding may)
-    (λ dev is. c.in_err-_number.ensures.full dev (ap Err is))))
+    (c.in_err-number.ensures.leaves s.kept (conts_branched s.kept o.kind) b.stored.holding may)
+    (λ dev is. c.in_err-number.ensures.full dev (ap Err is))))
 
 pub returns-in_err-made-clause-branched : goal.returns-in_err-made-clause-branched
 returns-in_err-made-clause-branched g c = not-ok _ _ c.from_residual.result c.from_residual.ensures.1
@@ -88,20 +89,20 @@ returns-in_err-made-clause-within g c = stays-same _ (g.D.Disks.view c.args.disk
 pub returns-in_err-made-clause-cause : goal.returns-in_err-made-clause-cause
 returns-in_err-made-clause-cause g c = cause-broken _ _ c.from_residual.result _ c.from_residual.ensures.1 (cause-lost _ _ (same-cause (g.D.Disks.view c.args.disks.now)))
 
-pub returns-in_err-_number-clause-branched : goal.returns-in_err-_number-clause-branched
-returns-in_err-_number-clause-branched g c = not-ok _ _ c.from_residual-in_err-_number.result c.from_residual-in_err-_number.ensures.1
+pub returns-in_err-number-clause-branched : goal.returns-in_err-number-clause-branched
+returns-in_err-number-clause-branched g c = not-ok _ _ c.from_residual-in_err-number.result c.from_residual-in_err-number.ensures.1
 
-pub returns-in_err-_number-clause-within : goal.returns-in_err-_number-clause-within
-returns-in_err-_number-clause-within g c = c.commit.ensures.within
+pub returns-in_err-number-clause-within : goal.returns-in_err-number-clause-within
+returns-in_err-number-clause-within g c = c.commit.ensures.within
 
-pub returns-in_err-_number-clause-cause : goal.returns-in_err-_number-clause-cause
-returns-in_err-_number-clause-cause g c = cause-broken _ _ c.from_residual-in_err-_number.result _ c.from_residual-in_err-_number.ensures.1 c.in_err-_number.ensures.cause
+pub returns-in_err-number-clause-cause : goal.returns-in_err-number-clause-cause
+returns-in_err-number-clause-cause g c = cause-broken _ _ c.from_residual-in_err-number.result _ c.from_residual-in_err-number.ensures.1 c.in_err-number.ensures.cause
 
 pub returns-clause-within : goal.returns-clause-within
 returns-clause-within g c = c.commit.ensures.within
 
 pub returns-clause-cause : goal.returns-clause-cause
-returns-clause-cause g c = c.in_ok-_number.ensures.cause
+returns-clause-cause g c = c.in_ok-number.ensures.cause
 
 pub commit-requires-clause-callable : goal.commit-requires-clause-callable
 commit-requires-clause-callable g c = c.requires.callable
@@ -114,10 +115,10 @@ returns-clause-sent g c = λ s base cause b0 later.
     let view = g.D.Disks.view c.args.disks.now in
     let holds = g.S.Storage.holds view c.args.storage.now in
     let is_new = g.S.Storage.is_new view c.args.storage.now in
-    branch-sent holds is_new c.args.books.now s later.unit c.args.unit later.named (g.S.Storage.asked c.args.storage.now) _ _ cause (own-branch holds is_new c.args.books.now s c.args.unit base cause b0 later) c.in_ok-_number.ensures.net
+    branch-sent holds is_new c.args.books.now s later.unit c.args.unit later.named (g.S.Storage.asked c.args.storage.now) _ _ cause (own-branch holds is_new c.args.books.now s c.args.unit base cause b0 later) c.in_ok-number.ensures.net
 
 pub returns-in_err-made-clause-sent : goal.returns-in_err-made-clause-sent
 returns-in_err-made-clause-sent g c = not-ok _ _ c.from_residual.result c.from_residual.ensures.1
 
-pub returns-in_err-_number-clause-sent : goal.returns-in_err-_number-clause-sent
-returns-in_err-_number-clause-sent g c = not-ok _ _ c.from_residual-in_err-_number.result c.from_residual-in_err-_number.ensures.1
+pub returns-in_err-number-clause-sent : goal.returns-in_err-number-clause-sent
+returns-in_err-number-clause-sent g c = not-ok _ _ c.from_residual-in_err-number.result c.from_residual-in_err-number.ensures.1

@@ -62,15 +62,16 @@ returns-clause-committed g c = λ s o b named.
     let are = c.as_slice.ensures.value ∙ c.in_ok-changes.ensures s o b.books named in
     let may = commit-may holds is_new x s o c.args.unit c.stands.ensures.sound named b c.decided_ends_may_be_kept.ensures.commit c.as_slice.result.now c.in_ok-made.made are moves in
     commit-done holds is_new x s o c.args.unit c.stands.ensures.sound named b c.decided_ends_may_be_kept.ensures.commit c.as_slice.result.now c.in_ok-made.made are moves _ _
-    (c.in_ok-_number.ensures.holds s.kept (conts_committed s.kept (next_decision s) o.kind o.vars) b.stored.holding may) c.in_ok-_number.ensures.is_new
+    (c.in_ok-number.ensures.holds s.kept (conts_committed s.kept (next_decision s) o.kind o.vars) b.stored.holding may) c.in_ok-number.ensures.is_new
+    c.in_ok-number.number (c.in_ok-number.ensures.number s.kept b.stored.holding)
 
 pub returns-in_err-changes-clause-undone : goal.returns-in_err-changes-clause-undone
 returns-in_err-changes-clause-undone g c =
     by-err _ c.from_residual-in_err-changes.result _ c.from_residual-in_err-changes.ensures.1 (λ s o b named. undone-before _ _ s _ (c.stands.ensures.stays s.kept b.stored.holding))
 
-pub returns-in_err-_number-clause-undone : goal.returns-in_err-_number-clause-undone
-returns-in_err-_number-clause-undone g c =
-    by-err _ c.from_residual-in_err-_number.result _ c.from_residual-in_err-_number.ensures.1 (λ s o b named.
+pub returns-in_err-number-clause-undone : goal.returns-in_err-number-clause-undone
+returns-in_err-number-clause-undone g c =
+    by-err _ c.from_residual-in_err-number.result _ c.from_residual-in_err-number.ensures.1 (λ s o b named.
     let view = g.D.Disks.view c.args.disks.now in
     let holds = g.S.Storage.holds view c.args.storage.now in
     let is_new = g.S.Storage.is_new view c.args.storage.now in
@@ -81,8 +82,8 @@ returns-in_err-_number-clause-undone g c =
     let are = c.as_slice.ensures.value ∙ c.in_ok-changes.ensures s o b.books named in
     let may = commit-may holds is_new x s o c.args.unit sound named b law c.as_slice.result.now c.in_ok-made.made are moves in
     commit-undone holds is_new x s o c.args.unit sound named b law c.as_slice.result.now c.in_ok-made.made are moves _ _ _
-    (c.in_err-_number.ensures.leaves s.kept (conts_committed s.kept (next_decision s) o.kind o.vars) b.stored.holding may)
-    (λ dev is. c.in_err-_number.ensures.full dev (ap Err is)))
+    (c.in_err-number.ensures.leaves s.kept (conts_committed s.kept (next_decision s) o.kind o.vars) b.stored.holding may)
+    (λ dev is. c.in_err-number.ensures.full dev (ap Err is)))
 
 pub returns-in_err-made-clause-committed : goal.returns-in_err-made-clause-committed
 returns-in_err-made-clause-committed g c = not-ok _ _ c.from_residual.result c.from_residual.ensures.1
@@ -102,20 +103,20 @@ returns-in_err-changes-clause-within g c = stays-same _ (g.D.Disks.view c.args.d
 pub returns-in_err-changes-clause-cause : goal.returns-in_err-changes-clause-cause
 returns-in_err-changes-clause-cause g c = cause-broken _ _ c.from_residual-in_err-changes.result _ c.from_residual-in_err-changes.ensures.1 (cause-lost _ _ (same-cause (g.D.Disks.view c.args.disks.now)))
 
-pub returns-in_err-_number-clause-committed : goal.returns-in_err-_number-clause-committed
-returns-in_err-_number-clause-committed g c = not-ok _ _ c.from_residual-in_err-_number.result c.from_residual-in_err-_number.ensures.1
+pub returns-in_err-number-clause-committed : goal.returns-in_err-number-clause-committed
+returns-in_err-number-clause-committed g c = not-ok _ _ c.from_residual-in_err-number.result c.from_residual-in_err-number.ensures.1
 
-pub returns-in_err-_number-clause-within : goal.returns-in_err-_number-clause-within
-returns-in_err-_number-clause-within g c = c.commit.ensures.within
+pub returns-in_err-number-clause-within : goal.returns-in_err-number-clause-within
+returns-in_err-number-clause-within g c = c.commit.ensures.within
 
-pub returns-in_err-_number-clause-cause : goal.returns-in_err-_number-clause-cause
-returns-in_err-_number-clause-cause g c = cause-broken _ _ c.from_residual-in_err-_number.result _ c.from_residual-in_err-_number.ensures.1 c.in_err-_number.ensures.cause
+pub returns-in_err-number-clause-cause : goal.returns-in_err-number-clause-cause
+returns-in_err-number-clause-cause g c = cause-broken _ _ c.from_residual-in_err-number.result _ c.from_residual-in_err-number.ensures.1 c.in_err-number.ensures.cause
 
 pub returns-clause-within : goal.returns-clause-within
 returns-clause-within g c = c.commit.ensures.within
 
 pub returns-clause-cause : goal.returns-clause-cause
-returns-clause-cause g c = c.in_ok-_number.ensures.cause
+returns-clause-cause g c = c.in_ok-number.ensures.cause
 
 pub commit-requires-clause-callable : goal.commit-requires-clause-callable
 commit-requires-clause-callable g c = c.requires.callable
@@ -127,7 +128,7 @@ pub returns-clause-sent : goal.returns-clause-sent
 returns-clause-sent g c = λ s o b named.
     let view = g.D.Disks.view c.args.disks.now in
     commit-sent (g.S.Storage.holds view c.args.storage.now) (g.S.Storage.is_new view c.args.storage.now) c.args.books.now s o c.args.unit named (g.S.Storage.asked c.args.storage.now) _ _ b c.as_slice.result.now
-    (c.as_slice.ensures.value ∙ c.in_ok-changes.ensures s o b.books named) c.in_ok-_number.ensures.net
+    (c.as_slice.ensures.value ∙ c.in_ok-changes.ensures s o b.books named) c.in_ok-number.ensures.net
 
 pub returns-in_err-made-clause-sent : goal.returns-in_err-made-clause-sent
 returns-in_err-made-clause-sent g c = not-ok _ _ c.from_residual.result c.from_residual.ensures.1
@@ -135,5 +136,5 @@ returns-in_err-made-clause-sent g c = not-ok _ _ c.from_residual.result c.from_r
 pub returns-in_err-changes-clause-sent : goal.returns-in_err-changes-clause-sent
 returns-in_err-changes-clause-sent g c = not-ok _ _ c.from_residual-in_err-changes.result c.from_residual-in_err-changes.ensures.1
 
-pub returns-in_err-_number-clause-sent : goal.returns-in_err-_number-clause-sent
-returns-in_err-_number-clause-sent g c = not-ok _ _ c.from_residual-in_err-_number.result c.from_residual-in_err-_number.ensures.1
+pub returns-in_err-number-clause-sent : goal.returns-in_err-number-clause-sent
+returns-in_err-number-clause-sent g c = not-ok _ _ c.from_residual-in_err-number.result c.from_residual-in_err-number.ensures.1

@@ -108,45 +108,45 @@ decide_commit-requires-clause-ready g c =
     let h = asks-as holds is_new x c.args.coming (Commit u) s c.in-Commit.is c.requires.ready.1 in
     (s.units, commit-unit holds is_new x u s h, commit-before holds is_new x u s h, commit-named holds is_new x u s h)
 
-pub returns-in_ok-made-in-Commit-clause-given : goal.returns-in_ok-made-in-Commit-clause-given
-returns-in_ok-made-in-Commit-clause-given g c = λ s.
+pub returns-in_ok-decided-in-Commit-clause-given : goal.returns-in_ok-decided-in-Commit-clause-given
+returns-in_ok-decided-in-Commit-clause-given g c = λ s.
     let x = c.args.books.now in
     let u = c.in-Commit.unit in
-    let made = c.in_ok-made-in-Commit.made in
-    given-as _ _ _ _ _ x c.args.coming (Commit u) (given.Committed u made) s c.in-Commit.is
-    (λ h. commit-given _ _ x u s h _ _ made
-    (c.in_ok-made-in-Commit.ensures.committed s.units (commit-unit _ _ x u s h) (commit-before _ _ x u s h) (commit-named _ _ x u s h)))
+    let decided = c.in_ok-decided-in-Commit.decided in
+    given-as _ _ _ _ _ x c.args.coming (Commit u) (given.Committed u decided.made decided.number) s c.in-Commit.is
+    (λ h. commit-given _ _ x u s h _ _ decided
+    (c.in_ok-decided-in-Commit.ensures.committed s.units (commit-unit _ _ x u s h) (commit-before _ _ x u s h) (commit-named _ _ x u s h)))
 
-pub returns-in_ok-made-in-Commit-clause-within : goal.returns-in_ok-made-in-Commit-clause-within
-returns-in_ok-made-in-Commit-clause-within g c = c.decide_commit.ensures.within
+pub returns-in_ok-decided-in-Commit-clause-within : goal.returns-in_ok-decided-in-Commit-clause-within
+returns-in_ok-decided-in-Commit-clause-within g c = c.decide_commit.ensures.within
 
-pub returns-in_ok-made-in-Commit-clause-cause : goal.returns-in_ok-made-in-Commit-clause-cause
-returns-in_ok-made-in-Commit-clause-cause g c = c.in_ok-made-in-Commit.ensures.cause
+pub returns-in_ok-decided-in-Commit-clause-cause : goal.returns-in_ok-decided-in-Commit-clause-cause
+returns-in_ok-decided-in-Commit-clause-cause g c = c.in_ok-decided-in-Commit.ensures.cause
 
-pub returns-in_ok-made-in-Commit-clause-still : goal.returns-in_ok-made-in-Commit-clause-still
-returns-in_ok-made-in-Commit-clause-still g c = λ is. let no = sym is ∙ c.in-Commit.is in cc
+pub returns-in_ok-decided-in-Commit-clause-still : goal.returns-in_ok-decided-in-Commit-clause-still
+returns-in_ok-decided-in-Commit-clause-still g c = λ is. let no = sym is ∙ c.in-Commit.is in cc
 
-pub returns-in_err-made-in-Commit-clause-given : goal.returns-in_err-made-in-Commit-clause-given
-returns-in_err-made-in-Commit-clause-given g c = not-ok _ _ c.from_residual-in_err-made-in-Commit.result c.from_residual-in_err-made-in-Commit.ensures.1
+pub returns-in_err-decided-in-Commit-clause-given : goal.returns-in_err-decided-in-Commit-clause-given
+returns-in_err-decided-in-Commit-clause-given g c = not-ok _ _ c.from_residual-in_err-decided-in-Commit.result c.from_residual-in_err-decided-in-Commit.ensures.1
 
-pub returns-in_err-made-in-Commit-clause-undone : goal.returns-in_err-made-in-Commit-clause-undone
-returns-in_err-made-in-Commit-clause-undone g c =
+pub returns-in_err-decided-in-Commit-clause-undone : goal.returns-in_err-decided-in-Commit-clause-undone
+returns-in_err-decided-in-Commit-clause-undone g c =
     let x = c.args.books.now in
     let u = c.in-Commit.unit in
-    by-err _ c.from_residual-in_err-made-in-Commit.result _ c.from_residual-in_err-made-in-Commit.ensures.1 (λ s.
+    by-err _ c.from_residual-in_err-decided-in-Commit.result _ c.from_residual-in_err-decided-in-Commit.ensures.1 (λ s.
     undone-as _ _ _ _ _ _ x c.args.coming (Commit u) s c.in-Commit.is (λ h.
     commit-undone _ _ x u s h _ _ _
-    (c.in_err-made-in-Commit.ensures.undone s.units (commit-unit _ _ x u s h) (commit-before _ _ x u s h) (commit-named _ _ x u s h))))
+    (c.in_err-decided-in-Commit.ensures.undone s.units (commit-unit _ _ x u s h) (commit-before _ _ x u s h) (commit-named _ _ x u s h))))
 
-pub returns-in_err-made-in-Commit-clause-within : goal.returns-in_err-made-in-Commit-clause-within
-returns-in_err-made-in-Commit-clause-within g c = c.decide_commit.ensures.within
+pub returns-in_err-decided-in-Commit-clause-within : goal.returns-in_err-decided-in-Commit-clause-within
+returns-in_err-decided-in-Commit-clause-within g c = c.decide_commit.ensures.within
 
-pub returns-in_err-made-in-Commit-clause-cause : goal.returns-in_err-made-in-Commit-clause-cause
-returns-in_err-made-in-Commit-clause-cause g c =
-    cause-broken _ _ c.from_residual-in_err-made-in-Commit.result _ c.from_residual-in_err-made-in-Commit.ensures.1 c.in_err-made-in-Commit.ensures.cause
+pub returns-in_err-decided-in-Commit-clause-cause : goal.returns-in_err-decided-in-Commit-clause-cause
+returns-in_err-decided-in-Commit-clause-cause g c =
+    cause-broken _ _ c.from_residual-in_err-decided-in-Commit.result _ c.from_residual-in_err-decided-in-Commit.ensures.1 c.in_err-decided-in-Commit.ensures.cause
 
-pub returns-in_err-made-in-Commit-clause-still : goal.returns-in_err-made-in-Commit-clause-still
-returns-in_err-made-in-Commit-clause-still g c = λ is. let no = sym is ∙ c.in-Commit.is in cc
+pub returns-in_err-decided-in-Commit-clause-still : goal.returns-in_err-decided-in-Commit-clause-still
+returns-in_err-decided-in-Commit-clause-still g c = λ is. let no = sym is ∙ c.in-Commit.is in cc
 
 -- a branch
 
@@ -167,51 +167,51 @@ decide_branch-requires-clause-ready g c =
     let h = asks-as holds is_new x c.args.coming (Branch arm.unit arm.base arm.cause) s arm.is c.requires.ready.1 in
     (s.units, arm.base, arm.cause, branch-before holds is_new x arm.unit arm.base arm.cause s h, branch-unit holds is_new x arm.unit arm.base arm.cause s h)
 
-pub returns-in_ok-made-in-Branch-clause-given : goal.returns-in_ok-made-in-Branch-clause-given
-returns-in_ok-made-in-Branch-clause-given g c = λ s.
+pub returns-in_ok-decided-in-Branch-clause-given : goal.returns-in_ok-decided-in-Branch-clause-given
+returns-in_ok-decided-in-Branch-clause-given g c = λ s.
     let x = c.args.books.now in
     let arm = c.in-Branch in
     let u = arm.unit in
     let b = arm.base in
     let cause = arm.cause in
-    let made = c.in_ok-made-in-Branch.made in
-    given-as _ _ _ _ _ x c.args.coming (Branch u b cause) (given.Branched u b cause made) s arm.is
-    (λ h. branch-given _ _ x u b cause s h _ _ made
-    (c.in_ok-made-in-Branch.ensures.branched s.units b cause (branch-before _ _ x u b cause s h) (branch-unit _ _ x u b cause s h)))
+    let decided = c.in_ok-decided-in-Branch.decided in
+    given-as _ _ _ _ _ x c.args.coming (Branch u b cause) (given.Branched u b cause decided.made decided.number) s arm.is
+    (λ h. branch-given _ _ x u b cause s h _ _ decided
+    (c.in_ok-decided-in-Branch.ensures.branched s.units b cause (branch-before _ _ x u b cause s h) (branch-unit _ _ x u b cause s h)))
 
-pub returns-in_ok-made-in-Branch-clause-within : goal.returns-in_ok-made-in-Branch-clause-within
-returns-in_ok-made-in-Branch-clause-within g c = c.decide_branch.ensures.within
+pub returns-in_ok-decided-in-Branch-clause-within : goal.returns-in_ok-decided-in-Branch-clause-within
+returns-in_ok-decided-in-Branch-clause-within g c = c.decide_branch.ensures.within
 
-pub returns-in_ok-made-in-Branch-clause-cause : goal.returns-in_ok-made-in-Branch-clause-cause
-returns-in_ok-made-in-Branch-clause-cause g c = c.in_ok-made-in-Branch.ensures.cause
+pub returns-in_ok-decided-in-Branch-clause-cause : goal.returns-in_ok-decided-in-Branch-clause-cause
+returns-in_ok-decided-in-Branch-clause-cause g c = c.in_ok-decided-in-Branch.ensures.cause
 
-pub returns-in_ok-made-in-Branch-clause-still : goal.returns-in_ok-made-in-Branch-clause-still
-returns-in_ok-made-in-Branch-clause-still g c = λ is. let no = sym is ∙ c.in-Branch.is in cc
+pub returns-in_ok-decided-in-Branch-clause-still : goal.returns-in_ok-decided-in-Branch-clause-still
+returns-in_ok-decided-in-Branch-clause-still g c = λ is. let no = sym is ∙ c.in-Branch.is in cc
 
-pub returns-in_err-made-in-Branch-clause-given : goal.returns-in_err-made-in-Branch-clause-given
-returns-in_err-made-in-Branch-clause-given g c = not-ok _ _ c.from_residual-in_err-made-in-Branch.result c.from_residual-in_err-made-in-Branch.ensures.1
+pub returns-in_err-decided-in-Branch-clause-given : goal.returns-in_err-decided-in-Branch-clause-given
+returns-in_err-decided-in-Branch-clause-given g c = not-ok _ _ c.from_residual-in_err-decided-in-Branch.result c.from_residual-in_err-decided-in-Branch.ensures.1
 
-pub returns-in_err-made-in-Branch-clause-undone : goal.returns-in_err-made-in-Branch-clause-undone
-returns-in_err-made-in-Branch-clause-undone g c =
+pub returns-in_err-decided-in-Branch-clause-undone : goal.returns-in_err-decided-in-Branch-clause-undone
+returns-in_err-decided-in-Branch-clause-undone g c =
     let x = c.args.books.now in
     let arm = c.in-Branch in
     let u = arm.unit in
     let b = arm.base in
     let cause = arm.cause in
-    by-err _ c.from_residual-in_err-made-in-Branch.result _ c.from_residual-in_err-made-in-Branch.ensures.1 (λ s.
+    by-err _ c.from_residual-in_err-decided-in-Branch.result _ c.from_residual-in_err-decided-in-Branch.ensures.1 (λ s.
     undone-as _ _ _ _ _ _ x c.args.coming (Branch u b cause) s arm.is (λ h.
     branch-undone _ _ x u b cause s h _ _ _
-    (c.in_err-made-in-Branch.ensures.undone s.units b cause (branch-before _ _ x u b cause s h) (branch-unit _ _ x u b cause s h))))
+    (c.in_err-decided-in-Branch.ensures.undone s.units b cause (branch-before _ _ x u b cause s h) (branch-unit _ _ x u b cause s h))))
 
-pub returns-in_err-made-in-Branch-clause-within : goal.returns-in_err-made-in-Branch-clause-within
-returns-in_err-made-in-Branch-clause-within g c = c.decide_branch.ensures.within
+pub returns-in_err-decided-in-Branch-clause-within : goal.returns-in_err-decided-in-Branch-clause-within
+returns-in_err-decided-in-Branch-clause-within g c = c.decide_branch.ensures.within
 
-pub returns-in_err-made-in-Branch-clause-cause : goal.returns-in_err-made-in-Branch-clause-cause
-returns-in_err-made-in-Branch-clause-cause g c =
-    cause-broken _ _ c.from_residual-in_err-made-in-Branch.result _ c.from_residual-in_err-made-in-Branch.ensures.1 c.in_err-made-in-Branch.ensures.cause
+pub returns-in_err-decided-in-Branch-clause-cause : goal.returns-in_err-decided-in-Branch-clause-cause
+returns-in_err-decided-in-Branch-clause-cause g c =
+    cause-broken _ _ c.from_residual-in_err-decided-in-Branch.result _ c.from_residual-in_err-decided-in-Branch.ensures.1 c.in_err-decided-in-Branch.ensures.cause
 
-pub returns-in_err-made-in-Branch-clause-still : goal.returns-in_err-made-in-Branch-clause-still
-returns-in_err-made-in-Branch-clause-still g c = λ is. let no = sym is ∙ c.in-Branch.is in cc
+pub returns-in_err-decided-in-Branch-clause-still : goal.returns-in_err-decided-in-Branch-clause-still
+returns-in_err-decided-in-Branch-clause-still g c = λ is. let no = sym is ∙ c.in-Branch.is in cc
 
 -- WHAT WAS SENT
 
@@ -235,26 +235,26 @@ returns-in_ok-rows-in-Act-clause-sent g c = λ s k.
 pub returns-in_err-rows-in-Act-clause-sent : goal.returns-in_err-rows-in-Act-clause-sent
 returns-in_err-rows-in-Act-clause-sent g c = not-ok _ _ c.from_residual.result c.from_residual.ensures.1
 
-pub returns-in_ok-made-in-Commit-clause-sent : goal.returns-in_ok-made-in-Commit-clause-sent
-returns-in_ok-made-in-Commit-clause-sent g c = λ s k.
+pub returns-in_ok-decided-in-Commit-clause-sent : goal.returns-in_ok-decided-in-Commit-clause-sent
+returns-in_ok-decided-in-Commit-clause-sent g c = λ s k.
     let x = c.args.books.now in
     let u = c.in-Commit.unit in
     let h = asks-as _ _ x c.args.coming (Commit u) s c.in-Commit.is k in
     sent-as (g.S.Storage.asked c.args.storage.now) _ _ c.args.coming (Commit u) s c.in-Commit.is (meant-sent (g.S.Storage.asked c.args.storage.now) _ _ (Commit u) (commit-event _ _ x u s h) s (commit-meant _ _ x u s h)
-    (c.in_ok-made-in-Commit.ensures.sent s.units (commit-unit _ _ x u s h) (commit-before _ _ x u s h) (commit-named _ _ x u s h)))
+    (c.in_ok-decided-in-Commit.ensures.sent s.units (commit-unit _ _ x u s h) (commit-before _ _ x u s h) (commit-named _ _ x u s h)))
 
-pub returns-in_err-made-in-Commit-clause-sent : goal.returns-in_err-made-in-Commit-clause-sent
-returns-in_err-made-in-Commit-clause-sent g c = not-ok _ _ c.from_residual-in_err-made-in-Commit.result c.from_residual-in_err-made-in-Commit.ensures.1
+pub returns-in_err-decided-in-Commit-clause-sent : goal.returns-in_err-decided-in-Commit-clause-sent
+returns-in_err-decided-in-Commit-clause-sent g c = not-ok _ _ c.from_residual-in_err-decided-in-Commit.result c.from_residual-in_err-decided-in-Commit.ensures.1
 
-pub returns-in_ok-made-in-Branch-clause-sent : goal.returns-in_ok-made-in-Branch-clause-sent
-returns-in_ok-made-in-Branch-clause-sent g c = λ s k.
+pub returns-in_ok-decided-in-Branch-clause-sent : goal.returns-in_ok-decided-in-Branch-clause-sent
+returns-in_ok-decided-in-Branch-clause-sent g c = λ s k.
     let x = c.args.books.now in
     let arm = c.in-Branch in
     let u = arm.unit in
     let b = arm.base in
     let cause = arm.cause in
     let h = asks-as _ _ x c.args.coming (Branch u b cause) s arm.is k in
-    sent-as (g.S.Storage.asked c.args.storage.now) _ _ c.args.coming (Branch u b cause) s arm.is (c.in_ok-made-in-Branch.ensures.sent s.units b cause (branch-before _ _ x u b cause s h) (branch-unit _ _ x u b cause s h))
+    sent-as (g.S.Storage.asked c.args.storage.now) _ _ c.args.coming (Branch u b cause) s arm.is (c.in_ok-decided-in-Branch.ensures.sent s.units b cause (branch-before _ _ x u b cause s h) (branch-unit _ _ x u b cause s h))
 
-pub returns-in_err-made-in-Branch-clause-sent : goal.returns-in_err-made-in-Branch-clause-sent
-returns-in_err-made-in-Branch-clause-sent g c = not-ok _ _ c.from_residual-in_err-made-in-Branch.result c.from_residual-in_err-made-in-Branch.ensures.1
+pub returns-in_err-decided-in-Branch-clause-sent : goal.returns-in_err-decided-in-Branch-clause-sent
+returns-in_err-decided-in-Branch-clause-sent g c = not-ok _ _ c.from_residual-in_err-decided-in-Branch.result c.from_residual-in_err-decided-in-Branch.ensures.1

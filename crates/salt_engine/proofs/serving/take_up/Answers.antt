@@ -49,8 +49,9 @@ committed-requires c =
     let x = c.args.scheduler.now in
     let u = c.in-Committed.unit in
     let m = c.in-Committed.made in
+    let n = c.in-Committed.number in
     let s = c.requires.0 in
-    commit-there x u m s (can-take x c.args.given (Committed u m) s c.in-Committed.is c.requires.1)
+    commit-there x u m n s (can-take x c.args.given (Committed u m n) s c.in-Committed.is c.requires.1)
 
 pub returns-in_ok-event-in-Committed : goal.returns-in_ok-event-in-Committed
 returns-in_ok-event-in-Committed c = λ s.
@@ -58,17 +59,18 @@ returns-in_ok-event-in-Committed c = λ s.
     let y = c.committed.new.self in
     let u = c.in-Committed.unit in
     let m = c.in-Committed.made in
+    let n = c.in-Committed.number in
     let e = c.in_ok-event-in-Committed.event in
-    taken-as x y c.args.given (Committed u m) (Some e) s c.in-Committed.is
-    (λ can. commit-taken x u m s can y (Some e)
-    (c.in_ok-event-in-Committed.ensures s (commit-unit x u m s can) (commit-stands x u m s can) can.sound (commit-named x u m s can) can.fits.2))
+    taken-as x y c.args.given (Committed u m n) (Some e) s c.in-Committed.is
+    (λ can. commit-taken x u m n s can y (Some e)
+    (c.in_ok-event-in-Committed.ensures s (commit-unit x u m n s can) can.fits.3 (commit-stands x u m n s can) can.sound (commit-named x u m n s can) can.fits.2))
 
 pub branched-requires : goal.branched-requires
 branched-requires c =
     let x = c.args.scheduler.now in
     let arm = c.in-Branched in
     let s = c.requires.0 in
-    branch-there x arm.unit arm.base arm.cause arm.made s (can-take x c.args.given (Branched arm.unit arm.base arm.cause arm.made) s arm.is c.requires.1)
+    branch-there x arm.unit arm.base arm.cause arm.made arm.number s (can-take x c.args.given (Branched arm.unit arm.base arm.cause arm.made arm.number) s arm.is c.requires.1)
 
 pub returns-in_ok-event-in-Branched : goal.returns-in_ok-event-in-Branched
 returns-in_ok-event-in-Branched c = λ s.
@@ -79,8 +81,9 @@ returns-in_ok-event-in-Branched c = λ s.
     let b = arm.base in
     let cause = arm.cause in
     let m = arm.made in
+    let n = arm.number in
     let e = c.in_ok-event-in-Branched.event in
-    taken-as x y c.args.given (Branched u b cause m) (Some e) s arm.is
+    taken-as x y c.args.given (Branched u b cause m n) (Some e) s arm.is
     (λ can.
-    let later = branch-unit x u b cause m s can in
-    c.in_ok-event-in-Branched.ensures s later.unit later.part (branch-stands x u b cause m s can) can.sound later.named later.kind can.fits.1)
+    let later = branch-unit x u b cause m n s can in
+    c.in_ok-event-in-Branched.ensures s later.unit later.part can.fits.2 (branch-stands x u b cause m n s can) can.sound later.named later.kind can.fits.1)

@@ -13,16 +13,11 @@ use Rattle.law_states.specs.Told.{next_decision}
 use Rattle.salt_books.specs.Known.{IsKnown}
 use Rattle.salt_model.specs.Kept.{Kept}
 use Rattle.salt_model.specs.declared.events.End.TheVariants.{Branched}
-use Rattle.std.proofs.Common.{List, ap, length, subst, sym, ◌+◌, ◌<◌, ◌∙◌, ◌≡◌}
+use Rattle.std.proofs.Common.{List, ap, length, subst, sym, ◌<◌, ◌∙◌, ◌≡◌}
 use Rattle.std.specs.Prelude.{get_or, map}
 
-pub returns-clause-number : goal.returns-clause-number
-returns-clause-number c = λ s h.
-    let was = books-shown _ _ s c.self.view_is h in
-    c.in_ok-number.ensures.number ∙ ap (λ n. n + 1) was.known.decisions
-
-pub returns-clause-state : goal.returns-clause-state
-returns-clause-state c = λ s o conts cause h rises named moves are.
+pub returns : goal.returns
+returns c = λ s o conts cause is h rises named moves are.
     let was = books-shown _ _ s c.self.view_is h in
     let within = subst (λ (hs : List Held). c.place_named-at.result < length hs) c.as_slice.ensures.value c.place_named-at.ensures.within in
     let named-at = λ (d : Held). subst (λ (hs : List Held). (get_or hs c.place_named-at.result d).open.unit ≡ c.args.unit) c.as_slice.ensures.value (c.place_named-at.ensures.named d) in
@@ -31,8 +26,8 @@ returns-clause-state c = λ s o conts cause h rises named moves are.
     let end = Branched (next_decision s) cause in
     record {
       known = subst (λ (k : Kept). IsKnown c.commit.new.self k)
-          ((λ i. record s.kept { decisions = next_decision s; tables = s.kept.tables; conts = are i }) ∙ sym (ap (kept_ended s.kept end) named))
-          (c.in_ok-number.ensures.kept s.kept conts was.known moves (s.kept.tables));
+          ((λ i. record s.kept { decisions = is i; tables = s.kept.tables; conts = are i }) ∙ sym (ap (kept_ended s.kept end) named))
+          (c.in_ok-commit.ensures s.kept conts was.known moves (s.kept.tables));
       units = ap (map seen) c.remove-held.ensures.items
           ∙ left items s.units c.place_named-at.result c.args.unit was.units rises within held (named-at held);
       unit_count = was.unit_count;

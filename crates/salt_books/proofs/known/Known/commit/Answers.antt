@@ -3,18 +3,18 @@ use Rattle.salt_books.proofs.Shown.{known-shown}
 use Rattle.salt_books.proofs.known.Known.commit.Goals as goal
 use Rattle.salt_books.specs.Bases.{bases_in}
 use Rattle.salt_stands.specs.OpenConts.{make_move}
-use Rattle.std.proofs.Common.{List, ap, false, true, ◌+◌, ◌≡◌, ◌∙◌}
+use Rattle.std.proofs.Common.{List, ap, false, refl, true, ◌≡◌, ◌∙◌}
 use Rattle.salt_values.specs.declared.cont.Cont.{Cont}
 
-pub returns-clause-kept : goal.returns-clause-kept
-returns-clause-kept c = λ k conts h moves es.
+pub returns : goal.returns
+returns c = λ k conts h moves es.
     let same = known-shown _ _ k c.self.view_is h in
     record {
       schema = same.schema;
       catalogue = same.catalogue;
       conts = c.in_ok-rising.ensures.moved conts (ap (λ (cs : List Cont). make_move cs c.args.made) same.conts ∙ moves);
       boot = same.boot;
-      decisions = c.in_ok-number.ensures ∙ ap (λ n. n + 1) same.decisions;
+      decisions = refl;
     }
 
 pub make_move-requires : goal.make_move-requires

@@ -10,13 +10,13 @@ use Rattle.salt_books.proofs.Named.{rising}
 use Rattle.std.specs.Prelude.{refl}
 
 pub returns : goal.returns
-returns c = λ s o part stands r named kind moves.
+returns c = λ s o part number stands r named kind moves.
     let u = c.args.unit in
     let n = next_decision s.units in
     let e = Ended u (Branched n c.args.cause) in
-    gives e _ _ s _ r (λ i. Ended u (Branched (c.in_ok-number.ensures.number s.units stands.books i) c.args.cause)) refl refl
+    gives e _ _ s _ r (λ i. Ended u (Branched (number i) c.args.cause)) refl refl
     (record {
-      books = c.in_ok-number.ensures.state s.units o (conts_branched s.units.kept o.kind) c.args.cause stands.books (rising s r.sound) named moves refl;
+      books = c.in_ok-branch.ensures s.units o (conts_branched s.units.kept o.kind) c.args.cause number stands.books (rising s r.sound) named moves refl;
       opening = stands.opening;
       single = stands.single;
       drain = tt;

@@ -16,16 +16,16 @@ use Rattle.std.proofs.Common.{subst, sym}
 use Rattle.std.specs.Prelude.{Some, refl}
 
 pub returns : goal.returns
-returns c = λ s o stands r named moves.
+returns c = λ s o number stands r named moves.
     let u = c.args.unit in
     let n = next_decision s.units in
     let e = Ended u (Committed n) in
     let held : OpenUnit = seen c.held-held.result.now in
     let follows = committed u n s.units (units_after e s.units) held (c.held-held.ensures s.units stands.books) in
-    gives e _ _ s _ r (λ i. Ended u (Committed (c.in_ok-number.ensures.number s.units stands.books i)))
+    gives e _ _ s _ r (λ i. Ended u (Committed (number i)))
     (λ i. Some (Ended (sym (named-unit u s.units.units o named) i) (Committed n))) refl
     (record {
-      books = c.in_ok-number.ensures.state s.units o (conts_committed s.units.kept n o.kind o.vars) stands.books (rising s r.sound) named moves refl;
+      books = c.in_ok-commit.ensures s.units o (conts_committed s.units.kept n o.kind o.vars) number stands.books (rising s r.sound) named moves refl;
       opening = stands.opening;
       single = stands.single;
       drain = subst (λ (b : Behind). IsOfDrain b (units_after e s.units)) (sym c.behind_commit-behind.ensures) (commit-drain held.kind (units_after e s.units));

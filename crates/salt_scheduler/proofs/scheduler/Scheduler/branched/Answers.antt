@@ -12,11 +12,11 @@ use Rattle.salt_scheduler.proofs.EndsDone.{branch-gives, ended-first}
 use Rattle.std.proofs.Common.{ap, ◌∙◌}
 
 pub returns : goal.returns
-returns c = λ s o part stands sound named kind made.
+returns c = λ s o part number stands sound named kind made.
     let end : End = Branched (next_decision s.units) c.args.cause in
     branch-gives c.args.self.now _ c.args.unit c.args.base part c.args.cause o s _ stands named kind
-    (λ i. Some (Ended c.args.unit (Branched (c.in_ok-number.ensures.number s.units stands.books i) c.args.cause)))
-    (c.in_ok-number.ensures.state s.units o (conts_branched s.units.kept o.kind) c.args.cause stands.books (rising s sound) named made refl)
+    (λ i. Some (Ended c.args.unit (Branched (number i) c.args.cause)))
+    (c.in_ok-branch.ensures s.units o (conts_branched s.units.kept o.kind) c.args.cause number stands.books (rising s sound) named made refl)
     (c.end.ensures s.watch (facts_in s.units (Ended c.args.unit end)) end stands.watch (λ never. never)
     (ended-first s.units c.args.unit end o named ∙ ap program_begun kind))
     refl

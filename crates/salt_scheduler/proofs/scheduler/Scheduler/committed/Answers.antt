@@ -16,12 +16,12 @@ use Rattle.std.proofs.Common.{ap, sym, ◌∙◌}
 use Rattle.std.specs.Prelude.{Some, map, refl, ◌≡◌}
 
 pub returns : goal.returns
-returns c = λ s o stands sound named made.
+returns c = λ s o number stands sound named made.
     let is : o ≡ seen c.held-held.result.now = one-found _ o (seen c.held-held.result.now) named (c.held-held.ensures s.units stands.books) in
     let e = Ended c.args.unit (Committed (next_decision s.units)) in
     commit-gives c.args.self.now _ c.args.unit o c.is_none.result s _ stands named
-    (λ i. Some (Ended c.args.unit (Committed (c.in_ok-number.ensures.number s.units stands.books i))))
-    (c.in_ok-number.ensures.state s.units o (conts_committed s.units.kept (next_decision s.units) o.kind o.vars) stands.books (rising s sound) named made refl)
+    (λ i. Some (Ended c.args.unit (Committed (number i))))
+    (c.in_ok-commit-2.ensures s.units o (conts_committed s.units.kept (next_decision s.units) o.kind o.vars) number stands.books (rising s sound) named made refl)
     (c.in_ok-commit.ensures s.watch (facts_in s.units e) (next_decision s.units) stands.watch
     (ended-base s.units c.args.unit (Committed (next_decision s.units)) o named ∙ ap (λ (o : OpenUnit). program_of_kind o.kind) is ∙ sym c.program_of-base.ensures)
     (ended-places s.units c.args.unit (Committed (next_decision s.units)) o c.held-held.result.now.open.changes.items named (ap (λ (o : OpenUnit). o.changes) is)
