@@ -8,8 +8,8 @@ use Rattle.salt_ast.specs.declared.trees.TableDef.{TableDef}
 use Rattle.salt_audit.specs.Standing.{begun_in, cont_named}
 use Rattle.salt_audit.specs.declared.state.Begun.{Begun}
 use Rattle.salt_audit.specs.declared.state.State.{State}
-use Rattle.salt_bytes.specs.declared.moves.Move.TheVariants.{Continue}
-use Rattle.salt_bytes.specs.declared.moves.Move.{Move}
+use Rattle.salt_cont.specs.Move.TheVariants.{Continue}
+use Rattle.salt_cont.specs.Move.{Move}
 use Rattle.salt_model.specs.Kept.{Definition, OfProgram, OfTable, begun_cont, block_of_call, block_of_part, moved, parts_of}
 use Rattle.salt_model.specs.Units.{program_of_kind}
 use Rattle.salt_model.specs.declared.events.End.TheVariants.{Branched, Committed}

@@ -1,5 +1,5 @@
 -- A move that continuations allow, by its kind.
-use Rattle.salt_bytes.specs.declared.moves.Move.TheVariants.{Continue, Finish}
+use Rattle.salt_cont.specs.Move.TheVariants.{Continue, Finish}
 use Rattle.salt_model.specs.Kept.{cont_in}
 use Rattle.salt_stands.specs.OpenConts.{end_of, go_to, is_accepted_before, make_move, replace_cont, without_cont}
 use Rattle.salt_values.specs.declared.cont.Cont.{Cont}

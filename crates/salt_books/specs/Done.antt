@@ -7,7 +7,7 @@ use Rattle.salt_ast.specs.declared.trees.Statement.{Statement}
 use Rattle.salt_books.specs.Books.{AreBooks, AreLoaded, IsUnitAtPart}
 use Rattle.salt_books.specs.Moves.{CanMove, MovesTo}
 use Rattle.salt_books.specs.declared.books.Books.{Books}
-use Rattle.salt_bytes.specs.declared.moves.Move.{Move}
+use Rattle.salt_cont.specs.Move.{Move}
 use Rattle.salt_model.specs.Kept.{conts_branched, conts_committed, schema_of}
 use Rattle.salt_model.specs.Reaches.{reach}
 use Rattle.salt_model.specs.Tables.{Tables}

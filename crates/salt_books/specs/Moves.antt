@@ -1,6 +1,6 @@
 -- The moves of programs at the decided ends of their units.
-use Rattle.salt_bytes.specs.declared.moves.Move.TheVariants.{Continue, Finish, Plain}
-use Rattle.salt_bytes.specs.declared.moves.Move.{Move}
+use Rattle.salt_cont.specs.Move.TheVariants.{Continue, Finish, Plain}
+use Rattle.salt_cont.specs.Move.{Move}
 use Rattle.salt_model.specs.Kept.{Kept, cont_of, conts_branched, conts_committed}
 use Rattle.salt_model.specs.Words.{Every}
 use Rattle.salt_model.specs.declared.events.UnitKind.TheVariants.{First, Later}

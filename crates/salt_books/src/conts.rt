@@ -2,7 +2,7 @@
 
 ghost use Rattle.law_states.specs.Rising.{Rising};
 ghost use Rattle.salt_books.specs.Bases.{bases_in};
-ghost use Rattle.salt_bytes.specs.declared.moves.Move.TheVariants.{Continue, Finish};
+ghost use Rattle.salt_cont.specs.Move.TheVariants.{Continue, Finish};
 ghost use Rattle.salt_stands.specs.OpenConts.{make_move, replace_cont};
 ghost use Rattle.salt_values.specs.Id.{is_older, is_same_id};
 ghost use Rattle.salt_values.specs.declared.cont.Cont.{Cont};

@@ -9,7 +9,7 @@ use Rattle.salt_books.proofs.Shown.{have-unit}
 use Rattle.salt_books.specs.Books.{AreBooks, HaveUnit, IsUnitAtPart, programs_in, tables_in}
 use Rattle.salt_books.specs.Coming.{IsLaterUnit}
 use Rattle.salt_books.specs.declared.books.Books.{Books}
-use Rattle.salt_bytes.specs.declared.moves.Move.{Move}
+use Rattle.salt_cont.specs.Move.{Move}
 use Rattle.salt_database.specs.Finding.{Flies}
 use Rattle.salt_engine.specs.Deciding.{branches_in}
 use Rattle.salt_engine.specs.Flights.{IsInFlight, IsProgramToCome, IsTableToCome}

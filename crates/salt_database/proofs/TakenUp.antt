@@ -7,7 +7,7 @@ use Rattle.salt_books.specs.declared.asking.Asking.{Asking}
 use Rattle.salt_books.specs.declared.books.Books.{Books}
 use Rattle.salt_books.specs.declared.coming.Coming.{Coming}
 use Rattle.salt_books.specs.declared.coming.Coming.TheVariants as coming
-use Rattle.salt_bytes.specs.declared.moves.Move.{Move}
+use Rattle.salt_cont.specs.Move.{Move}
 use Rattle.salt_database.proofs.Stages.{opens-by}
 use Rattle.salt_database.specs.Performing.{CanTakeUp, IsToOpen, MayStep}
 use Rattle.salt_database.specs.Standing.{OpensIn}

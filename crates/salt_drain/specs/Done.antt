@@ -7,7 +7,7 @@ use Rattle.salt_books.specs.Asking.{IsAskedBy}
 use Rattle.salt_books.specs.Books.{AreLoaded}
 use Rattle.salt_books.specs.Moves.{MovesTo}
 use Rattle.salt_books.specs.declared.asking.Asking.{Asking}
-use Rattle.salt_bytes.specs.declared.moves.Move.{Move}
+use Rattle.salt_cont.specs.Move.{Move}
 use Rattle.salt_drain.specs.Recovering.{AnswersWith, IsOfPart, IsRecovering, NextTold, StandsForState}
 use Rattle.salt_drain.specs.declared.recovery.Recovery.{Recovery}
 use Rattle.salt_model.specs.Kept.{conts_branched, conts_committed}

@@ -4,7 +4,7 @@ use Rattle.salt_books.proofs.CanMoves.{can-move}
 use Rattle.salt_books.specs.Books.{AreBooks, IsUnitAtPart}
 use Rattle.salt_books.specs.Coming.{IsLaterUnit}
 use Rattle.salt_books.specs.declared.books.Books.{Books}
-use Rattle.salt_bytes.specs.declared.moves.Move.{Move}
+use Rattle.salt_cont.specs.Move.{Move}
 use Rattle.salt_engine.proofs.Decided.{branch-written, commit-written, edits-back, ended-stored, ended-undone, ends-next, is-new-unit, named-unit}
 use Rattle.salt_engine.specs.Deciding.{IsBefore, IsBranched, IsCommitted, Undone, branches_in}
 use Rattle.law_states.specs.OpenUnits.{OpenUnit, UnitState, unit_named}

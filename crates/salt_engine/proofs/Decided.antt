@@ -1,6 +1,6 @@
 -- A unit's end that comes next is decided, or broken off.
 use Rattle.salt_books.specs.declared.books.Books.{Books}
-use Rattle.salt_bytes.specs.declared.moves.Move.{Move}
+use Rattle.salt_cont.specs.Move.{Move}
 use Rattle.salt_engine.specs.Deciding.{IsBefore, Undone, branches_in}
 use Rattle.salt_engine.specs.Stored.{Stored}
 use Rattle.law_states.specs.Keeps.{KeepsUnits}

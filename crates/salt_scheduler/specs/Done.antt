@@ -10,7 +10,7 @@ use Rattle.salt_books.specs.Moves.{MovesTo}
 use Rattle.salt_books.specs.Sound.{IsSoundState}
 use Rattle.salt_books.specs.declared.asking.Asking.{Asking}
 use Rattle.salt_books.specs.declared.coming.Coming.{Coming}
-use Rattle.salt_bytes.specs.declared.moves.Move.{Move}
+use Rattle.salt_cont.specs.Move.{Move}
 use Rattle.salt_model.specs.Kept.{conts_branched, conts_committed}
 use Rattle.salt_model.specs.Tables.{Tables}
 use Rattle.salt_model.specs.declared.events.Cause.{Cause}

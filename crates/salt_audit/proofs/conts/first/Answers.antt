@@ -3,7 +3,7 @@ use Rattle.salt_ast.specs.declared.programs.ProgramDef.{ProgramDef}
 use Rattle.salt_audit.proofs.Moving.{at_first, first_goes}
 use Rattle.salt_audit.proofs.conts.first.Goals as goal
 use Rattle.salt_audit.specs.Telling.{first_by, with_last}
-use Rattle.salt_bytes.specs.declared.moves.Move.{Move}
+use Rattle.salt_cont.specs.Move.{Move}
 use Rattle.salt_cont.specs.Moves.{move_on}
 use Rattle.std.proofs.Common.{None, Option, Some, [], ap, sym, ◌∙◌, ◌≡◌}
 use Rattle.std.specs.Option.{option_copied}

@@ -2,7 +2,7 @@ use Rattle.salt_ast.specs.ProgramJudgement.{program_named}
 use Rattle.salt_audit.proofs.Moving.{at_part, later_goes, later_stays}
 use Rattle.salt_audit.proofs.conts.later.Goals as goal
 use Rattle.salt_audit.specs.Standing.{cont_named}
-use Rattle.salt_bytes.specs.declared.moves.Move.{Move}
+use Rattle.salt_cont.specs.Move.{Move}
 use Rattle.salt_cont.specs.Continued.{after_move}
 use Rattle.salt_cont.specs.Moves.{move_on}
 use Rattle.salt_values.specs.declared.cont.Cont.{Cont}

@@ -1,6 +1,6 @@
 use Rattle.salt_audit.proofs.conts.put_last.Goals as goal
 use Rattle.salt_audit.specs.Telling.{with_last}
-use Rattle.salt_bytes.specs.declared.moves.Move.{Move}
+use Rattle.salt_cont.specs.Move.{Move}
 use Rattle.std.proofs.Common.{ap, sym, ◌∙◌}
 use Rattle.std.proofs.lemmas.Result.{on_ok_weaker}
 
