@@ -19,7 +19,7 @@ use Rattle.salt_model.specs.Phases.{Serving, phase}
 use Rattle.salt_model.specs.Played.{IsPlayed}
 use Rattle.salt_model.specs.Programs.{accepted_in, finished_in, named_early}
 use Rattle.salt_model.specs.Trace.{Asked, Trace, from, start_of, ◌asks◌, ◌says◌, ◌turns◌}
-use Rattle.salt_model.specs.Turns.{after_end, can_go, finishes, next_to_go, owes_turn}
+use Rattle.salt_model.specs.Turns.{after_end, can_go, finishes, next_to_go, owes_turn, turn_owed}
 use Rattle.salt_model.specs.Units.{is_waiting, program_unit}
 use Rattle.salt_model.specs.declared.events.Cause.{Cause}
 use Rattle.salt_model.specs.declared.events.End.TheVariants.{Branched, Committed}
@@ -35,7 +35,7 @@ use Rattle.std.proofs.lemmas.Bool.Decides.{nat_tests}
 use Rattle.std.specs.Bool.{then_some}
 use Rattle.std.specs.List.{find}
 use Rattle.std.specs.Option.{option_map_or, option_or}
-use Rattle.std.specs.Prelude.{Bool, List, None, Option, Some, [], cond, false, is_none, is_some, map, not, option_and_then, option_map, refl, true, ℕ, ◌&&◌, ◌∷◌, ◌≡◌, ◌⊎◌}
+use Rattle.std.specs.Prelude.{Bool, List, None, Option, Some, [], cond, false, if◌then◌else◌, is_none, is_some, map, not, option_and_then, option_map, refl, true, ℕ, ◌&&◌, ◌∷◌, ◌≡◌, ◌⊎◌}
 
 -- where nothing is missing of a segment, no program is about to be finished
 
@@ -170,10 +170,22 @@ found-none p (u ∷ us) b h i = go (p u) refl h i (found-none p us b)
     go false e g (inl s) more = subst (λ x. p x ≡ false) s e
     go false e g (inr j) more = more g j
 
+-- the turn that is owed is that program's
+
+owed-to : (trace : Trace) (b : Id) → turn_owed trace ≡ Some b → find (can_go trace) (named_early trace) ≡ Some b
+owed-to trace b h = go (owes_turn trace) h
+  where
+    go : (t : Bool) → (if t then find (can_go trace) (named_early trace) else None) ≡ Some b → find (can_go trace) (named_early trace) ≡ Some b
+    go true g = g
+    go false g = cc
+
+owed-none : (trace : Trace) → turn_owed trace ≡ None → owes_turn trace ≡ true → find (can_go trace) (named_early trace) ≡ None
+owed-none trace none owed = subst (λ t. (if t then find (can_go trace) (named_early trace) else None) ≡ None) owed none
+
 pub turn-least : (trace : Trace) (b : Id) → IsPlayed (trace turns b) → WellKept (start_of trace).kept → next_to_go trace ≡ None → IsLeast trace b
 turn-least trace b p k none =
     let w = of-start (start_of trace).kept k in
-    let f = found-first (can_go trace) (named_early trace) b (named-ascends trace p.0 w) ((gives-turns (trace turns b) p).1 none).least in
+    let f = found-first (can_go trace) (named_early trace) b (named-ascends trace p.0 w) (owed-to trace b ((gives-turns (trace turns b) p).1 none)) in
     let free : (c : Id) → In c (named_early trace) → can_go trace c ≡ is_free trace c = can-free trace p.0 w p.1 p.2 in
     record {
       named = in-has b (named_early trace) f.there;
@@ -185,4 +197,4 @@ pub none-free : (trace : Trace) (asked : Asked) → IsPlayed (trace asks asked) 
     (b : Id) → has_id b (named_early trace) ≡ true → is_free trace b ≡ false
 none-free trace asked p k owed b i =
     let j = has-in b (named_early trace) i in
-    sym (can-free trace p.0 (of-start (start_of trace).kept k) p.1.0 p.1.1 b j) ∙ found-none (can_go trace) (named_early trace) b ((gives-turns (trace asks asked) p).1 owed) j
+    sym (can-free trace p.0 (of-start (start_of trace).kept k) p.1.0 p.1.1 b j) ∙ found-none (can_go trace) (named_early trace) b (owed-none trace (gives-turns (trace asks asked) p).1 owed) j

@@ -1,26 +1,22 @@
 -- A segment is complete where no turn is owed, and a turn that stands is owed.
 use Rattle.salt_model.specs.Played.{IsPlayed}
 use Rattle.salt_model.specs.Trace.{Trace, from, ◌asks◌, ◌says◌, ◌turns◌}
-use Rattle.salt_model.specs.Turns.{next_to_go, next_turn, owes_turn, turn_owed}
-use Rattle.salt_promise.specs.EarlyOpenings.{GivesTurns, IsOwed, OwesNoTurn, least_named}
+use Rattle.salt_model.specs.Turns.{next_to_go, next_turn, turn_owed}
+use Rattle.salt_promise.specs.EarlyOpenings.{GivesTurns}
 use Rattle.salt_values.specs.declared.id.Id.{Id}
 use Rattle.std.proofs.Common.{subst}
 use Rattle.std.specs.Option.{option_or}
-use Rattle.std.specs.Prelude.{Bool, None, Option, Some, false, if◌then◌else◌, refl, true, ◌≡◌}
+use Rattle.std.specs.Prelude.{None, Option, Some, ◌≡◌}
 
-owes-none : (trace : Trace) → next_turn trace ≡ None → OwesNoTurn trace
-owes-none trace n owed = go (next_to_go trace) (subst (λ t. option_or (next_to_go trace) (if t then least_named trace else None) ≡ None) owed n)
+owes-none : (trace : Trace) → next_turn trace ≡ None → turn_owed trace ≡ None
+owes-none trace n = go (next_to_go trace) n
   where
-    go : (o : Option Id) → option_or o (least_named trace) ≡ None → least_named trace ≡ None
+    go : (o : Option Id) → option_or o (turn_owed trace) ≡ None → turn_owed trace ≡ None
     go None h = h
     go (Some b) h = cc
 
-is-owed : (trace : Trace) (b : Id) → next_turn trace ≡ Some b → next_to_go trace ≡ None → IsOwed trace b
-is-owed trace b n none = go (owes_turn trace) refl (subst (λ o. option_or o (turn_owed trace) ≡ Some b) none n)
-  where
-    go : (t : Bool) → owes_turn trace ≡ t → (if t then least_named trace else None) ≡ Some b → IsOwed trace b
-    go true e h = record { owed = e; least = h }
-    go false e h = cc
+is-owed : (trace : Trace) (b : Id) → next_turn trace ≡ Some b → next_to_go trace ≡ None → turn_owed trace ≡ Some b
+is-owed trace b n none = subst (λ o. option_or o (turn_owed trace) ≡ Some b) none n
 
 pub gives-turns : (trace : Trace) → IsPlayed trace → GivesTurns trace
 gives-turns (from k) p = tt

@@ -68,6 +68,9 @@ first_is_first h =
     let same : ◌≡◌ {A = ℕ} 1 2 = ap place_of h in
     omega (arith, same)
 
+none_is_first : None ≡ Some (base 1) → ⊥
+none_is_first h = cc
+
 never : IsTrue false → ⊥
 never h = cc
 
@@ -76,15 +79,15 @@ shown = completed 1 (reopened asks Tree line.ShowLocks)
 
 asked_too_early : GivesTurns (shown asks Tree (begin 1)) → ⊥
 unfolding computing
-asked_too_early h = first_is_some (h.1 refl)
+asked_too_early h = first_is_some h.1
 
 turned_to_another : GivesTurns (shown turns base 2) → ⊥
 unfolding computing
-turned_to_another h = first_is_first (h.1 refl).least
+turned_to_another h = first_is_first (h.1 refl)
 
 turned_unasked : GivesTurns (reopened turns base 1) → ⊥
 unfolding computing
-turned_unasked h = never (h.1 refl).owed
+turned_unasked h = none_is_first (h.1 refl)
 
 -- an ACID unit reads what a program has written that is held back
 
