@@ -5,7 +5,7 @@ use Rattle.salt_transcript.proofs.ReadIn.{end_read, more_read, none_read, of_all
 use Rattle.salt_transcript.proofs.Stopping.{settled_within, too_long}
 use Rattle.salt_transcript.proofs.source.audit.Goals as goal
 use Rattle.salt_transcript.specs.Stopping.{IsTooLong}
-use Rattle.std.proofs.Common.{List, Ok, [], ap, arith, drop, refl, rules, subst, take, ℕ, ◌+◌, ◌++◌, ◌∙◌, ◌≡◌}
+use Rattle.std.proofs.Common.{List, Ok, [], ap, arith, drop, refl, rules, subst, take, ℕ, ◌++◌, ◌∙◌, ◌≡◌}
 use Rattle.std.proofs.lemmas.List.{length-append, length-drop, length-take-le}
 
 pub reads-init : goal.reads-init
