@@ -4,8 +4,10 @@ ghost use Rattle.salt_io.specs.Streams.{Rose};
 ghost use Rattle.salt_audit.specs.Transcripts.{IsVerdict};
 ghost use Rattle.salt_audit.specs.declared.verdict.Verdict.{Verdict};
 ghost use Rattle.salt_transcript.specs.declared.source.AuditErr.TheVariants.{Memory, ReadFault};
+ghost use Rattle.salt_cont.specs.Catalogues.{AllLeadOn};
+ghost use Rattle.salt_transcript.specs.Reading.{HasCome};
 ghost use Rattle.salt_transcript.specs.Stopping.{IsTooLong};
-ghost use Rattle.std.specs.Prelude.{Err, IfOk, IfSome, OnOk, ◌≡◌, ◌≢◌, ◌≤◌};
+ghost use Rattle.std.specs.Prelude.{Err, IfOk, IfSome, OnOk, [], ◌≡◌, ◌≢◌, ◌≤◌};
 
 use crate::pieces::Pieces;
 use salt_audit::{Verdict, one_verdict};
@@ -51,9 +53,14 @@ impl From<ViewErr> for AuditErr {
     }
 }
 
-/// The verdict on the transcript that a source gives. It is found as the lines come, and the first ends the reading. It is `ReadFault` exactly where the source failed,
-/// and `TooLong` where no verdict is found within the most bytes that a transcript may have, and more come.
-pub fn audit<S: Source>(alloc: Global, source: &mut S) -> Result<Verdict, AuditErr>
+/// Reads on where nothing came yet, up to the verdict.
+fn read_on<S: Source>(
+    alloc: Global,
+    source: &mut S,
+    pieces: &mut Pieces,
+) -> Result<Verdict, AuditErr>
+    requires come { HasCome pieces.old [] }
+    requires leads { AllLeadOn pieces.old.reader.judge.ledger.state.catalogue }
     ensures verdict { IfOk result (λ verdict. IfSome (S.left source.old) (λ bytes. IsVerdict bytes verdict)) }
     ensures only { IfOk result (λ verdict. IfSome (S.left source.old) (λ bytes. (other : Verdict) → IsVerdict bytes other → other ≡ verdict)) }
     ensures within { OnOk result (IfSome (S.left source.old) (λ bytes. IsTooLong bytes → ⊥)) }
@@ -63,7 +70,6 @@ pub fn audit<S: Source>(alloc: Global, source: &mut S) -> Result<Verdict, AuditE
     ensures later { S.faults source.old ≤ S.faults source.new }
 {
     one_verdict();
-    let mut pieces = Pieces::new(alloc);
     let mut room = TRANSCRIPT_MOST;
     let mut buffer = [0u8; 4096];
     'reads: loop {
@@ -80,4 +86,19 @@ pub fn audit<S: Source>(alloc: Global, source: &mut S) -> Result<Verdict, AuditE
         }
         room -= count;
     }
+}
+
+/// The verdict on the transcript that a source gives. It is found as the lines come, and the first ends the reading. It is `ReadFault` exactly where the source failed,
+/// and `TooLong` where no verdict is found within the most bytes that a transcript may have, and more come.
+pub fn audit<S: Source>(alloc: Global, source: &mut S) -> Result<Verdict, AuditErr>
+    ensures verdict { IfOk result (λ verdict. IfSome (S.left source.old) (λ bytes. IsVerdict bytes verdict)) }
+    ensures only { IfOk result (λ verdict. IfSome (S.left source.old) (λ bytes. (other : Verdict) → IsVerdict bytes other → other ≡ verdict)) }
+    ensures within { OnOk result (IfSome (S.left source.old) (λ bytes. IsTooLong bytes → ⊥)) }
+    ensures long { result ≡ Err AuditErr.TooLong → IfSome (S.left source.old) IsTooLong }
+    ensures fault { result ≡ Err AuditErr.ReadFault → Rose (S.faults source.old) (S.faults source.new) }
+    ensures no_fault { result ≢ Err AuditErr.ReadFault → S.faults source.new ≡ S.faults source.old }
+    ensures later { S.faults source.old ≤ S.faults source.new }
+{
+    let mut pieces = Pieces::new(alloc);
+    read_on(alloc, source, &mut pieces)
 }
