@@ -10,7 +10,7 @@ use Rattle.salt_values.specs.Id.{has_id, without}
 use Rattle.salt_values.specs.declared.id.Id.{Id}
 use Rattle.std.specs.List.{list_all}
 use Rattle.std.specs.Option.{option_map_or}
-use Rattle.std.specs.Prelude.{Bool, IsTrue, List, None, Option, Some, [], false, not, ⊤, ◌≡◌}
+use Rattle.std.specs.Prelude.{Bool, IsTrue, List, None, Some, [], false, not, ⊤, ◌≡◌}
 
 -- HELD BACK are the programs that the last early opening names, until a Released names them, or a Ready comes.
 

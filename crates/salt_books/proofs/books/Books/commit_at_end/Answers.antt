@@ -1,4 +1,3 @@
-use Rattle.law_states.specs.OpenUnits.{unit_named}
 use Rattle.salt_books.proofs.AtEnd.{at-end, not-at-end}
 use Rattle.salt_books.proofs.books.Books.commit_at_end.Goals as goal
 use Rattle.salt_books.specs.Held.{seen}
