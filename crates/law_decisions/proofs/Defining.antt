@@ -4,10 +4,10 @@ use Rattle.salt_ast.specs.ProgramJudgement.{line_fault, program_fault, program_k
 use Rattle.salt_ast.specs.declared.programs.ProgramDef.{ProgramDef}
 use Rattle.salt_ast.specs.declared.trees.TableDef.{TableDef}
 use Rattle.law_definitions.specs.Texts.{definition_in}
-use Rattle.salt_stands.specs.Fitting.{is_refused, line_of}
+use Rattle.salt_stands.specs.Fitting.{is_refused, line_defining}
 use Rattle.law_states.specs.OpenUnits.{UnitState}
 use Rattle.law_states.specs.Steps.{units_after}
-use Rattle.law_states.specs.Told.{next_decision}
+use Rattle.law_states.specs.Told.{next_decision_number}
 use Rattle.law_story.proofs.Defined.{named-stays}
 use Rattle.law_story.proofs.Every.{every-append}
 use Rattle.salt_model.specs.After.{defined_by}
@@ -112,9 +112,9 @@ module _ (k : Kept) (d : Definition) where
     };
   }
 
-pub defines : (s : UnitState) (text : List ℕ) (d : Definition) → s.line ≡ line_of d → definition_in text ≡ Some d → MayDefine s.kept d → MayBeDefined s text d
+pub defines : (s : UnitState) (text : List ℕ) (d : Definition) → s.line ≡ line_defining d → definition_in text ≡ Some d → MayDefine s.kept d → MayBeDefined s text d
 defines s text d line reads may = record { reads = reads; may = may; leaves = by d line }
   where
-    by : (d : Definition) → s.line ≡ line_of d → defined s.kept d ≡ (units_after (Defined (next_decision s) text) s).kept
+    by : (d : Definition) → s.line ≡ line_defining d → defined s.kept d ≡ (units_after (Defined (next_decision_number s) text) s).kept
     by (OfTable t) e = λ i. record s.kept { decisions = s.kept.decisions + 1; definitions = s.kept.definitions ++ defined_by (sym e i) }
     by (OfProgram p) e = λ i. record s.kept { decisions = s.kept.decisions + 1; definitions = s.kept.definitions ++ defined_by (sym e i) }

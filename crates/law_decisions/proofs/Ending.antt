@@ -4,7 +4,7 @@ use Rattle.law_states.specs.Laws.{IsSound}
 use Rattle.law_states.specs.OpenUnits.{OpenUnit, UnitState, unit_named}
 use Rattle.law_states.specs.Overlays.{AreInOrder, Edit, edits_of, with_edits}
 use Rattle.law_states.specs.Steps.{kept_ended, units_after}
-use Rattle.law_states.specs.Told.{next_decision}
+use Rattle.law_states.specs.Told.{next_decision_number}
 use Rattle.salt_bytes.specs.declared.moves.Move.{Move}
 use Rattle.salt_model.specs.After.{kept}
 use Rattle.salt_model.specs.Kept.{WellKept, conts_branched, conts_committed, schema_of}
@@ -88,11 +88,11 @@ module _ (s : UnitState) (trace : Trace) (o : OpenUnit) (end : End) (next : Ends
   may-branch m conts moves is = may-end [] m conts tt tt moves is
 
 pub committed-is : (s : UnitState) (o : OpenUnit) (cs : List Change) (conts : List Cont) → edits_of cs ≡ o.changes →
-    conts ≡ conts_committed s.kept (next_decision s) o.kind o.vars → decided s.kept cs conts ≡ kept_ended s.kept (Committed (next_decision s)) (Some o)
+    conts ≡ conts_committed s.kept (next_decision_number s) o.kind o.vars → decided s.kept cs conts ≡ kept_ended s.kept (Committed (next_decision_number s)) (Some o)
 committed-is s o cs conts are goes =
     let tables : with_changes cs s.kept.tables ≡ with_edits o.changes s.kept.tables = changes-made cs s.kept.tables ∙ ap (λ (ds : List Edit). with_edits ds s.kept.tables) are in
     λ i. record s.kept { decisions = s.kept.decisions + 1; tables = tables i; conts = goes i }
 
 pub branched-is : (s : UnitState) (o : OpenUnit) (cause : Cause) (conts : List Cont) → conts ≡ conts_branched s.kept o.kind →
-    decided s.kept [] conts ≡ kept_ended s.kept (Branched (next_decision s) cause) (Some o)
+    decided s.kept [] conts ≡ kept_ended s.kept (Branched (next_decision_number s) cause) (Some o)
 branched-is s o cause conts goes = λ i. record s.kept { decisions = s.kept.decisions + 1; tables = changes-made [] s.kept.tables i; conts = goes i }

@@ -11,7 +11,7 @@ use Rattle.salt_model.specs.After.{branched, defined_by, kept}
 use Rattle.salt_model.specs.Everywhere.{Always}
 use Rattle.salt_model.specs.Kept.{Kept, WellKept}
 use Rattle.salt_model.specs.Played.{IsPlayed}
-use Rattle.salt_model.specs.Trace.{Asked, Rejected, Trace, Tree, from, line_of, lines_of, start_of, ◌asks◌, ◌says◌, ◌turns◌}
+use Rattle.salt_model.specs.Trace.{Asked, Rejected, Trace, Tree, from, line_of, lines_asked, start_of, ◌asks◌, ◌says◌, ◌turns◌}
 use Rattle.salt_model.specs.Units.{kind_of}
 use Rattle.salt_model.specs.Words.{Every}
 use Rattle.salt_model.specs.declared.events.End.TheVariants.{Branched, Committed}
@@ -38,9 +38,9 @@ every-behind P (x ∷ xs) ys h g = (h.0, every-behind P xs ys h.1 g)
 
 -- DEFINITIONS of a trace are its start's and its lines'
 
-line-spelled : (trace : Trace) → Every IsSpelledAsked (lines_of trace) → IsSpelledLine (line_of trace)
+line-spelled : (trace : Trace) → Every IsSpelledAsked (lines_asked trace) → IsSpelledLine (line_of trace)
 line-spelled (from k) h = tt
-line-spelled (trace asks asked) h = every-last IsSpelledAsked (lines_of trace) asked h
+line-spelled (trace asks asked) h = every-last IsSpelledAsked (lines_asked trace) asked h
 line-spelled (trace turns b) h = line-spelled trace h
 line-spelled (trace says e) h = line-spelled trace h
 
@@ -59,16 +59,16 @@ says-spelled trace (Ended u (Committed n)) line h = h
 says-spelled trace (Ended u (Branched n cause)) line h = subst (Every IsSpelledDefinition) (sym (branched-same (kept trace) n (kind_of u trace))) h
 says-spelled trace e line h = h
 
-kept-spelled : (trace : Trace) → Every IsSpelledDefinition (start_of trace).kept.definitions → Every IsSpelledAsked (lines_of trace) → Every IsSpelledDefinition (kept trace).definitions
+kept-spelled : (trace : Trace) → Every IsSpelledDefinition (start_of trace).kept.definitions → Every IsSpelledAsked (lines_asked trace) → Every IsSpelledDefinition (kept trace).definitions
 kept-spelled (from k) h lines = h
-kept-spelled (trace asks asked) h lines = kept-spelled trace h (every-front IsSpelledAsked (lines_of trace) (asked ∷ []) lines)
+kept-spelled (trace asks asked) h lines = kept-spelled trace h (every-front IsSpelledAsked (lines_asked trace) (asked ∷ []) lines)
 kept-spelled (trace turns b) h lines = kept-spelled trace h lines
 kept-spelled (trace says e) h lines = says-spelled trace e (line-spelled trace lines) (kept-spelled trace h lines)
 
 -- EACH PLACE
 
 module _ (keys : (line : Line) → IsSpelledLine line → HasKey (Tree line))
-    (typed : (trace : Trace) → IsPlayed trace → WellKept (start_of trace).kept → IsTyped (start_of trace).kept → Every HasKey (lines_of trace) → IsTypedAt trace) where
+    (typed : (trace : Trace) → IsPlayed trace → WellKept (start_of trace).kept → IsTyped (start_of trace).kept → Every HasKey (lines_asked trace) → IsTypedAt trace) where
   key-of : (asked : Asked) → IsSpelledAsked asked → HasKey asked
   key-of (Tree line) h = keys line h
   key-of (Rejected refusal) h = tt
@@ -77,13 +77,13 @@ module _ (keys : (line : Line) → IsSpelledLine line → HasKey (Tree line))
   keyed [] h = tt
   keyed (asked ∷ lines) h = (key-of asked h.0, keyed lines h.1)
 
-  drains-here : (trace : Trace) → IsPlayed trace → IsSoundKept (start_of trace).kept → Every IsSpelledAsked (lines_of trace) → CanDrain (kept trace)
+  drains-here : (trace : Trace) → IsPlayed trace → IsSoundKept (start_of trace).kept → Every IsSpelledAsked (lines_asked trace) → CanDrain (kept trace)
   drains-here trace played sound lines =
-      can-drain (kept trace) (typed trace played sound.well sound.typed (keyed (lines_of trace) lines)).kept (kept-spelled trace sound.spelled lines)
+      can-drain (kept trace) (typed trace played sound.well sound.typed (keyed (lines_asked trace) lines)).kept (kept-spelled trace sound.spelled lines)
 
-  pub drains-always : (trace : Trace) → IsPlayed trace → IsSoundKept (start_of trace).kept → Every IsSpelledAsked (lines_of trace) → Always (λ t. CanDrain (kept t)) trace
+  pub drains-always : (trace : Trace) → IsPlayed trace → IsSoundKept (start_of trace).kept → Every IsSpelledAsked (lines_asked trace) → Always (λ t. CanDrain (kept t)) trace
   drains-always (from k) played sound lines = drains-here (from k) played sound lines
   drains-always (trace asks asked) played sound lines =
-      (drains-always trace played.0 sound (every-front IsSpelledAsked (lines_of trace) (asked ∷ []) lines), drains-here (trace asks asked) played sound lines)
+      (drains-always trace played.0 sound (every-front IsSpelledAsked (lines_asked trace) (asked ∷ []) lines), drains-here (trace asks asked) played sound lines)
   drains-always (trace turns b) played sound lines = (drains-always trace played.0 sound lines, drains-here (trace turns b) played sound lines)
   drains-always (trace says e) played sound lines = (drains-always trace played.0 sound lines, drains-here (trace says e) played sound lines)

@@ -5,7 +5,7 @@ use Rattle.law_states.specs.Laws.{IsSound}
 use Rattle.law_states.specs.OpenUnits.{OpenUnit, UnitState, unit_named}
 use Rattle.law_states.specs.Steps.{units_after}
 use Rattle.salt_model.specs.Next.{next}
-use Rattle.salt_model.specs.Trace.{Trace, lines_of, start_of}
+use Rattle.salt_model.specs.Trace.{Trace, lines_asked, start_of}
 use Rattle.salt_model.specs.Words.{Every}
 use Rattle.salt_model.specs.declared.events.End.{End}
 use Rattle.salt_model.specs.declared.events.Event.TheVariants.{Ended}
@@ -22,7 +22,7 @@ pub record IsSoundState (s : UnitState) (trace : Trace) : Type 0 where
   pub keeps : KeepsUnits s trace
   pub sound : IsSound trace
   pub typed : IsTyped (start_of trace).kept
-  pub keyed : Every HasKey (lines_of trace)
+  pub keyed : Every HasKey (lines_asked trace)
   pub may_be_kept : IsSoundKept s.kept
 
 -- such a state, and next an open unit ends there so

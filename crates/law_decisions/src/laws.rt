@@ -12,7 +12,7 @@ ghost use Rattle.law_states.specs.Laws.{IsSound, is_of_run};
 ghost use Rattle.law_states.specs.OpenUnits.{OpenUnit, UnitState, unit_named};
 ghost use Rattle.law_states.specs.Overlays.{edits_of};
 ghost use Rattle.law_states.specs.Steps.{units_after};
-ghost use Rattle.law_states.specs.Told.{next_decision};
+ghost use Rattle.law_states.specs.Told.{next_decision_number};
 ghost use Rattle.salt_model.specs.Rests.{DoesItsRests};
 ghost use Rattle.salt_model.specs.Everywhere.{Always};
 ghost use Rattle.salt_model.specs.Kept.{Kept, OfProgram, OfTable, conts_branched, conts_committed, nothing_kept, programs_of, schema_of};
@@ -21,7 +21,7 @@ ghost use Rattle.salt_model.specs.Next.{is_decision, next};
 ghost use Rattle.salt_model.specs.Played.{IsPlayed};
 ghost use Rattle.salt_model.specs.Printable.{IsSpelledProgram, IsSpelledTable};
 ghost use Rattle.salt_model.specs.Stops.{is_just_opened};
-ghost use Rattle.salt_model.specs.Trace.{Asked, Trace, Tree, lines_of, start_of, ◌says◌};
+ghost use Rattle.salt_model.specs.Trace.{Asked, Trace, Tree, lines_asked, start_of, ◌says◌};
 ghost use Rattle.salt_model.specs.Words.{Every};
 ghost use Rattle.salt_model.specs.declared.events.Cause.{Cause};
 ghost use Rattle.salt_model.specs.declared.events.End.{End};
@@ -66,11 +66,11 @@ pub fn starts_may_be_kept()
 /// leaves what may be kept.
 pub fn decided_ends_may_be_kept()
     ensures commit { (s : UnitState) (trace : Trace) (o : OpenUnit) (cs : List Change) (m : Move) (conts : List Cont) →
-        EndsNext s trace o (Committed (next_decision s)) → edits_of cs ≡ o.changes → make_move s.kept.conts m ≡ Some conts →
-        conts ≡ conts_committed s.kept (next_decision s) o.kind o.vars → MayEnd s o (Committed (next_decision s)) cs m conts }
+        EndsNext s trace o (Committed (next_decision_number s)) → edits_of cs ≡ o.changes → make_move s.kept.conts m ≡ Some conts →
+        conts ≡ conts_committed s.kept (next_decision_number s) o.kind o.vars → MayEnd s o (Committed (next_decision_number s)) cs m conts }
     ensures branch { (s : UnitState) (trace : Trace) (o : OpenUnit) (cause : Cause) (m : Move) (conts : List Cont) →
-        EndsNext s trace o (Branched (next_decision s) cause) → make_move s.kept.conts m ≡ Some conts →
-        conts ≡ conts_branched s.kept o.kind → MayEnd s o (Branched (next_decision s) cause) [] m conts }
+        EndsNext s trace o (Branched (next_decision_number s) cause) → make_move s.kept.conts m ≡ Some conts →
+        conts ≡ conts_branched s.kept o.kind → MayEnd s o (Branched (next_decision_number s) cause) [] m conts }
 {
     edits_make_the_tables();
     kept_stays_well_kept();
@@ -105,7 +105,7 @@ pub fn read_lines_are_spelled()
 /// In each opening of a trace that is played from what may be kept, over lines whose definitions some text spells, no more statements are
 /// told than the programs that it found had left.
 pub fn played_does_its_rests()
-    ensures { (trace : Trace) → IsPlayed trace → IsSoundKept (start_of trace).kept → Every IsSpelledAsked (lines_of trace) →
+    ensures { (trace : Trace) → IsPlayed trace → IsSoundKept (start_of trace).kept → Every IsSpelledAsked (lines_asked trace) →
         Always DoesItsRests trace }
 {
     openings_do_their_rests();

@@ -1,5 +1,5 @@
 -- Another generation of the same store.
-use Rattle.salt_stands.specs.Commits.{found_of, parts_of}
+use Rattle.salt_stands.specs.Commits.{found_of, partition_count}
 use Rattle.salt_stands.specs.Coordinator.{Coordinator, decided_for}
 use Rattle.salt_stands.specs.Pieces.{PartView, is_prepared_in}
 use Rattle.salt_values.specs.Id.{has_id}
@@ -8,11 +8,11 @@ use Rattle.std.specs.Prelude.{false, ℕ, ◌<◌, ◌≡◌}
 
 -- no entry of a partition and no decision names the unit
 pub record IsNewName {D : Type 0} (c : Coordinator D) (v : ℕ → PartView) (u : Id) : Type 0 where
-  pub fresh : (p : ℕ) → p < parts_of c → is_prepared_in u (v p).log.prepared ≡ false
-  pub new : (p : ℕ) → p < parts_of c → has_id u (decided_for p c.log.told.decided) ≡ false
+  pub fresh : (p : ℕ) → p < partition_count c → is_prepared_in u (v p).log.prepared ≡ false
+  pub new : (p : ℕ) → p < partition_count c → has_id u (decided_for p c.log.told.decided) ≡ false
 
 -- What it stands for is the same, it has as many partitions, and a unit's name that was new is new.
 pub record IsAsIf {D : Type 0} (c : Coordinator D) (v : ℕ → PartView) (c' : Coordinator D) (v' : ℕ → PartView) : Type 0 where
   pub found : found_of c' v' ≡ found_of c v
-  pub parts : parts_of c' ≡ parts_of c
+  pub parts : partition_count c' ≡ partition_count c
   pub names : (u : Id) → IsNewName c v u → IsNewName c' v' u

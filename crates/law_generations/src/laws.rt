@@ -4,9 +4,9 @@ ghost use Rattle.law_generations.specs.AsIf.{IsAsIf};
 ghost use Rattle.salt_bytes.specs.Partition.{PartitionHeader};
 ghost use Rattle.salt_model.specs.Kept.{Definition};
 ghost use Rattle.salt_model.specs.Tables.{no_rows, with_changes};
-ghost use Rattle.salt_stands.specs.Commits.{parts_of, with_view};
+ghost use Rattle.salt_stands.specs.Commits.{partition_count, with_view};
 ghost use Rattle.salt_stands.specs.Coordinator.{Coordinator};
-ghost use Rattle.salt_stands.specs.Pieces.{PartView, checkpointed, tables_of, with_snapshot};
+ghost use Rattle.salt_stands.specs.Pieces.{PartView, checkpointed, tables_at_part, with_snapshot};
 ghost use Rattle.salt_values.specs.declared.change.Change.{Change};
 ghost use Rattle.std.specs.Prelude.{List, [], ℕ, ◌<◌, ◌≡◌};
 
@@ -19,11 +19,11 @@ pub fn generations_go_on()
 /// A checkpoint of a partition, whose pages have the partition's tables then, makes a generation of the same store.
 pub fn checkpoints_make_generations()
     ensures { (c : Coordinator Definition) (v : ℕ → PartView) (p : ℕ) (h : PartitionHeader) (rows : List Change)
-        → with_changes rows no_rows ≡ tables_of c p (v p) → IsAsIf c v c (with_view p (checkpointed (v p) h rows) v) }
+        → with_changes rows no_rows ≡ tables_at_part c p (v p) → IsAsIf c v c (with_view p (checkpointed (v p) h rows) v) }
 {}
 
 /// So does a snapshot in the same format, where no partition has a prepared unit.
 pub fn snapshots_make_generations()
-    ensures { (c : Coordinator Definition) (v : ℕ → PartView) → ((p : ℕ) → p < parts_of c → (v p).log.prepared ≡ [])
+    ensures { (c : Coordinator Definition) (v : ℕ → PartView) → ((p : ℕ) → p < partition_count c → (v p).log.prepared ≡ [])
         → IsAsIf c v (with_snapshot c c.log.header.format) v }
 {}

@@ -7,7 +7,7 @@ use Rattle.law_states.specs.Laws.{IsSound, is_of_run}
 use Rattle.law_states.specs.OpenUnits.{UnitState}
 use Rattle.law_states.specs.Points.{Ask, KeepsPoint, TraceStep, Moves, Point, Runs, Say, Says, Turn, told_by}
 use Rattle.law_states.specs.Steps.{units_after, units_of}
-use Rattle.law_states.specs.Told.{next_decision}
+use Rattle.law_states.specs.Told.{next_decision_number}
 use Rattle.law_story.proofs.Coming.{Good}
 use Rattle.law_story.proofs.Every.{IfSome}
 use Rattle.law_story.proofs.Fresh.{IfComes, comes-option_or, comes-then_some}
@@ -57,7 +57,7 @@ opened-drives s boot n pending all flying =
   where
     flies : (o : Option Event) → IfSome (λ e. is_decision e ≡ true) o → IfComes (DrivesUnless s) (stands_in s n o)
     flies None h = tt
-    flies (Some e) h = comes-then_some (DrivesUnless s) (n == next_decision s) e (λ d. let t : true ≡ false = sym h ∙ d in cc)
+    flies (Some e) h = comes-then_some (DrivesUnless s) (n == next_decision_number s) e (λ d. let t : true ≡ false = sym h ∙ d in cc)
 
 drives-next : (trace : Trace) (f e : Event) → IsPlayed (trace says f) → WellKept (start_of trace).kept → phase (trace says f) ≡ Opening →
     next (trace says f) ≡ Some e → IsNoFlight (trace says f) e → Drives (units_of (trace says f)) e

@@ -11,7 +11,7 @@ use Rattle.law_states.proofs.LookUps.{asked-within}
 use Rattle.law_states.specs.Follows.{cut_in, cuts_or_drains_in, drains_in, follow_opening_in, opening_in, unfinished_in, unit_of}
 use Rattle.law_states.specs.OpenUnits.{OpenUnit, UnitState, asks_next, names_in, unit_named, without_unit}
 use Rattle.law_states.specs.Steps.{begun, doing_one, kept_ended, units_after}
-use Rattle.law_states.specs.Told.{after_did_in, after_end_in, begins_in, commits_in, does_in, fails_in, finishes_in, is_at_end_in, next_decision, next_unit, serve_in}
+use Rattle.law_states.specs.Told.{after_did_in, after_end_in, begins_in, commits_in, does_in, fails_in, finishes_in, is_at_end_in, next_decision_number, next_unit, serve_in}
 use Rattle.law_story.proofs.Coming.{nothing}
 use Rattle.law_story.proofs.Every.{every-filter}
 use Rattle.law_story.proofs.Fresh.{IfComes, comes-option_or, comes-then_some}
@@ -247,10 +247,10 @@ module _ (s : UnitState) (o : OpenUnit) (c : Cont) (cs : List Cont) (boot : o.un
 
   commits-goes : (u : Id) (st : Statement) (a : Answer) → IsWithin → Goes (Did u st a) State (commits_in State Unit)
   commits-goes u st a w =
-      let end = Committed (next_decision State) in
+      let end = Committed (next_decision_number State) in
       subst (λ t. GoesTo (Did u st a) State t (Ended o.unit end)) (sym (ends-at end)) (record {
         stands = tt;
-        statements = λ can. commit-left (next_decision State) can w;
+        statements = λ can. commit-left (next_decision_number State) can w;
         cuts = omega arith;
         stage = omega arith;
         defines = refl;
@@ -258,7 +258,7 @@ module _ (s : UnitState) (o : OpenUnit) (c : Cont) (cs : List Cont) (boot : o.un
 
   fails-goes : (u : Id) (st : Statement) (a : Answer) (x : Cause) → IsWithin → Goes (Did u st a) State (fails_in State Unit x Unit.kind)
   fails-goes u st a x w =
-      let end = Branched (next_decision State) x in
+      let end = Branched (next_decision_number State) x in
       subst (λ t. GoesTo (Did u st a) State t (Ended o.unit end)) (sym (ends-at end)) (record {
         stands = tt;
         statements = λ can. branch-left can w;

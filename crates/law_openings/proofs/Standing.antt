@@ -4,7 +4,7 @@ use Rattle.law_states.proofs.NextTold.{IsBeside, opened-told, said-told}
 use Rattle.law_states.specs.Follows.{cut_in, cuts_or_drains_in, opened_in, opening_in, stands_in, unit_of}
 use Rattle.law_states.specs.OpenUnits.{OpenUnit, UnitState, unit_named, without_unit}
 use Rattle.law_states.specs.Steps.{kept_ended, units_after, units_of}
-use Rattle.law_states.specs.Told.{Beside, next_decision}
+use Rattle.law_states.specs.Told.{Beside, next_decision_number}
 use Rattle.law_states.proofs.UnitLists.{every-unmapped}
 use Rattle.law_story.proofs.Every.{IfSome, every-filter, every-map, every-passes}
 use Rattle.law_story.proofs.Coming.{Good}
@@ -97,7 +97,7 @@ opened-follows s boot n pending all decided =
   where
     flies : (o : Option Event) → IfSome (λ e. is_decision e ≡ true) o → IfComes (StandsOn s) (stands_in s n o)
     flies None h = tt
-    flies (Some e) h = comes-then_some (StandsOn s) (n == next_decision s) e (decision-earlier s e h all)
+    flies (Some e) h = comes-then_some (StandsOn s) (n == next_decision_number s) e (decision-earlier s e h all)
 
 -- AT EACH EVENT.
 

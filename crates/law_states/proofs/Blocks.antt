@@ -14,7 +14,7 @@ use Rattle.law_story.specs.Names.{is_unit_of}
 use Rattle.salt_model.specs.After.{branched, conts_at, kept, reach_now, run_of}
 use Rattle.salt_model.specs.Kept.{Kept, block_of_call, block_of_kind, block_of_part, cont_in, cont_of, conts_branched, program_of_definition, table_of_definition}
 use Rattle.salt_model.specs.Reaches.{reach}
-use Rattle.salt_model.specs.Statements.{Run}
+use Rattle.salt_model.specs.Statements.{UnitRun}
 use Rattle.salt_model.specs.Trace.{Trace, ◌says◌}
 use Rattle.salt_model.specs.Units.{Waiting, done_of, is_open, kind_of, line_waited, program_of, program_of_kind, standing, units_begun}
 use Rattle.salt_model.specs.Waiting.{asked_by, block_of, statement_in, statement_of_line}
@@ -131,4 +131,4 @@ reach-stays trace e u s f g ground o d st =
     (λ i. reach (filter_map table_of_definition ((kept-stays trace e u s f g o d).definitions i)) (vars i) st)
   where
     vars : (run_of u (trace says e)).vars ≡ (run_of u trace).vars
-    vars = ap (λ (r : Run). r.vars) (others trace e u ground g o d).1
+    vars = ap (λ (r : UnitRun). r.vars) (others trace e u ground g o d).1

@@ -8,7 +8,7 @@ use Rattle.law_states.specs.KeptSources.{FinishedAfter, WritesIn, given_up, unle
 use Rattle.law_states.specs.Members.{Ascends, In}
 use Rattle.law_states.specs.Overlays.{Edit}
 use Rattle.law_states.specs.PairClosures.{Pair, all_sources, due_in, has_pair}
-use Rattle.law_states.specs.PlainStates.{IsInTurn, PlainState, PlainWatch, as_state, finished_after, pair_at, pair_with, pairs_after, pairs_among, pairs_read, state_after, watch_after, watch_of, writer_in, writers_after, written_by}
+use Rattle.law_states.specs.PlainStates.{IsInTurn, PlainState, PlainWatch, as_state, finished_after, pair_at, pair_with, pairs_after, pairs_among, pairs_read, state_after, watch_after, watch_of, writer_in, writers_after, writers_by}
 use Rattle.law_states.specs.Readings.{WatchReading}
 use Rattle.law_states.specs.States.{After}
 use Rattle.law_states.specs.UnitFacts.{UnitFacts, facts_in}
@@ -64,7 +64,7 @@ kept-at : (test : Place → Bool) (p : Place) (ws : List (Place × Id)) →
 kept-at test p ws = find-where_key place_cmp test p (λ x e. ap test (sym (place_same p x e))) ws
 
 committed-writer : (o : Option Id) (ds : List Edit) (ws : List (Place × Id)) (p : Place) →
-    writer_in (written_by o ds ++ where_key place_cmp (λ q. not (is_some (find place_cmp q ds))) ws) p ≡ cond (is_some (find place_cmp p ds)) o (writer_in ws p)
+    writer_in (writers_by o ds ++ where_key place_cmp (λ q. not (is_some (find place_cmp q ds))) ws) p ≡ cond (is_some (find place_cmp p ds)) o (writer_in ws p)
 committed-writer None ds ws p = kept-at (λ q. not (is_some (find place_cmp q ds))) p ws ∙ by (is_some (find place_cmp p ds))
   where
     by : (t : Bool) → cond (not t) (find place_cmp p ws) None ≡ cond t None (writer_in ws p)

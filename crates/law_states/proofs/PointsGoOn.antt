@@ -6,7 +6,7 @@ use Rattle.law_states.proofs.StatesGoOn.{states-ask, states-say, states-turn}
 use Rattle.law_states.proofs.Told.{next-turn-told}
 use Rattle.law_states.specs.Laws.{IsSound, is_of_run}
 use Rattle.law_states.specs.Nexts.{asked_next, flight_next, next_turn_of, refusal_of, said_next, turned_next}
-use Rattle.law_states.specs.Points.{Ask, Asks, IsIdle, KeepsPoint, TraceStep, Moves, Point, Runs, Say, Says, Turn, Turns, moved, told_by, trace_on}
+use Rattle.law_states.specs.Points.{Ask, Asks, IsIdle, KeepsPoint, TraceStep, Moves, Point, Runs, Say, Says, Turn, Turns, stepped, told_by, trace_on}
 use Rattle.law_states.specs.Readings.{WatchReading, beside_by, under_way_of}
 use Rattle.law_states.specs.States.{After, Keeps, State, asked_of, turned_to}
 use Rattle.law_states.specs.Steps.{units_asked}
@@ -108,7 +108,7 @@ says-point e old new trace k sound a r =
     )
 
 pub moves-point : (m : TraceStep) (old new : Point) (trace : Trace) → KeepsPoint old trace → IsSound trace → Moves m old new →
-    KeepsPoint new (moved trace m) × IsSound (moved trace m)
+    KeepsPoint new (stepped trace m) × IsSound (stepped trace m)
 moves-point (Ask asked) old new trace k sound a = asks-point asked old new trace k sound a
 moves-point (Turn b) old new trace k sound a = turns-point b old new trace k sound a
 moves-point (Say e) old new trace k sound a = says-point e old new trace k sound a.0 a.1
@@ -116,7 +116,7 @@ moves-point (Say e) old new trace k sound a = says-point e old new trace k sound
 pub runs-point : (ms : List TraceStep) (old new : Point) (trace : Trace) → KeepsPoint old trace → IsSound trace → Runs old ms new →
     KeepsPoint new (trace_on trace ms) × IsSound (trace_on trace ms)
 runs-point [] old new trace k sound r = (subst (λ p. KeepsPoint p trace) r k, sound)
-runs-point (m ∷ ms) old new trace k sound r = let n = moves-point m old r.0 trace k sound r.1 in runs-point ms r.0 new (moved trace m) n.0 n.1 r.2
+runs-point (m ∷ ms) old new trace k sound r = let n = moves-point m old r.0 trace k sound r.1 in runs-point ms r.0 new (stepped trace m) n.0 n.1 r.2
 
 -- one move more
 pub runs-append : (ms : List TraceStep) (m : TraceStep) (old mid new : Point) → Runs old ms mid → Moves m mid new → Runs old (ms ++ m ∷ []) new

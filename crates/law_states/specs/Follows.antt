@@ -1,6 +1,6 @@
 -- What follows an event, while serving and in an opening, told by the states before and after it.
 use Rattle.law_states.specs.OpenUnits.{OpenUnit, UnitState, names_in, unit_named}
-use Rattle.law_states.specs.Told.{Beside, after_began_in, after_did_in, after_end_in, begins_in, finishes_in, next_decision, serve_in, settle_in}
+use Rattle.law_states.specs.Told.{Beside, after_began_in, after_did_in, after_end_in, begins_in, finishes_in, next_decision_number, serve_in, settle_in}
 use Rattle.salt_model.specs.Phases.{Fallen, Opening, Phase, Serving}
 use Rattle.salt_model.specs.Turns.{releases}
 use Rattle.salt_model.specs.Words.{is_empty}
@@ -78,7 +78,7 @@ said_in Fallen s x e o = None
 -- what comes after an Opened that tells this number, with what is in flight
 abbrev pub stands_in : UnitState → ℕ → Option Event → Option Event
 stands_in s n None = None
-stands_in s n (Some decision) = then_some (n == next_decision s) decision
+stands_in s n (Some decision) = then_some (n == next_decision_number s) decision
 
 abbrev pub opened_in : UnitState → ℕ → Option Event → Option Event
 opened_in s n pending = option_or (stands_in s n pending) (cuts_or_drains_in s (cut_in s))

@@ -51,13 +51,13 @@ watch_of w = record {
   dependencies = dependencies_of (writer_in w.writers) w.pairs w.finished;
 }
 
-abbrev pub written_by : Option Id → List Edit → List (Place × Id)
-written_by None ds = []
-written_by (Some b) ds = map (λ (d : Edit). (d.0, b)) ds
+abbrev pub writers_by : Option Id → List Edit → List (Place × Id)
+writers_by None ds = []
+writers_by (Some b) ds = map (λ (d : Edit). (d.0, b)) ds
 
 abbrev pub writers_after : UnitFacts → Event → List (Place × Id) → List (Place × Id)
 writers_after f (Ended u (Committed n)) ws =
-    written_by (base_by f) f.changes ++ where_key place_cmp (λ p. not (is_some (find place_cmp p f.changes))) ws
+    writers_by (base_by f) f.changes ++ where_key place_cmp (λ p. not (is_some (find place_cmp p f.changes))) ws
 writers_after f (Released bs) ws = where_key place_cmp (λ p. is_some (unless_among bs (writer_in ws p))) ws
 writers_after f Ready ws = []
 writers_after f (Early bs) ws = []

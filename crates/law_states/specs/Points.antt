@@ -76,15 +76,15 @@ abbrev pub Runs : Point → List TraceStep → Point → Type 0
 Runs p [] q = p ≡ q
 Runs p (m ∷ ms) q = (mid : Point) × Moves m p mid × Runs mid ms q
 
-abbrev pub moved : Trace → TraceStep → Trace
-moved trace (Ask asked) = trace asks asked
-moved trace (Turn b) = trace turns b
-moved trace (Say e) = trace says e
+abbrev pub stepped : Trace → TraceStep → Trace
+stepped trace (Ask asked) = trace asks asked
+stepped trace (Turn b) = trace turns b
+stepped trace (Say e) = trace says e
 
 -- the trace with these moves
 abbrev pub trace_on : Trace → List TraceStep → Trace
 trace_on trace [] = trace
-trace_on trace (m ∷ ms) = trace_on (moved trace m) ms
+trace_on trace (m ∷ ms) = trace_on (stepped trace m) ms
 
 -- the events said
 abbrev pub told_by : List TraceStep → List Event

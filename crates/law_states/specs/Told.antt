@@ -53,14 +53,14 @@ next_unit s = record { boot = s.kept.boot; seq = s.unit_count + 1 }
 abbrev pub next_base : UnitState → Id
 next_base s = record { boot = s.kept.boot; seq = s.base_count + 1 }
 
-abbrev pub next_decision : UnitState → ℕ
-next_decision s = s.kept.decisions + 1
+abbrev pub next_decision_number : UnitState → ℕ
+next_decision_number s = s.kept.decisions + 1
 
 abbrev pub begins_in : UnitState → UnitKind → Event
 begins_in s kind = Began (next_unit s) kind
 
 abbrev pub commits_in : UnitState → OpenUnit → Event
-commits_in s o = Ended o.unit (Committed (next_decision s))
+commits_in s o = Ended o.unit (Committed (next_decision_number s))
 
 abbrev pub does_in : UnitState → OpenUnit → Statement → Event
 does_in s o st = Did o.unit st (outcome_under s.kept o st).answer
@@ -107,8 +107,8 @@ go_in s clash b = goes_on_in s clash b (unit_of_program b s)
 -- the first event of a line that is not refused
 abbrev pub line_in : UnitState → Clashes → Items → Line → Option Event
 line_in s clash items Nothing = None
-line_in s clash items (Table d) = Some (Defined (next_decision s) (table_text d))
-line_in s clash items (Program p) = Some (Defined (next_decision s) (program_text p))
+line_in s clash items (Table d) = Some (Defined (next_decision_number s) (table_text d))
+line_in s clash items (Program p) = Some (Defined (next_decision_number s) (program_text p))
 line_in s clash items (Session t act) = act_in s clash t act (unit_of_session t s)
 line_in s clash items (Go b) = go_in s clash b
 line_in s clash items GoAll = None
@@ -123,7 +123,7 @@ after_began_in s clash o (Session t Begin) (Acid z) = None
 after_began_in s clash o line kind = turn_in s clash o
 
 abbrev pub fails_in : UnitState → OpenUnit → Cause → UnitKind → Event
-fails_in s o c (Later b part) = Ended o.unit (Branched (next_decision s) c)
+fails_in s o c (Later b part) = Ended o.unit (Branched (next_decision_number s) c)
 fails_in s o c kind = Ended o.unit (Failed c)
 
 abbrev pub is_at_end_in : OpenUnit → Option (List Statement) → Bool

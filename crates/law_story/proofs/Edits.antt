@@ -6,7 +6,7 @@ use Rattle.salt_model.specs.After.{kept, run_of, tables_after, vars_of}
 use Rattle.salt_model.specs.Kept.{schema_of}
 use Rattle.salt_model.specs.Trace.{Trace, ◌says◌}
 use Rattle.salt_model.specs.Units.{done_of}
-use Rattle.salt_model.specs.Statements.{Run, doing, has_failed, run_from, run_on, with_done}
+use Rattle.salt_model.specs.Statements.{UnitRun, doing, has_failed, run_from, run_on, with_done}
 use Rattle.salt_model.specs.Tables.{Edits, Tables, changed_at, make_change, place_cmp, place_total, put_change, put_changes, row_at, row_under, with_changes}
 use Rattle.salt_model.specs.declared.events.End.TheVariants.{Committed}
 use Rattle.salt_model.specs.declared.events.Event.TheVariants.{Ended}
@@ -28,10 +28,10 @@ edits-row (c ∷ cs) ds es now q h =
     by true = refl
     by false = h
 
-abbrev pub Told : Tables → Run → Type 0
+abbrev pub Told : Tables → UnitRun → Type 0
 Told es r = (q : Place) → row_at q r.tables ≡ row_under r.changes es q
 
-pub run-told : (schema : List TableDef) (sts : List Statement) (es : Tables) (r : Run) → Told es r → Told es (run_on schema sts r)
+pub run-told : (schema : List TableDef) (sts : List Statement) (es : Tables) (r : UnitRun) → Told es r → Told es (run_on schema sts r)
 run-told schema [] es r h = h
 run-told schema (st ∷ sts) es r h = by (has_failed (doing schema r st).answer) step (run-told schema sts es (with_done schema r st) step)
   where

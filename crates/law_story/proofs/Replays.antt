@@ -22,7 +22,7 @@ use Rattle.salt_model.specs.Phases.{Fallen, Opening, Phase, Serving, phase}
 use Rattle.salt_model.specs.Played.{IsPlayed}
 use Rattle.salt_model.specs.Refusals.{refusal}
 use Rattle.salt_model.specs.Segments.{May}
-use Rattle.salt_model.specs.Statements.{Run, doing, has_failed, run_from, run_on, serial, with_done}
+use Rattle.salt_model.specs.Statements.{UnitRun, doing, has_failed, run_from, run_on, serial, with_done}
 use Rattle.salt_model.specs.Tables.{Tables}
 use Rattle.salt_model.specs.Trace.{Trace, from, ◌asks◌, ◌says◌, ◌turns◌}
 use Rattle.salt_model.specs.Turns.{fails, next_number}
@@ -77,7 +77,7 @@ failed-cause : (a : Answer) → has_failed a ≡ true → cause_in a ≡ None �
 failed-cause (Answer.Failed c) h e = cc
 failed-cause a h e = cc
 
-run-more : (schema : List TableDef) (sts : List Statement) (st : Statement) (r : Run) → cause_among (run_on schema sts r).answers ≡ None → run_on schema (sts ++ st ∷ []) r ≡ with_done schema (run_on schema sts r) st
+run-more : (schema : List TableDef) (sts : List Statement) (st : Statement) (r : UnitRun) → cause_among (run_on schema sts r).answers ≡ None → run_on schema (sts ++ st ∷ []) r ≡ with_done schema (run_on schema sts r) st
 run-more schema [] st r h = choose-same (has_failed (doing schema r st).answer)
   where
     choose-same : (b : Bool) → cond b (with_done schema r st) (with_done schema r st) ≡ with_done schema r st
@@ -85,7 +85,7 @@ run-more schema [] st r h = choose-same (has_failed (doing schema r st).answer)
     choose-same false = refl
 run-more schema (x ∷ sts) st r h = by (has_failed (doing schema r x).answer) refl h (run-more schema sts st (with_done schema r x))
   where
-    w : Run
+    w : UnitRun
     w = with_done schema r x
 
     by : (b : Bool) → has_failed (doing schema r x).answer ≡ b → cause_among (cond b (with_done schema r x) (run_on schema sts (with_done schema r x))).answers ≡ None → (cause_among (run_on schema sts (with_done schema r x)).answers ≡ None → run_on schema (sts ++ st ∷ []) (with_done schema r x) ≡ with_done schema (run_on schema sts (with_done schema r x)) st) →

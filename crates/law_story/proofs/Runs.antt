@@ -5,7 +5,7 @@ use Rattle.law_story.proofs.Every.{every-left, every-map, every-right}
 use Rattle.law_story.proofs.Places.{Agree, IsAway, agree-away, agree-changes, agree-rows, away-untouched}
 use Rattle.law_story.proofs.Writes.{Writes, statement-frame, statement-writes}
 use Rattle.salt_model.specs.Locks.{touches}
-use Rattle.salt_model.specs.Statements.{Run, after_done, doing, has_failed, run_from, run_on, serial, with_done}
+use Rattle.salt_model.specs.Statements.{UnitRun, after_done, doing, has_failed, run_from, run_on, serial, with_done}
 use Rattle.salt_model.specs.Reaches.{reach}
 use Rattle.salt_model.specs.Tables.{Tables, row_at, rows_in, with_changes}
 use Rattle.salt_model.specs.Words.{Every}
@@ -16,7 +16,7 @@ use Rattle.std.proofs.Common.{ap, sym, ◌∙◌}
 use Rattle.std.specs.Prelude.{Bool, List, None, Option, Some, [], cond, false, refl, true, ◌∷◌, ◌≡◌, option_to_list}
 
 -- reaches only grow
-pub reaches-grow : (P : Reach → Type 0) (schema : List TableDef) (sts : List Statement) (r : Run) → Every P (run_on schema sts r).reaches → Every P r.reaches
+pub reaches-grow : (P : Reach → Type 0) (schema : List TableDef) (sts : List Statement) (r : UnitRun) → Every P (run_on schema sts r).reaches → Every P r.reaches
 reaches-grow P schema [] r h = h
 reaches-grow P schema (st ∷ sts) r h = every-left P r.reaches (option_to_list (reach schema r.vars st)) (by (has_failed (doing schema r st).answer) h (reaches-grow P schema sts (with_done schema r st)))
   where
@@ -25,7 +25,7 @@ reaches-grow P schema (st ∷ sts) r h = every-left P r.reaches (option_to_list 
     by false h f = f h
 
 -- the first of the reaches, after one step
-pub first-reach : (P : Reach → Type 0) (schema : List TableDef) (st : Statement) (sts : List Statement) (r : Run) → Every P (run_on schema (st ∷ sts) r).reaches → Every P (option_to_list (reach schema r.vars st))
+pub first-reach : (P : Reach → Type 0) (schema : List TableDef) (st : Statement) (sts : List Statement) (r : UnitRun) → Every P (run_on schema (st ∷ sts) r).reaches → Every P (option_to_list (reach schema r.vars st))
 first-reach P schema st sts r h = every-right P r.reaches (option_to_list (reach schema r.vars st)) (by (has_failed (doing schema r st).answer) h (reaches-grow P schema sts (with_done schema r st)))
   where
     by : (b : Bool) → Every P (cond b (with_done schema r st) (run_on schema sts (with_done schema r st))).reaches → (Every P (run_on schema sts (with_done schema r st)).reaches → Every P (with_done schema r st).reaches) → Every P (with_done schema r st).reaches
@@ -33,7 +33,7 @@ first-reach P schema st sts r h = every-right P r.reaches (option_to_list (reach
     by false h f = f h
 
 -- the same run, on other tables
-abbrev pub on_tables : Run → Tables → Run
+abbrev pub on_tables : UnitRun → Tables → UnitRun
 on_tables r es = record r { tables = es }
 
 abbrev pub AgreeOn : List Reach → Tables → Tables → Type 0
@@ -43,15 +43,15 @@ rows-same : (o : Option Reach) (a b : Tables) → AgreeOn (option_to_list o) a b
 rows-same None a b h = refl
 rows-same (Some r) a b h = agree-rows r a b h.0
 
-doing-frame : (schema : List TableDef) (st : Statement) (r : Run) (b : Tables) → AgreeOn (option_to_list (reach schema r.vars st)) r.tables b → doing schema (on_tables r b) st ≡ doing schema r st
+doing-frame : (schema : List TableDef) (st : Statement) (r : UnitRun) (b : Tables) → AgreeOn (option_to_list (reach schema r.vars st)) r.tables b → doing schema (on_tables r b) st ≡ doing schema r st
 doing-frame schema st r b h = sym (statement-frame schema r.tables b r.vars st (rows-same (reach schema r.vars st) r.tables b h))
 
 -- what other tables become by the changes of a statement
-abbrev after_on : List TableDef → Statement → Run → Tables → Tables
+abbrev after_on : List TableDef → Statement → UnitRun → Tables → Tables
 after_on schema st r b = with_changes (doing schema r st).changes b
 
 -- tables that agree on what the statements reach: all but the tables is the same after them
-pub run-frame : (schema : List TableDef) (sts : List Statement) (r : Run) (b : Tables) → AgreeOn (run_on schema sts r).reaches r.tables b → (c : Tables) × (run_on schema sts (on_tables r b) ≡ on_tables (run_on schema sts r) c)
+pub run-frame : (schema : List TableDef) (sts : List Statement) (r : UnitRun) (b : Tables) → AgreeOn (run_on schema sts r).reaches r.tables b → (c : Tables) × (run_on schema sts (on_tables r b) ≡ on_tables (run_on schema sts r) c)
 run-frame schema [] r b h = (b, refl)
 run-frame schema (st ∷ sts) r b h =
     by (has_failed (doing schema r st).answer) refl h (doing-frame schema st r b (first-reach (λ s. Agree s r.tables b) schema st sts r h)) (run-frame schema sts (with_done schema r st) (after_on schema st r b))
@@ -73,7 +73,7 @@ writes-away r None h c w = absurd w
 writes-away r (Some s) h c w = away-untouched r s c h.0 w.0 w.1
 
 -- a run leaves the rows of a reach that none of its reaches touches
-pub run-leaves : (r : Reach) (schema : List TableDef) (sts : List Statement) (x : Run) → Every (Untouched r) (run_on schema sts x).reaches → Agree r (run_on schema sts x).tables x.tables
+pub run-leaves : (r : Reach) (schema : List TableDef) (sts : List Statement) (x : UnitRun) → Every (Untouched r) (run_on schema sts x).reaches → Agree r (run_on schema sts x).tables x.tables
 run-leaves r schema [] x h q w = refl
 run-leaves r schema (st ∷ sts) x h q w = by (has_failed (doing schema x st).answer) h (λ g. run-leaves r schema sts (with_done schema x st) g q w) ∙ step q w
   where

@@ -15,7 +15,7 @@ use Rattle.salt_model.specs.Everywhere.{Each}
 use Rattle.salt_model.specs.Played.{IsPlayed}
 use Rattle.salt_model.specs.Reads.{Written, written_by, wrote_of}
 use Rattle.salt_model.specs.Segments.{May}
-use Rattle.salt_model.specs.Statements.{Run}
+use Rattle.salt_model.specs.Statements.{UnitRun}
 use Rattle.salt_model.specs.Tables.{Edits, changed_at, place_cmp, place_total, put_change, put_changes}
 use Rattle.salt_model.specs.Trace.{Trace, from, start_of, ◌asks◌, ◌says◌, ◌turns◌}
 use Rattle.salt_model.specs.Units.{is_open}
@@ -75,7 +75,7 @@ wrote-other trace e u n = refl
 same-other : (trace : Trace) (e : Event) (u : Id) → Inv trace → May trace e → Same trace u → Open trace u → is_unit_of u e ≡ false → Same (trace says e) u
 same-other trace e u inv m h o n p =
     let run = others trace e u inv.base (good-event trace e inv m) o n in
-    ap (is_written p) (wrote-other trace e u n) ∙ h p ∙ sym (ap (λ (r : Run). is_changed p r.changes) run.1)
+    ap (is_written p) (wrote-other trace e u n) ∙ h p ∙ sym (ap (λ (r : UnitRun). is_changed p r.changes) run.1)
 
 began-changes : (trace : Trace) (u : Id) (kind : UnitKind) (p : Place) → is_changed p (run_of u (trace says Began u kind)).changes ≡ false
 began-changes trace u kind p = rw (is_same_id-refl u) refl
@@ -91,7 +91,7 @@ same-did : (trace : Trace) (u : Id) (st : Statement) (a : Answer) → Inv trace 
 same-did trace u st a inv m h o p =
     let run = did-run trace u st a inv.base (quiet trace (Did u st a) inv m u o (rw (is_same_id-refl u) refl) refl) o in
     let told : wrote_of u (trace says Did u st a) ≡ written_by u (changes_now u trace st) ++ wrote_of u trace = rw (is_same_id-refl u) refl in
-    ap (is_written p) told ∙ written-more p u (changes_now u trace st) (wrote_of u trace) ∙ ap (λ b. is_among_changes p (changes_now u trace st) || b) (h p) ∙ sym (put-changed p (changes_now u trace st) (run_of u trace).changes) ∙ sym (ap (λ (r : Run). is_changed p r.changes) run)
+    ap (is_written p) told ∙ written-more p u (changes_now u trace st) (wrote_of u trace) ∙ ap (λ b. is_among_changes p (changes_now u trace st) || b) (h p) ∙ sym (put-changed p (changes_now u trace st) (run_of u trace).changes) ∙ sym (ap (λ (r : UnitRun). is_changed p r.changes) run)
 
 same-own : (trace : Trace) (e : Event) (u : Id) → Inv trace → Sound trace → May trace e → Fits trace e → ((v : Id) → Open trace v → Same trace v) → Open (trace says e) u → is_unit_of u e ≡ true → Same (trace says e) u
 same-own trace (Began v kind) u inv s m f h o i = subst (λ x. Same (trace says Began x kind) u) (is_same_id-true u v i) (same-began trace u kind s (subst (λ x. Fits trace (Began x kind)) (sym (is_same_id-true u v i)) f))

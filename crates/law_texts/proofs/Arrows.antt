@@ -2,7 +2,7 @@
 use Rattle.law_texts.specs.Arrow.{Place, after, dash, inside, next, onward, open_place}
 use Rattle.law_texts.proofs.Quiet.{Quiet, is_greater, is_minus}
 use Rattle.salt_tokens.specs.Bytes.{is_blank, is_digit, is_letter, is_word}
-use Rattle.salt_tokens.specs.Pieces.{First, IsToken, Lexes, Piece, Run, blank, doubled, ended, token}
+use Rattle.salt_tokens.specs.Pieces.{First, IsToken, Lexes, Piece, EachPasses, blank, doubled, ended, token}
 use Rattle.salt_tokens.specs.Spelling.{keyword_of, sign_of, sign_spelling}
 use Rattle.salt_tokens.specs.Symbols.{Symbol, symbols_of, sign, sign_symbol, symbol_by, word_symbol}
 use Rattle.salt_tokens.specs.declared.keyword.Keyword.{Keyword}
@@ -33,7 +33,7 @@ next_by p false b h x y z = rw (other p b 39 h y, other p b 45 h z)
 step : (p q : Place) (b : ℕ) (bs : List ℕ) → next p b ≡ Some q → after p (b ∷ bs) ≡ after q bs
 step p q b bs h = ap (λ (o : Option Place). onward o (λ r. after r bs) bs) h
 
-run_after : (p : ℕ → Bool) (text rest : List ℕ) → Run p text → p 62 ≡ false → p 39 ≡ false → p 45 ≡ false →
+run_after : (p : ℕ → Bool) (text rest : List ℕ) → EachPasses p text → p 62 ≡ false → p 39 ≡ false → p 45 ≡ false →
     after open_place (text ++ rest) ≡ after open_place rest
 run_after p [] rest h x y z = refl
 run_after p (b ∷ text) rest h x y z = step open_place open_place b (text ++ rest) (next_by p false b h.0 x y z) ∙ run_after p text rest h.1 x y z

@@ -12,7 +12,7 @@ use Rattle.law_texts.proofs.Clear.{run_one}
 use Rattle.law_texts.proofs.Numbers.{decimal_digits}
 use Rattle.law_texts.proofs.Statements.{shallow}
 use Rattle.salt_tokens.specs.Bytes.{is_blank, is_digit, is_letter, is_printable, is_word}
-use Rattle.salt_tokens.specs.Pieces.{First, IsToken, Lexes, Piece, Run, blank, doubled, ended, token}
+use Rattle.salt_tokens.specs.Pieces.{First, IsToken, Lexes, Piece, EachPasses, blank, doubled, ended, token}
 use Rattle.salt_tokens.specs.Spelling.{sign_spelling}
 use Rattle.salt_tokens.specs.declared.sign.Sign.TheVariants as mark
 use Rattle.salt_tokens.specs.declared.sign.Sign.{Sign}
@@ -28,11 +28,11 @@ line_one a b x y g h e = let r = run_one is_inline a b (10 ∷ x) (10 ∷ y) g h
 
 -- ---- runs
 
-pub run_append : (p : ℕ → Bool) (xs ys : List ℕ) → Run p xs → Run p ys → Run p (xs ++ ys)
+pub run_append : (p : ℕ → Bool) (xs ys : List ℕ) → EachPasses p xs → EachPasses p ys → EachPasses p (xs ++ ys)
 run_append p [] ys g h = h
 run_append p (x ∷ xs) ys g h = (g.0, run_append p xs ys g.1 h)
 
-pub run_inline : (p : ℕ → Bool) (xs : List ℕ) → p 10 ≡ false → Run p xs → Inline xs
+pub run_inline : (p : ℕ → Bool) (xs : List ℕ) → p 10 ≡ false → EachPasses p xs → Inline xs
 run_inline p [] no_end h = tt
 run_inline p (x ∷ xs) no_end h = (ap not (other p x 10 h.0 no_end), run_inline p xs no_end h.1)
 
@@ -59,7 +59,7 @@ lead c xs h k = run_append is_inline c xs (known c h) k
 
 -- ---- tokens
 
-pub doubled_inline : (content : List ℕ) → Run is_printable content → Inline (doubled content)
+pub doubled_inline : (content : List ℕ) → EachPasses is_printable content → Inline (doubled content)
 doubled_inline [] h = tt
 doubled_inline (b ∷ bs) h = go (eqb b 39) (ap not (other is_printable b 10 h.0 refl)) (doubled_inline bs h.1)
   where

@@ -43,7 +43,7 @@ use Rattle.law_texts.specs.EventLines.{Inline, ended, event_lines, is_inline, it
 use Rattle.salt_model.specs.Naming.{IsName, IsNaming}
 use Rattle.salt_model.specs.Sized.{IsSizedAnswer, IsSizedEvent, IsSizedItem, IsSizedKind, IsSizedRow, IsValueIn}
 use Rattle.salt_tokens.specs.Bytes.{is_printable}
-use Rattle.salt_tokens.specs.Pieces.{Run, doubled}
+use Rattle.salt_tokens.specs.Pieces.{EachPasses, doubled}
 use Rattle.salt_values.specs.Text.{is_text}
 use Rattle.salt_values.specs.Text as text
 use Rattle.salt_values.specs.Value.{IsValue}
@@ -77,7 +77,7 @@ test_parts true true h = (refl, refl)
 test_parts true false h = absurd cc
 test_parts false b h = absurd cc
 
-printable_run : (t : List ℕ) → list_all text.is_printable t ≡ true → Run is_printable t
+printable_run : (t : List ℕ) → list_all text.is_printable t ≡ true → EachPasses is_printable t
 printable_run [] h = tt
 printable_run (b ∷ bs) h = let r = test_parts (text.is_printable b) (list_all text.is_printable bs) h in (r.0, printable_run bs r.1)
 

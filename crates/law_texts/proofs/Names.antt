@@ -2,7 +2,7 @@
 use Rattle.salt_model.specs.Naming.{IsName}
 use Rattle.law_texts.proofs.Clear.{Clear, Stops, run_one}
 use Rattle.salt_tokens.specs.Bytes.{is_letter, is_word}
-use Rattle.salt_tokens.specs.Pieces.{First, IsToken, Lexes, NotNext, Piece, Run, blank, ended, token}
+use Rattle.salt_tokens.specs.Pieces.{First, IsToken, Lexes, NotNext, Piece, EachPasses, blank, ended, token}
 use Rattle.salt_tokens.specs.Spelling.{keyword_of, sign_of}
 use Rattle.salt_tokens.specs.Symbols.{name, symbols_of, sign_symbol, symbol_by, word_symbol}
 use Rattle.salt_tokens.specs.declared.keyword.Keyword.{Keyword}
@@ -37,11 +37,11 @@ name_word n h = name_in_row n h.token.1 h.token.2
 letter_word : (b : ℕ) → is_letter b ≡ true → is_word b ≡ true
 letter_word b h = rw h refl
 
-first_run : (n : List ℕ) → First is_letter is_word n → Run is_word n
+first_run : (n : List ℕ) → First is_letter is_word n → EachPasses is_word n
 first_run [] h = absurd h
 first_run (b ∷ bs) h = (letter_word b h.0, h.1)
 
-pub name_run : (n : List ℕ) → IsName n → Run is_word n
+pub name_run : (n : List ℕ) → IsName n → EachPasses is_word n
 name_run n h = first_run n (name_word n h)
 
 word_part : (w q : Bool) → (w || q) ≡ false → w ≡ false

@@ -5,7 +5,7 @@ use Rattle.salt_model.specs.declared.events.Owner.TheVariants as owner
 use Rattle.law_texts.proofs.Clear.{Clear, Stops, Tells, differ, first, run_one}
 use Rattle.salt_model.specs.Sized.{IsSized, IsSizedId, IsSizedOwner, IsSizedPair, IsSizedPart, IsSizedSession}
 use Rattle.salt_tokens.specs.Bytes.{is_digit, is_letter}
-use Rattle.salt_tokens.specs.Pieces.{NotNext, Run}
+use Rattle.salt_tokens.specs.Pieces.{NotNext, EachPasses}
 use Rattle.std.proofs.Common.{Bool, List, [], ap, arith, cond, eqb, false, length, refl, suc, true, zero, ℕ, ◌%◌, ◌++◌, ◌/◌, ◌<◌, ◌==◌, ◌||◌, ◌∷◌}
 use Rattle.std.proofs.Common.{◌≡◌, ◌≤◌}
 use Rattle.std.proofs.lemmas.Bool.Decides.{nat_tests}
@@ -20,17 +20,17 @@ digit_is d a b = grind (arith, nat_tests)
 glyph_is : (d : ℕ) → d < 10 → is_digit (digit_glyph false d) ≡ true
 glyph_is d h = grind (arith, nat_tests)
 
-onto_digits : (k n : ℕ) (acc : List ℕ) → Run is_digit acc → Run is_digit (digits_onto k 10 false n acc)
+onto_digits : (k n : ℕ) (acc : List ℕ) → EachPasses is_digit acc → EachPasses is_digit (digits_onto k 10 false n acc)
 onto_digits zero n acc h = h
 onto_digits (suc k) n acc h = either (eqb (n / 10) 0) (glyph_is (n % 10) (omega arith)) (onto_digits k (n / 10) (digit_glyph false (n % 10) ∷ acc))
   where
     either : (t : Bool) → is_digit (digit_glyph false (n % 10)) ≡ true →
-        (Run is_digit (digit_glyph false (n % 10) ∷ acc) → Run is_digit (digits_onto k 10 false (n / 10) (digit_glyph false (n % 10) ∷ acc))) →
-        Run is_digit (cond t (digit_glyph false (n % 10) ∷ acc) (digits_onto k 10 false (n / 10) (digit_glyph false (n % 10) ∷ acc)))
+        (EachPasses is_digit (digit_glyph false (n % 10) ∷ acc) → EachPasses is_digit (digits_onto k 10 false (n / 10) (digit_glyph false (n % 10) ∷ acc))) →
+        EachPasses is_digit (cond t (digit_glyph false (n % 10) ∷ acc) (digits_onto k 10 false (n / 10) (digit_glyph false (n % 10) ∷ acc)))
     either true d f = (d, h)
     either false d f = f (d, h)
 
-pub decimal_digits : (n : ℕ) → Run is_digit (decimal n)
+pub decimal_digits : (n : ℕ) → EachPasses is_digit (decimal n)
 unfolding digits
 decimal_digits n = onto_digits 64 n [] tt
 
@@ -65,7 +65,7 @@ part_clear = record { one = λ a b x y g h s t e. decimal_clear.one a b x y (ome
 pub decimal_begins : (n : ℕ) → IsSized n → (d : ℕ) × (ds : List ℕ) × (decimal n ≡ d ∷ ds) × (is_digit d ≡ true)
 decimal_begins n h = go (decimal n) refl (decimal_digits n) (decimal_nonempty n h)
   where
-    go : (l : List ℕ) → decimal n ≡ l → Run is_digit l → 0 < length l → (d : ℕ) × (ds : List ℕ) × (decimal n ≡ d ∷ ds) × (is_digit d ≡ true)
+    go : (l : List ℕ) → decimal n ≡ l → EachPasses is_digit l → 0 < length l → (d : ℕ) × (ds : List ℕ) × (decimal n ≡ d ∷ ds) × (is_digit d ≡ true)
     go [] e r some = absurd (omega arith)
     go (d ∷ ds) e r some = (d, ds, e, r.0)
 

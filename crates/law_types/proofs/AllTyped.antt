@@ -23,7 +23,7 @@ use Rattle.salt_model.specs.Next.{flight, next}
 use Rattle.salt_model.specs.Phases.{phase}
 use Rattle.salt_model.specs.Played.{IsPlayed}
 use Rattle.salt_model.specs.Segments.{May}
-use Rattle.salt_model.specs.Trace.{Trace, from, line_of, lines_of, start_of, ◌asks◌, ◌says◌, ◌turns◌}
+use Rattle.salt_model.specs.Trace.{Trace, from, line_of, lines_asked, start_of, ◌asks◌, ◌says◌, ◌turns◌}
 use Rattle.salt_model.specs.Units.{Never, Over, Running, Standing, Waiting, done_of, is_open, is_open_standing, is_waiting, is_waiting_standing, kind_of, line_waited, open_units, program_of, program_of_kind, standing, units_begun}
 use Rattle.salt_model.specs.Waiting.{statement_of_line}
 use Rattle.salt_model.specs.Words.{Every}
@@ -327,11 +327,11 @@ all-says trace e p well a =
       event-judged trace e a.typed f g d,
     )
 
-all-typed : (trace : Trace) → IsPlayed trace → WellKept (start_of trace).kept → IsTyped (start_of trace).kept → Every HasKey (lines_of trace) → AllTyped trace
+all-typed : (trace : Trace) → IsPlayed trace → WellKept (start_of trace).kept → IsTyped (start_of trace).kept → Every HasKey (lines_asked trace) → AllTyped trace
 all-typed (from k) p well typed keys = record { typed = typed; doing = λ u x o. absurd cc; waits = λ u o. absurd cc; all = λ u i. absurd i; comes = tt; flying = tt }
 all-typed (trace asks asked) p well typed keys =
-    let a = all-typed trace p.0 well typed (every-left HasKey (lines_of trace) (asked ∷ []) keys) in
-    let x = ready-asks trace asked (every-right HasKey (lines_of trace) (asked ∷ []) keys).0 a.waits in
+    let a = all-typed trace p.0 well typed (every-left HasKey (lines_asked trace) (asked ∷ []) keys) in
+    let x = ready-asks trace asked (every-right HasKey (lines_asked trace) (asked ∷ []) keys).0 a.waits in
     record { typed = a.typed; doing = a.doing; waits = a.waits; all = a.all; comes = x; flying = flying-next (trace asks asked) (next (trace asks asked)) x }
 all-typed (trace turns b) p well typed keys =
     let a = all-typed trace p.0 well typed keys in
@@ -339,14 +339,14 @@ all-typed (trace turns b) p well typed keys =
     record { typed = a.typed; doing = a.doing; waits = a.waits; all = a.all; comes = x; flying = flying-next (trace turns b) (next (trace turns b)) x }
 all-typed (trace says e) p well typed keys = (all-says trace e p well (all-typed trace p.0 well typed keys)).0
 
-pub typed-at : (trace : Trace) → IsPlayed trace → WellKept (start_of trace).kept → IsTyped (start_of trace).kept → Every HasKey (lines_of trace) → IsTypedAt trace
+pub typed-at : (trace : Trace) → IsPlayed trace → WellKept (start_of trace).kept → IsTyped (start_of trace).kept → Every HasKey (lines_asked trace) → IsTypedAt trace
 typed-at trace p well typed keys =
     let a = all-typed trace p well typed keys in
     record { units = λ u x o k. record { kind = (a.doing u x o k).kind; run = run-typed x trace u a.typed (a.doing u x o k) }; kept = a.typed }
 
-pub each-judged : (trace : Trace) → IsPlayed trace → WellKept (start_of trace).kept → IsTyped (start_of trace).kept → Every HasKey (lines_of trace) → Each IsJudgedEvent trace
+pub each-judged : (trace : Trace) → IsPlayed trace → WellKept (start_of trace).kept → IsTyped (start_of trace).kept → Every HasKey (lines_asked trace) → Each IsJudgedEvent trace
 each-judged (from k) p well typed keys = tt
-each-judged (trace asks asked) p well typed keys = each-judged trace p.0 well typed (every-left HasKey (lines_of trace) (asked ∷ []) keys)
+each-judged (trace asks asked) p well typed keys = each-judged trace p.0 well typed (every-left HasKey (lines_asked trace) (asked ∷ []) keys)
 each-judged (trace turns b) p well typed keys = each-judged trace p.0 well typed keys
 each-judged (trace says e) p well typed keys = (each-judged trace p.0 well typed keys, (all-says trace e p well (all-typed trace p.0 well typed keys)).1)
 
@@ -358,7 +358,7 @@ flies-open trace (Ended u (Branched n c)) f = f.0
 flies-open trace (Ended u end) f = absurd f
 flies-open trace e f = tt
 
-pub flight-typed : (trace : Trace) → IsPlayed trace → WellKept (start_of trace).kept → IsTyped (start_of trace).kept → Every HasKey (lines_of trace) → IsTyped (kept_with trace (flight trace))
+pub flight-typed : (trace : Trace) → IsPlayed trace → WellKept (start_of trace).kept → IsTyped (start_of trace).kept → Every HasKey (lines_asked trace) → IsTyped (kept_with trace (flight trace))
 flight-typed trace p well typed keys = by (flight trace) h.flies a.flying
   where
     h : Upheld trace

@@ -14,7 +14,7 @@ use Rattle.law_story.proofs.Ids.{and_left, and_right}
 use Rattle.law_story.proofs.Rising.{every-without}
 use Rattle.salt_model.specs.After.{branched, committed}
 use Rattle.salt_model.specs.Kept.{Kept, begun_cont, change_cont, cont_in, cont_of, conts_branched, conts_committed, kept_program, moved, parts_of, programs_of, schema_of, values_kept, vars_at_call, vars_at_cont, vars_of_kind, zeros}
-use Rattle.salt_model.specs.Statements.{Run}
+use Rattle.salt_model.specs.Statements.{UnitRun}
 use Rattle.salt_model.specs.Words.{Every}
 use Rattle.salt_model.specs.declared.events.UnitKind.TheVariants as kind
 use Rattle.salt_model.specs.declared.events.UnitKind.{UnitKind}
@@ -257,7 +257,7 @@ module _ (k : Kept) (typed : IsTyped k) where
 
   -- what is kept behind its end
 
-  pub committed-typed : (n : ℕ) (u : UnitKind) (run : Run) → IsKindFor k u → IsTypedRun (schema_of k) (bindings (scope_of_kind k u)) run → IsTyped (committed k n (Some u) run)
+  pub committed-typed : (n : ℕ) (u : UnitKind) (run : UnitRun) → IsKindFor k u → IsTypedRun (schema_of k) (bindings (scope_of_kind k u)) run → IsTyped (committed k n (Some u) run)
   committed-typed n u run is done = record { tables = typed.tables; programs = typed.programs; rows = done.rows; conts = conts-committed n u run.vars is done.vars }
 
   pub branched-typed : (n : ℕ) (u : UnitKind) → IsKindFor k u → IsTyped (branched k n (Some u))

@@ -11,19 +11,19 @@ use Rattle.salt_bytes.specs.Page.{TableRow}
 use Rattle.salt_bytes.specs.Partition.{Prepared}
 use Rattle.salt_bytes.specs.declared.moves.Move.TheVariants.{Continue, Finish, Plain}
 use Rattle.salt_bytes.specs.declared.moves.Move.{Move}
-use Rattle.salt_stands.specs.Fitting.{definitions_reading, is_cont_of, is_refused, is_row_of, kept_in, programs_of, tables_of}
+use Rattle.salt_stands.specs.Fitting.{definitions_reading, is_cont_of, is_refused, is_row_of, kept_in, programs_defined, tables_defined}
 use Rattle.law_story.proofs.Every.{every-append, every-filter}
 use Rattle.law_story.proofs.Ids.{and_left, and_right}
 use Rattle.salt_model.specs.Kept.{Definition, Kept, OfProgram, OfTable, cont_in, nothing_kept}
 use Rattle.salt_model.specs.Tables.{Entry, Tables, changed_at, no_rows}
 use Rattle.salt_model.specs.Words.{Every}
 use Rattle.salt_values.specs.Id.{has_id}
-use Rattle.salt_stands.specs.Coordinator.{Coordinator, Logs, are_sound, coordinator_at, coordinator_of, coordinator_pair, decided_for, define, defined_by, device_of, is_sound_cont, is_sound_decision, judge_coordinator}
+use Rattle.salt_stands.specs.Coordinator.{Coordinator, Logs, are_sound, coordinator_at, coordinator_of, coordinator_pair, decided_for, define, definitions_read, device_of, is_sound_cont, is_sound_decision, judge_coordinator}
 use Rattle.salt_stands.specs.CoordinatorLog.{CoordinatorLog, Told}
 use Rattle.salt_stands.specs.OpenConts.{conts_of_move, end_of, go_to, is_accepted_before, is_not_of, make_move, move_on, moved, replace_cont}
 use Rattle.salt_stands.specs.Partition.{are_sound_rows, changes_if, decided_changes, is_sound_change, is_sound_log, is_sound_prepared, is_sound_to, judge_part, pages_device, part_at, part_device, part_pair, part_tables, rows_from, rows_of_pages}
 use Rattle.salt_stands.specs.PartitionLog.{PartitionLog, partition_generation, partition_in}
-use Rattle.salt_stands.specs.Stands.{Found, found_with, if_ok, judged, logs_of, nothing_found, parts_at, stands_of, with_parts}
+use Rattle.salt_stands.specs.Stands.{Found, found_with, if_ok, stands_on, logs_of, nothing_found, parts_at, stands_of, with_parts}
 use Rattle.salt_stands.specs.Tables.{change_of_row, joined, put_entries}
 use Rattle.salt_stands.specs.Words.{each_from, if_sound, or_fault}
 use Rattle.law_types.proofs.Defining.{program-defined, table-defined}
@@ -111,7 +111,7 @@ module _ {L : Type 0} (P : L → Type 0) where
 
 module _ (read : List ℕ → Option Definition) (c : Coordinator Definition) where
   abbrev schema : List TableDef
-  schema = tables_of c.definitions
+  schema = tables_defined c.definitions
 
   change-fits : (p : ℕ) (ch : Change) → IsKeyed ch → is_sound_change (definitions_reading read) c p ch ≡ true → FitsAt schema (changed_at ch) ch.row
   change-fits p ch keyed h = by ch.row keyed (and_right (nat_lt ch.table ((definitions_reading read).count_tables c.definitions)) _ h)
@@ -202,13 +202,13 @@ module _ (read : List ℕ → Option Definition) (keys : (text : List ℕ) (d : 
   one-defined : (ds : List Definition) (text : List ℕ) (d : Definition) → read text ≡ Some d → not (is_refused ds d) ≡ true → IsTyped (defined ds) → IsTyped (defined (ds ++ d ∷ []))
   unfolding line_fault
   one-defined ds text (OfTable d) e h typed =
-      table-defined (defined ds) typed d (unmapped faulty (table_fault (tables_of ds) d) (other_is_none (option_map of_kept (kept_limit (tables_of ds))) _ (not-some _ h))) (keys text d e)
+      table-defined (defined ds) typed d (unmapped faulty (table_fault (tables_defined ds) d) (other_is_none (option_map of_kept (kept_limit (tables_defined ds))) _ (not-some _ h))) (keys text d e)
   one-defined ds text (OfProgram p) e h typed =
       program-defined (defined ds) typed p
-      (unmapped of_program_fault (program_fault (tables_of ds) (programs_of ds) p) (other_is_none (option_map of_kept (program_kept_limit (programs_of ds))) _ (not-some _ h)))
+      (unmapped of_program_fault (program_fault (tables_defined ds) (programs_defined ds) p) (other_is_none (option_map of_kept (program_kept_limit (programs_defined ds))) _ (not-some _ h)))
 
   all-defined : (o : Option (List Definition)) (texts : List NumberedText) (ds : List Definition) → ((old : List Definition) → o ≡ Some old → IsTyped (defined old)) →
-      defined_by (definitions_reading read) o texts ≡ Some ds → IsTyped (defined ds)
+      definitions_read (definitions_reading read) o texts ≡ Some ds → IsTyped (defined ds)
   all-defined o [] ds h e = h ds e
   all-defined o (t ∷ texts) ds h e = all-defined (define (definitions_reading read) t o) texts ds next e
     where
@@ -223,7 +223,7 @@ module _ (read : List ℕ → Option Definition) (keys : (text : List ℕ) (d : 
 
   module _ (ds : List Definition) (told : Told) (format : ℕ) where
     abbrev Fits : Cont → Type 0
-    Fits c = is_cont_of (program_named (programs_of ds) c.program) c ≡ true
+    Fits c = is_cont_of (program_named (programs_defined ds) c.program) c ≡ true
 
     abbrev AllFit : Option (List Cont) → Type 0
     AllFit None = ⊤
@@ -275,14 +275,14 @@ module _ (read : List ℕ → Option Definition) (keys : (text : List ℕ) (d : 
 
   pub record IsFoundTyped (c : Coordinator Definition) : Type 0 where
     pub definitions : IsTyped (defined c.definitions)
-    pub conts : Every (λ (x : Cont). is_cont_of (program_named (programs_of c.definitions) x.program) x ≡ true) c.conts
+    pub conts : Every (λ (x : Cont). is_cont_of (program_named (programs_defined c.definitions) x.program) x ≡ true) c.conts
 
   abbrev with_conts : CoordinatorLog → List Definition → List Cont → Option (Coordinator Definition)
   with_conts log ds cs = then_some (are_sound (definitions_reading read) log ds) (record { log = log; definitions = ds; conts = cs })
 
   pub coordinator-typed : (log : CoordinatorLog) (c : Coordinator Definition) → coordinator_of (definitions_reading read) log ≡ Some c → IsFoundTyped c
   coordinator-typed log c h =
-      let a = then-some (λ (ds : List Definition). option_and_then (with_conts log ds) (moved log.header.format (Some log.header.conts) log.told.decided)) (defined_by (definitions_reading read) (Some []) log.told.definitions) c h in
+      let a = then-some (λ (ds : List Definition). option_and_then (with_conts log ds) (moved log.header.format (Some log.header.conts) log.told.decided)) (definitions_read (definitions_reading read) (Some []) log.told.definitions) c h in
       let b = then-some (with_conts log a.0) (moved log.header.format (Some log.header.conts) log.told.decided) c a.2 in
       let g = given-some (are_sound (definitions_reading read) log a.0) (record { log = log; definitions = a.0; conts = b.0 }) c b.2 in
       let sound = and_right _ _ g.0 in
@@ -323,7 +323,7 @@ module _ (read : List ℕ → Option Definition) (keys : (text : List ℕ) (d : 
 
   pub found-typed : (devices : ℕ → List ℕ) (asked : Shape) (f : Found Definition) → stands_of (definitions_reading read) devices asked ≡ Some f → IsTyped (kept_in f)
   found-typed devices asked f h =
-      let r = sound-ok (with_parts (definitions_reading read) (logs_of devices) devices asked) (coordinator_at (definitions_reading read) (logs_of devices)) f (ok (judged (definitions_reading read) devices asked) h) in
+      let r = sound-ok (with_parts (definitions_reading read) (logs_of devices) devices asked) (coordinator_at (definitions_reading read) (logs_of devices)) f (ok (stands_on (definitions_reading read) devices asked) h) in
       with-parts-typed (logs_of devices) devices asked r.0 f r.1 r.2
     where
       ok : (r : Result (Found Definition) ℕ) → if_ok r ≡ Some f → r ≡ Ok f

@@ -3,7 +3,7 @@ use Rattle.salt_ast.specs.Judgement.{bindings, statement_fault}
 use Rattle.salt_ast.specs.declared.trees.Scope.{Scope}
 use Rattle.salt_ast.specs.declared.trees.Statement.{Statement}
 use Rattle.salt_ast.specs.declared.trees.TableDef.{TableDef}
-use Rattle.salt_model.specs.Statements.{Run, doing, has_failed, outcome_of, run_from, run_on, serial, with_done}
+use Rattle.salt_model.specs.Statements.{UnitRun, doing, has_failed, outcome_of, run_from, run_on, serial, with_done}
 use Rattle.salt_model.specs.Tables.{Tables}
 use Rattle.salt_model.specs.Words.{Every}
 use Rattle.salt_model.specs.declared.vars.Binding.{Binding}
@@ -21,7 +21,7 @@ module _ (schema : List TableDef) (scope : Scope) (each : Every IsProperTable sc
       subst (λ (bs : List Binding). IsTypedDone schema (bindings scope) (outcome_of schema es bs st)) (sym held.named)
       (outcome-typed schema scope apart held.values held.typed each es fit st (judged schema scope st h))
 
-  one-more : (r : Run) (st : Statement) → statement_fault schema scope st ≡ None → IsTypedRun schema (bindings scope) r → IsTypedRun schema (bindings scope) (with_done schema r st)
+  one-more : (r : UnitRun) (st : Statement) → statement_fault schema scope st ≡ None → IsTypedRun schema (bindings scope) r → IsTypedRun schema (bindings scope) (with_done schema r st)
   one-more r st h is =
       let d = statement-typed r.tables r.vars st h is.rows is.vars in
       record {
@@ -30,7 +30,7 @@ module _ (schema : List TableDef) (scope : Scope) (each : Every IsProperTable sc
         vars = d.vars;
       }
 
-  run-typed : (sts : List Statement) (r : Run) → Every (λ (st : Statement). statement_fault schema scope st ≡ None) sts → IsTypedRun schema (bindings scope) r →
+  run-typed : (sts : List Statement) (r : UnitRun) → Every (λ (st : Statement). statement_fault schema scope st ≡ None) sts → IsTypedRun schema (bindings scope) r →
       IsTypedRun schema (bindings scope) (run_on schema sts r)
   run-typed [] r h is = is
   run-typed (st ∷ sts) r h is = let next = one-more r st h.0 is in by (has_failed (doing schema r st).answer) next (run-typed sts (with_done schema r st) h.1 next)

@@ -1,6 +1,6 @@
 -- Changes that fit are sound in the partitions of their keys.
 use Rattle.salt_ast.specs.declared.trees.TableDef.{TableDef}
-use Rattle.salt_stands.specs.Fitting.{definitions_reading, is_key_of, is_row_of, tables_of}
+use Rattle.salt_stands.specs.Fitting.{definitions_reading, is_key_of, is_row_of, tables_defined}
 use Rattle.salt_model.specs.Kept.{Definition}
 use Rattle.salt_model.specs.Tables.{changed_at}
 use Rattle.salt_stands.specs.Coordinator.{Coordinator}
@@ -34,18 +34,18 @@ of-key schema n key h = by (slice_get schema n) refl h
     by None e g = absurd cc
     by (Some d) e g = let b = below schema n d e in grind (arith, nat_tests)
 
-pub change-sound : (read : List ℕ → Option Definition) (c : Coordinator Definition) (ch : Change) → FitsAt (tables_of c.definitions) (changed_at ch) ch.row →
+pub change-sound : (read : List ℕ → Option Definition) (c : Coordinator Definition) (ch : Change) → FitsAt (tables_defined c.definitions) (changed_at ch) ch.row →
     is_sound_change (definitions_reading read) c (part_of_key c.log.header.shape ch.key) ch ≡ true
 change-sound read c ch h = by ch.row h
   where
-    by : (row : Option (List Value)) → FitsAt (tables_of c.definitions) (changed_at ch) row →
-        (nat_lt ch.table (length (tables_of c.definitions)) && is_sound_to (definitions_reading read) c (part_of_key c.log.header.shape ch.key) (changed_at ch) row) ≡ true
-    by None g = both _ _ (of-key (tables_of c.definitions) ch.table ch.key g) g
+    by : (row : Option (List Value)) → FitsAt (tables_defined c.definitions) (changed_at ch) row →
+        (nat_lt ch.table (length (tables_defined c.definitions)) && is_sound_to (definitions_reading read) c (part_of_key c.log.header.shape ch.key) (changed_at ch) row) ≡ true
+    by None g = both _ _ (of-key (tables_defined c.definitions) ch.table ch.key g) g
     by (Some row) g =
-        both _ _ (of-row (tables_of c.definitions) ch.table row g.fits)
+        both _ _ (of-row (tables_defined c.definitions) ch.table row g.fits)
         (both _ _ g.fits (eq-eqb (part_of_key c.log.header.shape ch.key) (part_of_key c.log.header.shape ch.key) refl))
 
-pub all-sound : (read : List ℕ → Option Definition) (c : Coordinator Definition) (cs : List Change) → AreChangesOf (tables_of c.definitions) cs →
+pub all-sound : (read : List ℕ → Option Definition) (c : Coordinator Definition) (cs : List Change) → AreChangesOf (tables_defined c.definitions) cs →
     list_all (λ (ch : Change). is_sound_change (definitions_reading read) c (part_of_key c.log.header.shape ch.key) ch) cs ≡ true
 all-sound read c [] h = refl
 all-sound read c (ch ∷ cs) h = both _ _ (change-sound read c ch h.0) (all-sound read c cs h.1)

@@ -10,7 +10,7 @@ use Rattle.law_story.proofs.Lists.{in-cases, in-filter_map}
 use Rattle.law_states.specs.Members.{In}
 use Rattle.salt_model.specs.After.{branched, committed, defined_by, kept, reach_now, run_of, stage, stage_run}
 use Rattle.salt_model.specs.Eval.{value_of}
-use Rattle.salt_model.specs.Statements.{Run}
+use Rattle.salt_model.specs.Statements.{UnitRun}
 use Rattle.salt_model.specs.Kept.{Kept, WellKept, schema_of, table_of_definition}
 use Rattle.salt_model.specs.Locks.{base_tables, cover_lock, cover_of, held, is_base_table, numbers_from}
 use Rattle.salt_model.specs.Played.{IsPlayed}
@@ -93,7 +93,7 @@ reach-within schema vars st r h = by (table_for schema st) refl h
 same : (schema : List TableDef) → Grows schema schema
 same schema = record { more = []; is = sym (append-nil schema) }
 
-committed-same : (k : Kept) (n : ℕ) (o : Option UnitKind) (run : Run) → schema_of (committed k n o run) ≡ schema_of k
+committed-same : (k : Kept) (n : ℕ) (o : Option UnitKind) (run : UnitRun) → schema_of (committed k n o run) ≡ schema_of k
 committed-same k n o run = refl
 
 branched-same : (k : Kept) (n : ℕ) (o : Option UnitKind) → schema_of (branched k n o) ≡ schema_of k

@@ -3,7 +3,7 @@ use Rattle.salt_ast.specs.Judgement.{bindings}
 use Rattle.salt_ast.specs.declared.lines.Line.TheVariants.{Table}
 use Rattle.salt_model.specs.After.{kept, run_of}
 use Rattle.salt_model.specs.Kept.{Kept, schema_of}
-use Rattle.salt_model.specs.Statements.{Run}
+use Rattle.salt_model.specs.Statements.{UnitRun}
 use Rattle.salt_model.specs.Trace.{Asked, Trace, Tree}
 use Rattle.salt_model.specs.Units.{is_open, kind_of}
 use Rattle.salt_model.specs.declared.events.Event.TheVariants.{Began, Did}
@@ -19,7 +19,7 @@ HasKey (Tree (Table d)) = has_key d.columns ≡ true
 HasKey asked = ⊤
 
 -- a unit of this kind that may be open, with what its statements gave
-pub record IsTypedUnit (k : Kept) (u : UnitKind) (r : Run) : Type 0 where
+pub record IsTypedUnit (k : Kept) (u : UnitKind) (r : UnitRun) : Type 0 where
   pub kind : IsKindFor k u
   pub run : IsTypedRun (schema_of k) (bindings (scope_of_kind k u)) r
 

@@ -10,7 +10,7 @@ use Rattle.salt_ast.specs.declared.trees.TableDef.{TableDef}
 use Rattle.salt_stands.specs.Fitting.{is_cont_of, is_key_of, is_of_column, is_row_of}
 use Rattle.salt_model.specs.Eval.{Datum, Gives, Holds, named_values}
 use Rattle.salt_model.specs.Kept.{Kept, cont_of, kept_program, programs_of, schema_of}
-use Rattle.salt_model.specs.Statements.{Done, Run}
+use Rattle.salt_model.specs.Statements.{Done, UnitRun}
 use Rattle.salt_model.specs.Tables.{Entry, Tables, changed_at}
 use Rattle.salt_model.specs.Words.{Every}
 use Rattle.salt_model.specs.declared.events.UnitKind.TheVariants.{Acid, Call, First, Later}
@@ -90,7 +90,7 @@ pub record IsTypedDone (schema : List TableDef) (fields : List Field) (d : Done)
   pub vars : AreVariables fields d.vars
 
 -- so do those of statements one after another
-pub record IsTypedRun (schema : List TableDef) (fields : List Field) (r : Run) : Type 0 where
+pub record IsTypedRun (schema : List TableDef) (fields : List Field) (r : UnitRun) : Type 0 where
   pub rows : AreRowsOf schema r.tables
   pub changes : AreEditsOf schema r.changes.list
   pub vars : AreVariables fields r.vars

@@ -10,7 +10,7 @@ ghost use Rattle.salt_ast.specs.declared.trees.Field.{Field};
 ghost use Rattle.salt_ast.specs.declared.trees.Scope.{Scope};
 ghost use Rattle.salt_ast.specs.declared.trees.Statement.{Statement};
 ghost use Rattle.salt_ast.specs.declared.trees.TableDef.{TableDef};
-ghost use Rattle.salt_stands.specs.Fitting.{are_of_columns, definitions_reading, is_of_column, kept_in, tables_of};
+ghost use Rattle.salt_stands.specs.Fitting.{are_of_columns, definitions_reading, is_of_column, kept_in, tables_defined};
 ghost use Rattle.law_states.specs.Keeps.{KeepsUnits};
 ghost use Rattle.law_states.specs.Laws.{IsSound};
 ghost use Rattle.law_states.specs.OpenUnits.{UnitState};
@@ -24,9 +24,9 @@ ghost use Rattle.salt_model.specs.Kept.{kept_program, nothing_kept, programs_of,
 ghost use Rattle.salt_model.specs.Lines.{AskInOrder};
 ghost use Rattle.salt_model.specs.Next.{flight};
 ghost use Rattle.salt_model.specs.Played.{IsPlayed};
-ghost use Rattle.salt_model.specs.Statements.{Run, outcome_of, serial};
+ghost use Rattle.salt_model.specs.Statements.{UnitRun, outcome_of, serial};
 ghost use Rattle.salt_model.specs.Tables.{Edits, Tables, changed_at, put_changes, with_changes};
-ghost use Rattle.salt_model.specs.Trace.{Asked, Trace, lines_of, start_of, ◌says◌};
+ghost use Rattle.salt_model.specs.Trace.{Asked, Trace, lines_asked, start_of, ◌says◌};
 ghost use Rattle.salt_model.specs.Words.{Every};
 ghost use Rattle.salt_model.specs.declared.events.Event.{Event};
 ghost use Rattle.salt_model.specs.declared.events.UnitKind.{UnitKind};
@@ -107,7 +107,7 @@ pub fn units_begin_typed()
 
 /// What is kept behind the commit of a unit, whose statements were of their types, or behind its branch fits its definitions.
 pub fn ends_keep_types()
-    ensures commit { (k : Kept) (n : ℕ) (u : UnitKind) (run : Run) → IsTyped k → IsKindFor k u →
+    ensures commit { (k : Kept) (n : ℕ) (u : UnitKind) (run : UnitRun) → IsTyped k → IsKindFor k u →
         IsTypedRun (schema_of k) (bindings (scope_of_kind k u)) run → IsTyped (committed k n (Some u) run) }
     ensures branch { (k : Kept) (n : ℕ) (u : UnitKind) → IsTyped k → IsKindFor k u → IsTyped (branched k n (Some u)) }
 {}
@@ -135,19 +135,19 @@ pub fn read_lines_have_keys()
 /// its definitions, with the decision in flight too, and open units are of their types. What they do is not refused.
 pub fn played_is_typed()
     ensures here { (trace : Trace) → IsPlayed trace → WellKept (start_of trace).kept → IsTyped (start_of trace).kept →
-        Every HasKey (lines_of trace) → IsTypedAt trace }
+        Every HasKey (lines_asked trace) → IsTypedAt trace }
     ensures flight { (trace : Trace) → IsPlayed trace → WellKept (start_of trace).kept → IsTyped (start_of trace).kept →
-        Every HasKey (lines_of trace) → IsTyped (kept_with trace (flight trace)) }
+        Every HasKey (lines_asked trace) → IsTyped (kept_with trace (flight trace)) }
     ensures judged { (trace : Trace) → IsPlayed trace → WellKept (start_of trace).kept → IsTyped (start_of trace).kept →
-        Every HasKey (lines_of trace) → Each IsJudgedEvent trace }
+        Every HasKey (lines_asked trace) → Each IsJudgedEvent trace }
 {}
 
 /// So the state that goes along with such a trace is of its types, and so is what each event that may stand makes of it.
 pub fn states_are_of_their_types()
     ensures here { (s : UnitState) (trace : Trace) → KeepsUnits s trace → IsSound trace → IsTyped (start_of trace).kept →
-        Every HasKey (lines_of trace) → AreOfTheirTypes s }
+        Every HasKey (lines_asked trace) → AreOfTheirTypes s }
     ensures says { (s : UnitState) (trace : Trace) (e : Event) → KeepsUnits s trace → IsSound (trace says e) →
-        IsTyped (start_of trace).kept → Every HasKey (lines_of trace) → AreOfTheirTypes (units_after e s) }
+        IsTyped (start_of trace).kept → Every HasKey (lines_asked trace) → AreOfTheirTypes (units_after e s) }
 {
     units_go_on();
 }
@@ -164,9 +164,9 @@ pub fn found_is_typed()
 /// unit's. A continuation that fits is one that its program may have.
 pub fn typed_changes_are_sound()
     ensures one { (read : List ℕ → Option Definition) (c : Coordinator Definition) (ch : Change) →
-        FitsAt (tables_of c.definitions) (changed_at ch) ch.row →
+        FitsAt (tables_defined c.definitions) (changed_at ch) ch.row →
         is_sound_change (definitions_reading read) c (part_of_key c.log.header.shape ch.key) ch ≡ true }
-    ensures all { (read : List ℕ → Option Definition) (c : Coordinator Definition) (cs : List Change) → AreChangesOf (tables_of c.definitions) cs →
+    ensures all { (read : List ℕ → Option Definition) (c : Coordinator Definition) (cs : List Change) → AreChangesOf (tables_defined c.definitions) cs →
         list_all (λ (ch : Change). is_sound_change (definitions_reading read) c (part_of_key c.log.header.shape ch.key) ch) cs ≡ true }
     ensures conts { (read : List ℕ → Option Definition) (k : Kept) (c : Cont) → IsContOf k c →
         (definitions_reading read).fits_cont k.definitions c ≡ true }

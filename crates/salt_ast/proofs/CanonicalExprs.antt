@@ -12,7 +12,7 @@ use Rattle.salt_ast.specs.declared.trees.Expr.{Binary', Column, Expr, IsNull', L
 use Rattle.salt_ast.specs.declared.trees.Op.{Op}
 use Rattle.salt_ast.specs.declared.trees.Op.TheVariants as op
 use Rattle.salt_tokens.specs.Bytes.{is_printable}
-use Rattle.salt_tokens.specs.Pieces.{Run}
+use Rattle.salt_tokens.specs.Pieces.{EachPasses}
 use Rattle.salt_tokens.specs.Symbols.{Symbols, Symbol, int, key, name, sign, text}
 use Rattle.salt_tokens.specs.declared.keyword.Keyword.TheVariants as word
 use Rattle.salt_tokens.specs.declared.sign.Sign.TheVariants as mark
@@ -126,7 +126,7 @@ module _ (laws : TokenLaws) where
     spelled = minus_int;
   }
 
-  letters_read : (t : List ℕ) → Run is_printable t → IsReadExpr (letters t)
+  letters_read : (t : List ℕ) → EachPasses is_printable t → IsReadExpr (letters t)
   letters_read t h = λ depth le. record { symbols = text t ∷ []; fragment = text_fragment laws t h; spelled = literal }
 
   column_read : (n : List ℕ) → IsNameWord n → IsReadExpr (Column n)

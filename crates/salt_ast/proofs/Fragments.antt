@@ -2,7 +2,7 @@
 use Rattle.salt_ast.specs.Spelling.{Spells}
 use Rattle.salt_ast.specs.TokenLaws.{TokenLaws}
 use Rattle.salt_tokens.specs.Bytes.{is_digit, is_printable, is_word}
-use Rattle.salt_tokens.specs.Pieces.{Ends, IsToken, Lexes, NotNext, Run, blank, ended, quoted, token}
+use Rattle.salt_tokens.specs.Pieces.{EndsToken, IsToken, Lexes, NotNext, EachPasses, blank, ended, quoted, token}
 use Rattle.salt_tokens.specs.Spelling.{keyword_of, keyword_spelling, sign_of, sign_spelling}
 use Rattle.salt_tokens.specs.Symbols.{HasSymbols, Symbols, Symbol, int, key, name, sign, sign_symbol, symbol_by, text, word_symbol}
 use Rattle.salt_tokens.specs.declared.keyword.Keyword.{Keyword}
@@ -80,7 +80,7 @@ module _ {Next : List ℕ → Type 0} where
   pub behind_space : {a b : List ℕ} {ts us : Symbols} → IsFragment Stops a ts → IsFragment Next b us → IsFragment Next (a ++ 32 ∷ b) (ts ++ us)
   behind_space f g = behind f (λ rest next. space_stops _) (space_before g)
 
-  token_before : (k : TokenKind) (bytes : List ℕ) (s : Symbol) {b : List ℕ} {us : Symbols} → IsToken k bytes → symbol_by k bytes ≡ s → ((rest : List ℕ) → Next rest → Ends k bytes (b ++ rest)) → IsFragment Next b us → IsFragment Next (bytes ++ b) (s ∷ us)
+  token_before : (k : TokenKind) (bytes : List ℕ) (s : Symbol) {b : List ℕ} {us : Symbols} → IsToken k bytes → symbol_by k bytes ≡ s → ((rest : List ℕ) → Next rest → EndsToken k bytes (b ++ rest)) → IsFragment Next b us → IsFragment Next (bytes ++ b) (s ∷ us)
   token_before k bytes s {b = b} {us = us} h is ends f = record {
     reads = λ rest r next has.
         let t = f.reads rest r next has in (
@@ -94,7 +94,7 @@ module _ {Next : List ℕ → Type 0} where
 abbrev IsLone : Sign → Type 0
 IsLone s = (b : ℕ) → is_some (sign_of (sign_spelling s ++ b ∷ [])) ≡ false
 
-lone_ends : (s : Sign) → IsLone s → (rest : List ℕ) → Ends kind.Sign (sign_spelling s) rest
+lone_ends : (s : Sign) → IsLone s → (rest : List ℕ) → EndsToken kind.Sign (sign_spelling s) rest
 lone_ends s lone [] = tt
 lone_ends s lone (b ∷ rest) = lone b
 
@@ -110,7 +110,7 @@ module _ (laws : TokenLaws) {Next : List ℕ → Type 0} where
   pub spaced_word : (k : Keyword) {b : List ℕ} {us : Symbols} → IsFragment Next b us → IsFragment Next (keyword_spelling k ++ 32 ∷ b) (key k ∷ us)
   spaced_word k f = word_before k (λ rest next. refl) (space_before f)
 
-  sign_before : (s : Sign) {b : List ℕ} {us : Symbols} → ((rest : List ℕ) → Next rest → Ends kind.Sign (sign_spelling s) (b ++ rest)) → IsFragment Next b us → IsFragment Next (sign_spelling s ++ b) (sign s ∷ us)
+  sign_before : (s : Sign) {b : List ℕ} {us : Symbols} → ((rest : List ℕ) → Next rest → EndsToken kind.Sign (sign_spelling s) (b ++ rest)) → IsFragment Next b us → IsFragment Next (sign_spelling s ++ b) (sign s ∷ us)
   sign_before s ends f = token_before kind.Sign (sign_spelling s) (sign s) (s, refl) (ap sign_symbol (laws.signs s)) ends f
 
   pub spaced_sign : (s : Sign) {b : List ℕ} {us : Symbols} → IsFragment Next b us → IsFragment Next (sign_spelling s ++ 32 ∷ b) (sign s ∷ us)
@@ -163,7 +163,7 @@ module _ (laws : TokenLaws) where
   pub word_fragment : (k : Keyword) → IsFragment Stops (keyword_spelling k) (key k ∷ [])
   word_fragment k = whole (word_before laws k (λ rest next. next.words) nothing)
 
-  pub text_fragment : (t : List ℕ) → Run is_printable t → IsFragment Stops (quoted t) (text t ∷ [])
+  pub text_fragment : (t : List ℕ) → EachPasses is_printable t → IsFragment Stops (quoted t) (text t ∷ [])
   text_fragment t h = whole (token_before kind.Text (quoted t) (text t) (t, h, refl) (laws.texts t) (λ rest next. next.quotes) nothing)
 
   pub number_fragment : (n : ℕ) → n < 2 ^ 64 → IsFragment Stops (decimal n) (int n ∷ [])

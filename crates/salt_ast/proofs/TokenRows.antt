@@ -4,7 +4,7 @@ use Rattle.salt_ast.proofs.Fragments.{IsNameWord, IsReadAs, text_spells}
 use Rattle.salt_ast.specs.TokenLaws.{TokenLaws}
 use Rattle.salt_ast.specs.Spelling.{Spells}
 use Rattle.salt_tokens.specs.Bytes.{is_printable}
-use Rattle.salt_tokens.specs.Pieces.{IsToken, Lexes, Piece, Run, blank, ended, token}
+use Rattle.salt_tokens.specs.Pieces.{IsToken, Lexes, Piece, EachPasses, blank, ended, token}
 use Rattle.salt_tokens.specs.Spelling.{keyword_of, sign_of}
 use Rattle.salt_tokens.specs.Symbols.{Symbol, Symbols, int, key, largest_int, name, symbols_of, sign, sign_symbol, symbol_by, text, word_symbol}
 use Rattle.salt_tokens.specs.declared.keyword.Keyword.{Keyword}
@@ -19,7 +19,7 @@ abbrev pub HasToken : Symbol → Type 0
 HasToken (key k) = Unit {0}
 HasToken (name n) = IsNameWord n
 HasToken (int n) = n < 2 ^ 64
-HasToken (text t) = Run is_printable t
+HasToken (text t) = EachPasses is_printable t
 HasToken (sign s) = Unit {0}
 
 -- each tree that tokens spell in one form, and that is low, is read from its canonical text in another form

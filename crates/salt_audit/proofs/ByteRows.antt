@@ -1,6 +1,6 @@
 -- Verdicts on bytes.
 use Rattle.salt_ast.specs.declared.trees.TableDef.{TableDef}
-use Rattle.salt_audit.specs.Transcripts.{IsVerdict, all_told, is_unformed, no_text, tables_of, text_on, text_so_far}
+use Rattle.salt_audit.specs.Transcripts.{IsVerdict, all_told, is_unformed, no_text, tables_told, text_on, text_so_far}
 use Rattle.salt_audit.specs.Retelling.{retold, told}
 use Rattle.salt_model.specs.After.{kept}
 use Rattle.salt_model.specs.Kept.{schema_of}
@@ -47,8 +47,8 @@ hello = codes "hello" ++ 10 ∷ []
 -- nothing of it is told
 none_told : (story : List Event) (items : List Item) (less : List ℕ) → hello ≡ text_so_far (record { story = story; items = items }) ++ less → length hello ≤ length less
 none_told [] [] less e = omega (arith, ap length e)
-none_told [] (i ∷ is) less e = absurd (true≢false (ap (begins_with 104) e ∙ no_item (tables_of []) i (flat_map (item_text (tables_of [])) is) less))
-none_told (f ∷ fs) items less e = absurd (true≢false (ap (begins_with 104) e ∙ no_event (schema_of (kept (retold []))) f (text_on (told (retold []) f) fs) (flat_map (item_text (tables_of (f ∷ fs))) items) less))
+none_told [] (i ∷ is) less e = absurd (true≢false (ap (begins_with 104) e ∙ no_item (tables_told []) i (flat_map (item_text (tables_told [])) is) less))
+none_told (f ∷ fs) items less e = absurd (true≢false (ap (begins_with 104) e ∙ no_event (schema_of (kept (retold []))) f (text_on (told (retold []) f) fs) (flat_map (item_text (tables_told (f ∷ fs))) items) less))
 
 pub hello_no_text : IsVerdict (codes "hello" ++ 10 ∷ []) (NotText 1)
 hello_no_text =

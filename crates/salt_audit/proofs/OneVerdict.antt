@@ -8,7 +8,7 @@ use Rattle.salt_audit.specs.Formed.{is_formed_by}
 use Rattle.salt_audit.specs.Retelling.{retold, told, told_on}
 use Rattle.salt_audit.specs.Stories.{IsFrontOf, then_on}
 use Rattle.salt_audit.specs.Transcripts.{ArePrintableOn, Begins, IsLeft, IsLongest, IsVerdict, all_told, breaks, is_unformed}
-use Rattle.salt_audit.specs.Transcripts.{lines_of_events, lines_so_far, no_text, tables_of, text_on, text_so_far}
+use Rattle.salt_audit.specs.Transcripts.{lines_of_events, lines_so_far, no_text, tables_told, text_on, text_so_far}
 use Rattle.salt_audit.specs.Verdicts.{Break, Finding, broken, broken_by, found_by, found_in, found_on, sound, unformed}
 use Rattle.salt_audit.specs.declared.verdict.Law.{Law}
 use Rattle.salt_audit.specs.declared.verdict.Verdict.TheVariants.{Broken, NotText, Unformed, Yes}
@@ -87,12 +87,12 @@ printable_app trace (a ∷ as_) bs h = let r = printable_app (told trace a) as_ 
 -- the same text behind the same story
 behind_story : (a : List Event) (is js : List Item) (c : List Event) (r s : List ℕ) →
     text_so_far (record { story = a; items = is }) ++ r ≡ text_so_far (record { story = a ++ c; items = js }) ++ s →
-    flat_map (item_text (tables_of a)) is ++ r ≡ text_on (retold a) c ++ (flat_map (item_text (tables_of (a ++ c))) js ++ s)
+    flat_map (item_text (tables_told a)) is ++ r ≡ text_on (retold a) c ++ (flat_map (item_text (tables_told (a ++ c))) js ++ s)
 behind_story a is js c r s e =
-    let left = append_assoc (text_on (retold []) a) (flat_map (item_text (tables_of a)) is) r in
-    let right = append_assoc (text_on (retold []) (a ++ c)) (flat_map (item_text (tables_of (a ++ c))) js) s
-    ∙ ap (λ l. l ++ (flat_map (item_text (tables_of (a ++ c))) js ++ s)) (text_app (retold []) a c)
-    ∙ append_assoc (text_on (retold []) a) (text_on (retold a) c) (flat_map (item_text (tables_of (a ++ c))) js ++ s) in
+    let left = append_assoc (text_on (retold []) a) (flat_map (item_text (tables_told a)) is) r in
+    let right = append_assoc (text_on (retold []) (a ++ c)) (flat_map (item_text (tables_told (a ++ c))) js) s
+    ∙ ap (λ l. l ++ (flat_map (item_text (tables_told (a ++ c))) js ++ s)) (text_app (retold []) a c)
+    ∙ append_assoc (text_on (retold []) a) (text_on (retold a) c) (flat_map (item_text (tables_told (a ++ c))) js ++ s) in
     append_cancel_left (text_on (retold []) a) _ _ (sym left ∙ e ∙ right)
 
 -- COUNTS OF ITEMS
@@ -141,19 +141,19 @@ way_of bytes v (no_text s r b f left longest) = stuck s.story s.items r b f left
 
 same_story : (a : List Event) (is js : List Item) (r s : List ℕ) →
     text_so_far (record { story = a; items = is }) ++ r ≡ text_so_far (record { story = a; items = js }) ++ s →
-    flat_map (item_text (tables_of a)) is ++ r ≡ flat_map (item_text (tables_of a)) js ++ s
+    flat_map (item_text (tables_told a)) is ++ r ≡ flat_map (item_text (tables_told a)) js ++ s
 same_story a is js r s e =
     append_cancel_left (text_on (retold []) a) _ _
-    (sym (append_assoc (text_on (retold []) a) (flat_map (item_text (tables_of a)) is) r) ∙ e
-    ∙ append_assoc (text_on (retold []) a) (flat_map (item_text (tables_of a)) js) s)
+    (sym (append_assoc (text_on (retold []) a) (flat_map (item_text (tables_told a)) is) r) ∙ e
+    ∙ append_assoc (text_on (retold []) a) (flat_map (item_text (tables_told a)) js) s)
 
 last_text : (a : List Event) (e : Event) (r : List ℕ) →
-    text_so_far (record { story = a ++ e ∷ []; items = [] }) ++ r ≡ text_on (retold []) a ++ (event_line (tables_of a) e ++ (10 ∷ r))
+    text_so_far (record { story = a ++ e ∷ []; items = [] }) ++ r ≡ text_on (retold []) a ++ (event_line (tables_told a) e ++ (10 ∷ r))
 last_text a e r =
     ap (λ l. l ++ r) (append-nil (text_on (retold []) (a ++ e ∷ [])) ∙ text_app (retold []) a (e ∷ []))
-    ∙ append_assoc (text_on (retold []) a) (event_text (tables_of a) e ++ []) r
-    ∙ ap (λ l. text_on (retold []) a ++ (l ++ r)) (append-nil (event_text (tables_of a) e))
-    ∙ ap (λ l. text_on (retold []) a ++ l) (append_assoc (event_line (tables_of a) e) (10 ∷ []) r)
+    ∙ append_assoc (text_on (retold []) a) (event_text (tables_told a) e ++ []) r
+    ∙ ap (λ l. text_on (retold []) a ++ (l ++ r)) (append-nil (event_text (tables_told a) e))
+    ∙ ap (λ l. text_on (retold []) a ++ l) (append_assoc (event_line (tables_told a) e) (10 ∷ []) r)
 
 snoc_one : {A : Type 0} (xs ys : List A) (x y : A) → xs ++ x ∷ [] ≡ ys ++ y ∷ [] → (xs ≡ ys) × (x ≡ y)
 snoc_one [] [] x y e = (refl, cc)
@@ -201,29 +201,29 @@ nothing_left schema (j ∷ js) s e left =
     omega (arith, all, a, b, c, d)
 
 module _ (laws : Named) (one : OneEvent) (whole : LinesAreWhole) where
-  named : (a : List Event) → found_in a ≡ sound → IsNaming (tables_of a)
+  named : (a : List Event) → found_in a ≡ sound → IsNaming (tables_told a)
   named a f = named_story laws 1 (retold []) a laws.none f
 
   agreed : (bytes : List ℕ) (a b : List Event) (is js : List Item) (r s : List ℕ) → Begins bytes (record { story = a; items = is }) r → found_in a ≡ sound →
       Begins bytes (record { story = b; items = js }) s → IsFrontOf a b ⊎ IsFrontOf b a
   agreed bytes a b is js r s g f h =
-      agree laws one 1 (retold []) a b (flat_map (item_text (tables_of a)) is ++ r) (flat_map (item_text (tables_of b)) js ++ s) laws.none g.events h.events f
-      (sym (append_assoc (text_on (retold []) a) (flat_map (item_text (tables_of a)) is) r) ∙ sym g.text ∙ h.text
-      ∙ append_assoc (text_on (retold []) b) (flat_map (item_text (tables_of b)) js) s)
+      agree laws one 1 (retold []) a b (flat_map (item_text (tables_told a)) is ++ r) (flat_map (item_text (tables_told b)) js ++ s) laws.none g.events h.events f
+      (sym (append_assoc (text_on (retold []) a) (flat_map (item_text (tables_told a)) is) r) ∙ sym g.text ∙ h.text
+      ∙ append_assoc (text_on (retold []) b) (flat_map (item_text (tables_told b)) js) s)
 
   -- nothing goes past the longest
   no_more : (bytes : List ℕ) (a : List Event) (c : Event) (cs : List Event) (is js : List Item) (r s : List ℕ) →
       Begins bytes (record { story = a; items = is }) r → found_in a ≡ sound → IsLongest bytes r →
       Begins bytes (record { story = a ++ c ∷ cs; items = js }) s → ⊥
   no_more bytes a c cs is js r s g f longest h =
-      let z = text_on (told (retold a) c) cs ++ (flat_map (item_text (tables_of (a ++ c ∷ cs))) js ++ s) in
+      let z = text_on (told (retold a) c) cs ++ (flat_map (item_text (tables_told (a ++ c ∷ cs))) js ++ s) in
       let behind = behind_story a is js (c ∷ cs) r s (sym g.text ∙ h.text)
-      ∙ append_assoc (event_text (tables_of a) c) (text_on (told (retold a) c) cs) (flat_map (item_text (tables_of (a ++ c ∷ cs))) js ++ s) in
+      ∙ append_assoc (event_text (tables_told a) c) (text_on (told (retold a) c) cs) (flat_map (item_text (tables_told (a ++ c ∷ cs))) js ++ s) in
       let printable = (printable_app (retold []) a (c ∷ cs) h.events).1.0 in
-      let one_more = length-append (text_on (told (retold a) c) cs) (flat_map (item_text (tables_of (a ++ c ∷ cs))) js ++ s) in
-      let items_more = length-append (flat_map (item_text (tables_of (a ++ c ∷ cs))) js) s in
+      let one_more = length-append (text_on (told (retold a) c) cs) (flat_map (item_text (tables_told (a ++ c ∷ cs))) js ++ s) in
+      let items_more = length-append (flat_map (item_text (tables_told (a ++ c ∷ cs))) js) s in
       let least = longest (record { story = a ++ c ∷ cs; items = js }) s h in
-      clash whole (tables_of a) (named a f) is c r z g.items printable behind (omega (arith, one_more, items_more, least))
+      clash whole (tables_told a) (named a f) is c r z g.items printable behind (omega (arith, one_more, items_more, least))
 
   -- the longest is a front of no other story, but itself
   only_front : (bytes : List ℕ) (a b : List Event) (is js : List Item) (r s : List ℕ) → Begins bytes (record { story = a; items = is }) r → found_in a ≡ sound →
@@ -256,11 +256,11 @@ module _ (laws : Named) (one : OneEvent) (whole : LinesAreWhole) where
   past : (bytes : List ℕ) (a b : List Event) (d e : Event) (r s : List ℕ) (w : Verdict) → Begins bytes (record { story = a ++ d ∷ []; items = [] }) r → found_in a ≡ sound →
       Begins bytes (record { story = b ++ e ∷ []; items = [] }) s → Found b e w → (c : Event) × (cs : List Event) × (b ++ e ∷ [] ≡ a ++ c ∷ cs)
   past bytes a b d e r s w g f h k =
-      go (agreed bytes a (b ++ e ∷ []) [] [] (event_line (tables_of a) d ++ (10 ∷ r)) s begun f h)
+      go (agreed bytes a (b ++ e ∷ []) [] [] (event_line (tables_told a) d ++ (10 ∷ r)) s begun f h)
     where
-      begun : Begins bytes (record { story = a; items = [] }) (event_line (tables_of a) d ++ (10 ∷ r))
+      begun : Begins bytes (record { story = a; items = [] }) (event_line (tables_told a) d ++ (10 ∷ r))
       begun = record {
-        text = g.text ∙ last_text a d r ∙ ap (λ l. l ++ (event_line (tables_of a) d ++ (10 ∷ r))) (sym (append-nil (text_on (retold []) a)));
+        text = g.text ∙ last_text a d r ∙ ap (λ l. l ++ (event_line (tables_told a) d ++ (10 ∷ r))) (sym (append-nil (text_on (retold []) a)));
         events = (printable_app (retold []) a (d ∷ []) g.events).0;
         items = tt;
       }
@@ -284,11 +284,11 @@ module _ (laws : Named) (one : OneEvent) (whole : LinesAreWhole) where
       let none : length p.1 ≡ 0 = omega (arith, p_long, p_left, p_right, q_long, q_left, q_right) in
       let story = stories p.1 none p.0 p.2 in
       let texts = sym (last_text a d r) ∙ sym g.text ∙ h.text ∙ last_text b e s in
-      let moved = subst (λ c. text_on (retold []) a ++ (event_line (tables_of a) d ++ (10 ∷ r)) ≡ text_on (retold []) c ++ (event_line (tables_of c) e ++ (10 ∷ s))) story texts in
+      let moved = subst (λ c. text_on (retold []) a ++ (event_line (tables_told a) d ++ (10 ∷ r)) ≡ text_on (retold []) c ++ (event_line (tables_told c) e ++ (10 ∷ s))) story texts in
       let behind = append_cancel_left (text_on (retold []) a) _ _ moved in
       let left = (printable_app (retold []) a (d ∷ []) g.events).1.0 in
-      let right = subst (λ c. IsPrintable (tables_of c) e) story (printable_app (retold []) b (e ∷ []) h.events).1.0 in
-      let event = (one (tables_of a) d e r s (record { naming = named a f; events = (left, tt) }) (record { naming = named a f; events = (right, tt) }) behind).0 in
+      let right = subst (λ c. IsPrintable (tables_told c) e) story (printable_app (retold []) b (e ∷ []) h.events).1.0 in
+      let event = (one (tables_told a) d e r s (record { naming = named a f; events = (left, tt) }) (record { naming = named a f; events = (right, tt) }) behind).0 in
       one_finding a d v w k (subst (λ c. Found a c w) (sym event) (subst (λ c. Found c e w) story m))
     where
       stories : (cs : List Event) → length cs ≡ 0 → (c : Event) → b ++ e ∷ [] ≡ a ++ c ∷ cs → b ≡ a
@@ -306,18 +306,18 @@ module _ (laws : Named) (one : OneEvent) (whole : LinesAreWhole) where
   one_way bytes v w (whole_told a g f) (stuck b js s h k left longest) =
       let same = both_longest bytes a b [] js [] s g f (all_longest bytes) h k longest in
       let moved = subst (λ c. Begins bytes (record { story = c; items = js }) s) same h in
-      absurd (nothing_left (tables_of a) js s (same_story a [] js [] s (sym g.text ∙ moved.text)) left)
+      absurd (nothing_left (tables_told a) js s (same_story a [] js [] s (sym g.text ∙ moved.text)) left)
   one_way bytes v w (stuck a is r g f left longest) (whole_told b h k) =
       let same = both_longest bytes b a [] is [] r h k (all_longest bytes) g f longest in
       let moved = subst (λ c. Begins bytes (record { story = c; items = is }) r) same g in
-      absurd (nothing_left (tables_of b) is r (same_story b [] is [] r (sym h.text ∙ moved.text)) left)
+      absurd (nothing_left (tables_told b) is r (same_story b [] is [] r (sym h.text ∙ moved.text)) left)
   one_way bytes v w (stuck a is r g f left longest) (stuck b js s h k right other) =
       let same = both_longest bytes a b is js r s g f longest h k other in
       let moved = subst (λ c. Begins bytes (record { story = c; items = js }) s) same h in
       let there = longest (record { story = b; items = js }) s h in
       let back = other (record { story = a; items = is }) r g in
       let even : length r ≡ length s = omega (arith, there, back) in
-      let count = same_count (tables_of a) is js r s (are_lines whole (tables_of a) (named a f) is g.items) (are_lines whole (tables_of a) (named a f) js moved.items) even
+      let count = same_count (tables_told a) is js r s (are_lines whole (tables_told a) (named a f) is g.items) (are_lines whole (tables_told a) (named a f) js moved.items) even
       (same_story a is js r s (sym g.text ∙ moved.text)) in
       let lines : lines_of_events a + length is ≡ lines_of_events b + length js = omega (arith, count, ap lines_of_events same) in
       ap (λ n. NotText (suc n)) lines

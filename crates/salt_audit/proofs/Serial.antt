@@ -4,7 +4,7 @@ use Rattle.salt_ast.specs.declared.trees.TableDef.{TableDef}
 use Rattle.salt_audit.specs.Replaying.{answers_on, done_under}
 use Rattle.law_states.specs.Overlays.{AreInOrder, Edit, over, put_all, row_edited, with_edits}
 use Rattle.law_story.proofs.Places.{row_at-set}
-use Rattle.salt_model.specs.Statements.{Run, has_failed, run_on, serial, with_done}
+use Rattle.salt_model.specs.Statements.{UnitRun, has_failed, run_on, serial, with_done}
 use Rattle.salt_model.specs.Tables.{Edits, Tables, changed_at, make_change, no_edits, place_cmp, place_total, row_at, with_changes}
 use Rattle.salt_model.specs.declared.events.Answer.{Answer}
 use Rattle.salt_model.specs.declared.locks.Reach.{Reach}
@@ -41,7 +41,7 @@ module _ (laws : OfEdits) (es : Tables) where
   put_in_order [] ds ordered = ordered
   put_in_order (c ∷ cs) ds ordered = put_in_order cs (put place_cmp (changed_at c) c.row ds) (is_sorted-put place_cmp place_total (changed_at c) c.row ds ordered)
 
-  abbrev at_tables : List Answer → List Binding → Edits → List Reach → Tables → Run
+  abbrev at_tables : List Answer → List Binding → Edits → List Reach → Tables → UnitRun
   at_tables as_ vars changes reaches tables = record { answers = as_; tables = tables; vars = vars; changes = changes; reaches = reaches }
 
   answers_are : (schema : List TableDef) (sts : List Statement) (as_ : List Answer) (ds : List Edit) (vars : List Binding) (changes : Edits) (reaches : List Reach) → AreInOrder ds →

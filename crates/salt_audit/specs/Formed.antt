@@ -4,7 +4,7 @@ use Rattle.salt_ast.specs.ProgramJudgement.{are_arguments, is_base, session_scop
 use Rattle.salt_ast.specs.Texts.{statement_text}
 use Rattle.salt_ast.specs.declared.programs.ProgramDef.{ProgramDef}
 use Rattle.salt_ast.specs.declared.trees.Statement.{Statement}
-use Rattle.salt_audit.specs.Retelling.{line_defining, told}
+use Rattle.salt_audit.specs.Retelling.{line_or_nothing, told}
 use Rattle.law_definitions.specs.Texts.{definition_in}
 use Rattle.salt_model.specs.After.{kept}
 use Rattle.salt_model.specs.Continuing.{is_unfinished, part_due}
@@ -66,7 +66,7 @@ may_do trace u st (Some kind) = is_same_statement st (option_and_then (λ block.
 
 abbrev pub may_define : Trace → Option Definition → Bool
 may_define trace None = false
-may_define trace (Some d) = is_none (judged trace (line_defining (Some d)))
+may_define trace (Some d) = is_none (judged trace (line_or_nothing (Some d)))
 
 -- behind the first opening
 abbrev pub may_come : Trace → Event → Bool

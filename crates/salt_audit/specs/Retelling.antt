@@ -12,13 +12,13 @@ use Rattle.std.specs.Prelude.{List, None, Option, Some, [], false, ℕ, ◌∷�
 abbrev pub nothing_before : Start
 nothing_before = record { kept = nothing_kept; can_stop = false; early = false; over_net = false }
 
-abbrev pub line_defining : Option Definition → Line
-line_defining None = line.Nothing
-line_defining (Some (OfTable d)) = line.Table d
-line_defining (Some (OfProgram p)) = line.Program p
+abbrev pub line_or_nothing : Option Definition → Line
+line_or_nothing None = line.Nothing
+line_or_nothing (Some (OfTable d)) = line.Table d
+line_or_nothing (Some (OfProgram p)) = line.Program p
 
 abbrev pub defining : Trace → ℕ → List ℕ → Option Definition → Trace
-defining trace n text d = trace asks Tree (line_defining d) says Defined n text
+defining trace n text d = trace asks Tree (line_or_nothing d) says Defined n text
 
 -- an event more: a definition is asked for by the line that its text spells
 abbrev pub told : Trace → Event → Trace

@@ -108,25 +108,25 @@ nothing_found : found_in [] ≡ sound
 nothing_found = refl
 
 -- the lines of a story
-abbrev pub line_of : List ℕ → List ℕ
-line_of text = text ++ 10 ∷ []
+abbrev pub line_ended : List ℕ → List ℕ
+line_ended text = text ++ 10 ∷ []
 
 waiting_text : text_on (retold []) waiting_told ≡
-    line_of (codes "opened 1 0") ++ (line_of (codes "ready") ++
-    (line_of (codes "defined 1 create table acct (id int key, bal int, check ((bal >= 0) and (bal <= 1000)))") ++
-    (line_of (codes "defined 2 program transfer(a int, b int, amt int) base part { update acct set bal = (bal - :amt) where key = :a }" ++
+    line_ended (codes "opened 1 0") ++ (line_ended (codes "ready") ++
+    (line_ended (codes "defined 1 create table acct (id int key, bal int, check ((bal >= 0) and (bal <= 1000)))") ++
+    (line_ended (codes "defined 2 program transfer(a int, b int, amt int) base part { update acct set bal = (bal - :amt) where key = :a }" ++
     (codes " part { update acct set bal = (bal + :amt) where key = :b } then end on failure go 3" ++
     codes " part { update acct set bal = (bal + :amt) where key = :a } on failure end end")) ++
-    (line_of (codes "u1.1 began @1") ++ (line_of (codes "u1.1 did insert into acct values (1, 100) -> count 1") ++ (line_of (codes "u1.1 committed 3") ++
-    (line_of (codes "u1.2 began @1") ++ (line_of (codes "u1.2 did insert into acct values (2, 50) -> count 1") ++ (line_of (codes "u1.2 committed 4") ++
-    (line_of (codes "u1.3 began @1 b1.1 part 1 of transfer(1, 2, 30)") ++
-    (line_of (codes "u1.3 did update acct set bal = (bal - :amt) where key = :a -> count 1") ++
-    (line_of (codes "u1.3 committed 5") ++ (line_of (codes "b1.1 accepted") ++
-    (line_of (codes "u1.4 began @2") ++ (line_of (codes "u1.4 waits b1.1") ++
-    (line_of (codes "u1.5 began b1.1 part 2") ++
-    (line_of (codes "u1.5 did update acct set bal = (bal + :amt) where key = :b -> count 1") ++
-    (line_of (codes "u1.5 committed 6") ++ (line_of (codes "b1.1 finished") ++ (line_of (codes "released b1.1") ++
-    (line_of (codes "u1.4 did select bal from acct where key = 1 -> rows (70)") ++ line_of (codes "u1.4 committed 7"))))))))))))))))))))))
+    (line_ended (codes "u1.1 began @1") ++ (line_ended (codes "u1.1 did insert into acct values (1, 100) -> count 1") ++ (line_ended (codes "u1.1 committed 3") ++
+    (line_ended (codes "u1.2 began @1") ++ (line_ended (codes "u1.2 did insert into acct values (2, 50) -> count 1") ++ (line_ended (codes "u1.2 committed 4") ++
+    (line_ended (codes "u1.3 began @1 b1.1 part 1 of transfer(1, 2, 30)") ++
+    (line_ended (codes "u1.3 did update acct set bal = (bal - :amt) where key = :a -> count 1") ++
+    (line_ended (codes "u1.3 committed 5") ++ (line_ended (codes "b1.1 accepted") ++
+    (line_ended (codes "u1.4 began @2") ++ (line_ended (codes "u1.4 waits b1.1") ++
+    (line_ended (codes "u1.5 began b1.1 part 2") ++
+    (line_ended (codes "u1.5 did update acct set bal = (bal + :amt) where key = :b -> count 1") ++
+    (line_ended (codes "u1.5 committed 6") ++ (line_ended (codes "b1.1 finished") ++ (line_ended (codes "released b1.1") ++
+    (line_ended (codes "u1.4 did select bal from acct where key = 1 -> rows (70)") ++ line_ended (codes "u1.4 committed 7"))))))))))))))))))))))
 unfolding digits definition_in lex first_at quoted_at keyword_of sign_of after atom_at left_at nots_at once_at tail_at text_at within_at table_at following_at program_at statement_at table_limit program_limit statement_limit reach outcome_of with_changes statement_fault table_fault program_fault call_fault line_fault
 waiting_text = refl
 

@@ -18,8 +18,8 @@ use Rattle.salt_model.specs.declared.shown.Item.{Item}
 use Rattle.salt_values.specs.declared.id.Id.{Id}
 use Rattle.std.specs.Prelude.{List, [], flat_map, length, suc, ℕ, ⊤, ◌++◌, ◌+◌, ◌≡◌, ◌≤◌, ◌∷◌}
 
-abbrev pub tables_of : List Event → List TableDef
-tables_of story = schema_of (kept (retold story))
+abbrev pub tables_told : List Event → List TableDef
+tables_told story = schema_of (kept (retold story))
 
 -- each event is printable under the tables defined before it; the text names them
 abbrev pub ArePrintableOn : Trace → List Event → Type 0
@@ -39,13 +39,13 @@ pub record SoFar : Type 0 where
   pub items : List Item
 
 abbrev pub text_so_far : SoFar → List ℕ
-text_so_far s = text_on (retold []) s.story ++ flat_map (item_text (tables_of s.story)) s.items
+text_so_far s = text_on (retold []) s.story ++ flat_map (item_text (tables_told s.story)) s.items
 
 -- bytes begin with this, and so many are left
 pub record Begins (bytes : List ℕ) (s : SoFar) (rest : List ℕ) : Type 0 where
   pub text : bytes ≡ text_so_far s ++ rest
   pub events : ArePrintableOn (retold []) s.story
-  pub items : Every (IsShowable (tables_of s.story)) s.items
+  pub items : Every (IsShowable (tables_told s.story)) s.items
 
 -- no more of the bytes is of a printable story
 abbrev pub IsLongest : List ℕ → List ℕ → Type 0

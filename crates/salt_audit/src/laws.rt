@@ -10,7 +10,7 @@ ghost use Rattle.salt_audit.specs.Standing.{is_formed_at};
 ghost use Rattle.salt_audit.specs.Telling.{IsBehind};
 ghost use Rattle.salt_audit.specs.declared.state.State.{State};
 ghost use Rattle.salt_audit.specs.Stories.{IsFrontOf, then_on};
-ghost use Rattle.salt_audit.specs.Transcripts.{ArePrintableOn, IsVerdict, tables_of, text_on};
+ghost use Rattle.salt_audit.specs.Transcripts.{ArePrintableOn, IsVerdict, tables_told, text_on};
 ghost use Rattle.salt_audit.specs.declared.verdict.Verdict.{Verdict};
 ghost use Rattle.salt_audit.specs.Verdicts.{found_in, found_on, sound};
 ghost use Rattle.salt_model.specs.Naming.{IsNaming};
@@ -32,7 +32,7 @@ pub fn findings_grow()
 
 /// The tables that a sound story defines have names, each another.
 pub fn sound_stories_name_tables()
-    ensures { (story : List Event) → found_in story ≡ sound → IsNaming (tables_of story) }
+    ensures { (story : List Event) → found_in story ≡ sound → IsNaming (tables_told story) }
 {
     definitions_are_read();
     tables_are_named();
@@ -40,8 +40,8 @@ pub fn sound_stories_name_tables()
 
 /// So do those of a formed story, event by event.
 pub fn formed_events_name_tables()
-    ensures none { IsNaming (tables_of []) }
-    ensures more { (story : List Event) (e : Event) → IsNaming (tables_of story) → is_formed_by (retold story) e ≡ true → IsNaming (tables_of (story ++ e ∷ [])) }
+    ensures none { IsNaming (tables_told []) }
+    ensures more { (story : List Event) (e : Event) → IsNaming (tables_told story) → is_formed_by (retold story) e ≡ true → IsNaming (tables_told (story ++ e ∷ [])) }
 {
     definitions_are_read();
     tables_are_named();

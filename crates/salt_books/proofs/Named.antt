@@ -5,7 +5,7 @@ use Rattle.law_states.proofs.Rising.{names-rise}
 use Rattle.law_states.specs.OpenUnits.{OpenUnit, UnitState, names_in, unit_named}
 use Rattle.law_states.specs.Rising.{Rising}
 use Rattle.law_states.specs.States.{State}
-use Rattle.law_states.specs.Told.{fails_in, next_decision}
+use Rattle.law_states.specs.Told.{fails_in, next_decision_number}
 use Rattle.law_story.proofs.Ids.{is_same_id-true}
 use Rattle.law_story.proofs.NextFits.{find-in}
 use Rattle.salt_model.specs.declared.events.Cause.{Cause}
@@ -29,7 +29,7 @@ is-some {A = A} o x h = subst (λ (p : Option A). IsSome p) (sym h) refl
 
 -- a unit of a later part that fails goes on behind its failure
 pub done-branched : (s : UnitState) (u b : Id) (part : ℕ) (o : OpenUnit) (c : Cause) → unit_named u s.units ≡ Some o → o.kind ≡ Later b part →
-    done_of s (Some c) (unit_named u s.units) ≡ Some (Ended u (Branched (next_decision s) c))
+    done_of s (Some c) (unit_named u s.units) ≡ Some (Ended u (Branched (next_decision_number s) c))
 done-branched s u b part o c named kind =
     ap (done_of s (Some c)) named ∙ ap (λ k. Some (fails_in s o c k)) kind
-    ∙ ap (λ v. Some (Ended v (Branched (next_decision s) c))) (named-unit u s.units o named)
+    ∙ ap (λ v. Some (Ended v (Branched (next_decision_number s) c))) (named-unit u s.units o named)

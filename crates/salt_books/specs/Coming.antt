@@ -4,7 +4,7 @@ use Rattle.salt_books.specs.Ends.{done_of}
 use Rattle.salt_books.specs.declared.coming.Coming.TheVariants as coming
 use Rattle.salt_books.specs.declared.coming.Coming.{Coming}
 use Rattle.law_states.specs.OpenUnits.{OpenUnit, UnitState, unit_named}
-use Rattle.law_states.specs.Told.{commits_in, does_in, next_decision}
+use Rattle.law_states.specs.Told.{commits_in, does_in, next_decision_number}
 use Rattle.salt_model.specs.declared.events.End.TheVariants.{Branched}
 use Rattle.salt_model.specs.declared.events.Event.TheVariants.{Ended}
 use Rattle.salt_model.specs.declared.events.Event.{Event}
@@ -18,7 +18,7 @@ event_meant s coming.Nothing = None
 event_meant s (coming.Told e) = Some e
 event_meant s (coming.Act a) = option_map (λ (o : OpenUnit). does_in s o a.statement) (unit_named a.unit s.units)
 event_meant s (coming.Commit u) = option_map (commits_in s) (unit_named u s.units)
-event_meant s (coming.Branch u b cause) = Some (Ended u (Branched (next_decision s) cause))
+event_meant s (coming.Branch u b cause) = Some (Ended u (Branched (next_decision_number s) cause))
 
 -- an open unit is of a later part of the program
 pub record IsLaterUnit (s : UnitState) (u b : Id) : Type 0 where

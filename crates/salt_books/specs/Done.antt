@@ -2,7 +2,7 @@
 use Rattle.law_states.specs.OpenUnits.{OpenUnit, UnitState, names_in, unit_named}
 use Rattle.law_states.specs.Rising.{Rising}
 use Rattle.law_states.specs.Steps.{outcome_under, units_after}
-use Rattle.law_states.specs.Told.{next_decision}
+use Rattle.law_states.specs.Told.{next_decision_number}
 use Rattle.salt_ast.specs.declared.trees.Statement.{Statement}
 use Rattle.salt_books.specs.Books.{AreBooks, AreLoaded, IsUnitAtPart}
 use Rattle.salt_books.specs.Moves.{CanMove, MovesTo}
@@ -31,7 +31,7 @@ HasDone u st rows old new = (s : UnitState) (o : OpenUnit) (answer : Answer) →
 -- the move of a unit's program that its commit will make, or its branch; the part of the unit is the one at which its program stands
 abbrev pub IsMoveOfCommit : Books → Id → Move → Type 0
 IsMoveOfCommit x u made = (s : UnitState) (o : OpenUnit) → AreBooks x s → unit_named u s.units ≡ Some o → IsUnitAtPart s u → CanMove s.kept o.kind →
-    MovesTo made s.kept (conts_committed s.kept (next_decision s) o.kind o.vars)
+    MovesTo made s.kept (conts_committed s.kept (next_decision_number s) o.kind o.vars)
 
 abbrev pub IsMoveOfBranch : Books → Id → Move → Type 0
 IsMoveOfBranch x u made = (s : UnitState) (o : OpenUnit) → AreBooks x s → unit_named u s.units ≡ Some o → IsUnitAtPart s u → CanMove s.kept o.kind →
@@ -39,9 +39,9 @@ IsMoveOfBranch x u made = (s : UnitState) (o : OpenUnit) → AreBooks x s → un
 
 -- the unit has committed by the next decision, of this number, with this move, or has ended by a branch
 abbrev pub HasCommitted : Id → Move → (number : ℕ) → (old new : Books) → Type 0
-HasCommitted u made number old new = (s : UnitState) (o : OpenUnit) (conts : List Cont) → number ≡ next_decision s → AreBooks old s → Rising (names_in s.units) → unit_named u s.units ≡ Some o → MovesTo made s.kept conts →
-    conts ≡ conts_committed s.kept (next_decision s) o.kind o.vars → AreBooks new (units_after (Ended u (Committed (next_decision s))) s)
+HasCommitted u made number old new = (s : UnitState) (o : OpenUnit) (conts : List Cont) → number ≡ next_decision_number s → AreBooks old s → Rising (names_in s.units) → unit_named u s.units ≡ Some o → MovesTo made s.kept conts →
+    conts ≡ conts_committed s.kept (next_decision_number s) o.kind o.vars → AreBooks new (units_after (Ended u (Committed (next_decision_number s))) s)
 
 abbrev pub HasBranched : Id → Move → (number : ℕ) → (old new : Books) → Type 0
-HasBranched u made number old new = (s : UnitState) (o : OpenUnit) (conts : List Cont) (cause : Cause) → number ≡ next_decision s → AreBooks old s → Rising (names_in s.units) → unit_named u s.units ≡ Some o → MovesTo made s.kept conts →
-    conts ≡ conts_branched s.kept o.kind → AreBooks new (units_after (Ended u (Branched (next_decision s) cause)) s)
+HasBranched u made number old new = (s : UnitState) (o : OpenUnit) (conts : List Cont) (cause : Cause) → number ≡ next_decision_number s → AreBooks old s → Rising (names_in s.units) → unit_named u s.units ≡ Some o → MovesTo made s.kept conts →
+    conts ≡ conts_branched s.kept o.kind → AreBooks new (units_after (Ended u (Branched (next_decision_number s) cause)) s)

@@ -7,7 +7,7 @@ ghost use Rattle.salt_books.specs.Books.{AreBooks, programs_in, tables_in};
 ghost use Rattle.salt_books.specs.Held.{seen};
 ghost use Rattle.law_states.specs.OpenUnits.{UnitState, can_go_in, is_not_waiting, next_to_go_in, next_turn_in, turn_owed_in};
 ghost use Rattle.law_states.specs.Steps.{to_go_by, units_after, units_asked, units_turned};
-ghost use Rattle.law_states.specs.Told.{next_decision};
+ghost use Rattle.law_states.specs.Told.{next_decision_number};
 ghost use Rattle.salt_model.specs.Trace.{Tree};
 ghost use Rattle.salt_model.specs.Turns.{does_something, ids_after};
 ghost use Rattle.salt_model.specs.declared.events.Event.{Event};
@@ -187,9 +187,9 @@ impl Books {
     pub fn define_table(&mut self, def: &TableDef) -> Result<Defined, AllocError>
         requires { table_refusal (tables_in self.old) def.now ≡ None }
         ensures told { IfOk result (λ defined. (s : UnitState) → AreBooks self.old s
-            → (defined.0 ≡ next_decision s) × (defined.1 ≡ table_text def.now)) }
+            → (defined.0 ≡ next_decision_number s) × (defined.1 ≡ table_text def.now)) }
         ensures state { OnOk result ((s : UnitState) → AreBooks self.old s → s.line ≡ Table def.now
-            → AreBooks self.new (units_after (Event.Defined (next_decision s) (table_text def.now)) s)) }
+            → AreBooks self.new (units_after (Event.Defined (next_decision_number s) (table_text def.now)) s)) }
     {
         let defined = self.known.define_table(def)?;
         Ok(defined)
@@ -200,9 +200,9 @@ impl Books {
         requires parts { length (parts_in def.now.body) < 2 ^ 32 }
         requires allowed { program_refusal (tables_in self.old) (programs_in self.old) def.now ≡ None }
         ensures told { IfOk result (λ defined. (s : UnitState) → AreBooks self.old s
-            → (defined.0 ≡ next_decision s) × (defined.1 ≡ program_text def.now)) }
+            → (defined.0 ≡ next_decision_number s) × (defined.1 ≡ program_text def.now)) }
         ensures state { OnOk result ((s : UnitState) → AreBooks self.old s → s.line ≡ Program def.now
-            → AreBooks self.new (units_after (Event.Defined (next_decision s) (program_text def.now)) s)) }
+            → AreBooks self.new (units_after (Event.Defined (next_decision_number s) (program_text def.now)) s)) }
     {
         let defined = self.known.define_program(def)?;
         Ok(defined)

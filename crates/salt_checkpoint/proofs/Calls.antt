@@ -3,7 +3,7 @@ use Rattle.salt_checkpoint.proofs.Named.{all_named}
 use Rattle.salt_checkpoint.proofs.Standing.{before_stands, before_stood, behind_stands, behind_stood, log_is_no_page, no_page}
 use Rattle.salt_checkpoint.proofs.Torn.{keeps_all, keeps_more, named_back, named_on, named_refl}
 use Rattle.salt_checkpoint.specs.Checkpoints.{IsBefore, IsBehind, IsNext, IsReady, NamedSettled, OthersLeft, StandsAlways}
-use Rattle.salt_checkpoint.specs.Sides.{AreInPlace, KeepsNamed, NamedSame, SpareNamed, all_written}
+use Rattle.salt_checkpoint.specs.Sides.{LeaveNoGap, KeepsNamed, NamedSame, SpareNamed, all_written}
 use Rattle.salt_checkpoint.specs.declared.writes.Write.{Write}
 use Rattle.salt_bytes.specs.Generations.{LogA, LogB, WhichLog}
 use Rattle.salt_bytes.specs.Log.{entries_in}
@@ -13,12 +13,12 @@ use Rattle.salt_disk.specs.declared.disks.DiskErr.{DiskErr}
 use Rattle.salt_gatelog.proofs.Bytes.{entries_in-closed}
 use Rattle.salt_gatelog.specs.Log.{IsBeforeOrWith, IsLog}
 use Rattle.salt_gatelog.specs.declared.log.GateLog.{GateLog}
-use Rattle.salt_stands.specs.Commits.{found_of, parts_of, with_view}
+use Rattle.salt_stands.specs.Commits.{found_of, partition_count, with_view}
 use Rattle.salt_stands.specs.Coordinator.{Coordinator, device_of}
 use Rattle.salt_stands.specs.Partition.{pages_device, part_device}
 use Rattle.salt_stands.specs.Pieces.{PartView, checkpointed, next_part_header, other_log}
 use Rattle.salt_stands.specs.Reading.{Reading}
-use Rattle.salt_stands.specs.Stands.{judged}
+use Rattle.salt_stands.specs.Stands.{stands_on}
 use Rattle.salt_values.specs.declared.change.Change.{Change}
 use Rattle.std.proofs.Common.{Bool, IsTrue, List, None, Ok, Option, Some, [], ap, arith, false, inl, inr, length, refl, subst, sym, true, ℕ, ◌+◌, ◌<◌, ◌≡◌, ◌≢◌, ◌⊎◌, ◌∙◌, ◌∷◌}
 use Rattle.std.proofs.lemmas.Bool.{cases_eq}
@@ -110,7 +110,7 @@ view_elsewhere p q x v apart = by (q == p) refl
     by false same = refl
 
 module _ {D : Type 0} (r : Reading D) (d : View) (which : WhichLog) (c : Coordinator D) (v : ℕ → PartView) (ready : IsReady r d which c v)
-    (p : ℕ) (below : p < parts_of c) (other : ℕ) (is_other : other ≡ device_of (part_device p) (other_log (v p).which)) (settled : IsSettled d other)
+    (p : ℕ) (below : p < partition_count c) (other : ℕ) (is_other : other ≡ device_of (part_device p) (other_log (v p).which)) (settled : IsSettled d other)
     (ws : List Write) (spare : SpareNamed (v p).log.header.sides ws) where
   pub other_known : other < d.count
   other_known = by (other_log (v p).which) is_other
@@ -139,7 +139,7 @@ module _ {D : Type 0} (r : Reading D) (d : View) (which : WhichLog) (c : Coordin
       }
 
   -- behind Ok of the writes alone: they stand as before, with writes pending on other sides
-  module _ (place : AreInPlace (length (d.bytes (pages_device p))) ws) (e : View) (is : IsWriting d e (pages_device p) ws) (pages : e.bytes (pages_device p) ≡ all_written ws (d.bytes (pages_device p)))
+  module _ (place : LeaveNoGap (length (d.bytes (pages_device p))) ws) (e : View) (is : IsWriting d e (pages_device p) ws) (pages : e.bytes (pages_device p) ≡ all_written ws (d.bytes (pages_device p)))
       (kept : (dev : ℕ) → dev ≢ pages_device p → e.bytes dev ≡ d.bytes dev) where
     own_named : NamedSame (v p).log.header.sides (d.bytes (pages_device p)) (e.bytes (pages_device p))
     own_named = subst (λ b. NamedSame (v p).log.header.sides (d.bytes (pages_device p)) b) (sym pages) (all_named (v p).log.header.sides ws (d.bytes (pages_device p)) place spare)
@@ -150,7 +150,7 @@ module _ {D : Type 0} (r : Reading D) (d : View) (which : WhichLog) (c : Coordin
     settled_still : (dev : ℕ) → dev ≢ pages_device p → IsSettled d dev → IsSettled e dev
     settled_still dev apart was b left = was b (is.others dev apart b left) ∙ sym (kept dev apart)
 
-    pages_still : (q : ℕ) → q < parts_of c → NamedSettled (v q).log.header.sides e (pages_device q)
+    pages_still : (q : ℕ) → q < partition_count c → NamedSettled (v q).log.header.sides e (pages_device q)
     pages_still q low = by (cases_eq q p)
       where
         own : NamedSettled (v p).log.header.sides e (pages_device p)
@@ -180,7 +180,7 @@ module _ {D : Type 0} (r : Reading D) (d : View) (which : WhichLog) (c : Coordin
     }
 
 module _ {D : Type 0} (r : Reading D) (d : View) (which : WhichLog) (c : Coordinator D) (v : ℕ → PartView) (ready : IsReady r d which c v) (told : IsTrue d.told)
-    (p : ℕ) (below : p < parts_of c) (other : ℕ) (is_other : other ≡ device_of (part_device p) (other_log (v p).which)) (settled : IsSettled d other)
+    (p : ℕ) (below : p < partition_count c) (other : ℕ) (is_other : other ≡ device_of (part_device p) (other_log (v p).which)) (settled : IsSettled d other)
     (ws : List Write) (header : List ℕ) (format : ℕ) (sides : List ℕ) (rows : List Change) (next : IsNext r c p (v p) (d.bytes (pages_device p)) ws header format sides rows) where
   known : other < d.count
   known = other_known r d which c v ready p below other is_other settled ws next.spare
@@ -188,7 +188,7 @@ module _ {D : Type 0} (r : Reading D) (d : View) (which : WhichLog) (c : Coordin
   elsewhere : other ≢ pages_device p
   elsewhere = no_pages r d which c v ready p below other is_other settled ws next.spare
 
-  module _ (place : AreInPlace (length (d.bytes (pages_device p))) ws) (e : View) (is : IsBeginning d e (pages_device p) other ws header) where
+  module _ (place : LeaveNoGap (length (d.bytes (pages_device p))) ws) (e : View) (is : IsBeginning d e (pages_device p) other ws header) where
     pub beginning_stands : StandsAlways r e c v
     beginning_stands asked image left = by (is.log told (image other) (at other known))
       where
@@ -201,7 +201,7 @@ module _ {D : Type 0} (r : Reading D) (d : View) (which : WhichLog) (c : Coordin
         all : image (pages_device p) ≡ all_written ws (d.bytes (pages_device p))
         all = is.written told (image (pages_device p)) (at (pages_device p) (ready.known p below))
 
-        by : ((entries_in (image other) ≡ Some []) ⊎ (image other ≡ d.bytes other)) ⊎ (entries_in (image other) ≡ Some (header ∷ [])) → judged r image asked ≡ Ok (found_of c v)
+        by : ((entries_in (image other) ≡ Some []) ⊎ (image other ≡ d.bytes other)) ⊎ (entries_in (image other) ≡ Some (header ∷ [])) → stands_on r image asked ≡ Ok (found_of c v)
         by (inl before) = before_stands r d which c v ready p below other is_other image (record {
           others = others;
           log = before;
@@ -225,7 +225,7 @@ module _ {D : Type 0} (r : Reading D) (d : View) (which : WhichLog) (c : Coordin
         | inr no_other ↦ λ b left. was b (is.others dev apart no_other b left) ∙ sym (kept dev apart no_other)
       ]
 
-      pages_now : (q : ℕ) → q < parts_of c → NamedSettled (with_view p now v q).log.header.sides e (pages_device q)
+      pages_now : (q : ℕ) → q < partition_count c → NamedSettled (with_view p now v q).log.header.sides e (pages_device q)
       pages_now q low = by (cases_eq q p)
         where
           by : (q ≡ p) ⊎ (q ≢ p) → NamedSettled (with_view p now v q).log.header.sides e (pages_device q)
@@ -252,7 +252,7 @@ module _ {D : Type 0} (r : Reading D) (d : View) (which : WhichLog) (c : Coordin
         pages = pages_now;
       }
 
-pub other_settled : {D : Type 0} (r : Reading D) (d : View) (which : WhichLog) (c : Coordinator D) (v : ℕ → PartView) → IsReady r d which c v → (p : ℕ) → p < parts_of c → IsSettled d (device_of (part_device p) (other_log (v p).which))
+pub other_settled : {D : Type 0} (r : Reading D) (d : View) (which : WhichLog) (c : Coordinator D) (v : ℕ → PartView) → IsReady r d which c v → (p : ℕ) → p < partition_count c → IsSettled d (device_of (part_device p) (other_log (v p).which))
 other_settled r d which c v ready p below = by (other_log (v p).which)
   where
     by : (w : WhichLog) → IsSettled d (device_of (part_device p) w)

@@ -1,7 +1,7 @@
 -- Behind a flush each page is read on the side that it was written to; and how many pages rows can take.
 use Rattle.salt_checkpoint.proofs.Named.{written_front}
 use Rattle.salt_checkpoint.proofs.Torn.{length-written, side_same}
-use Rattle.salt_checkpoint.specs.Sides.{AreInPlace, all_written, side_bytes}
+use Rattle.salt_checkpoint.specs.Sides.{LeaveNoGap, all_written, side_bytes}
 use Rattle.salt_checkpoint.specs.declared.writes.Write.{Write}
 use Rattle.salt_bytes.specs.Page.{TableRow, page_length, page_place, spell_page}
 use Rattle.salt_bytes.specs.Spellable.{Every, IsSpellablePage}
@@ -20,11 +20,11 @@ abbrev pub AreElsewhere : (page side : ℕ) → List Write → Type 0
 AreElsewhere page side [] = ⊤
 AreElsewhere page side (w ∷ ws) = IsElsewhere page side w.at (length w.bytes) × AreElsewhere page side ws
 
-all_elsewhere : (page side : ℕ) (ws : List Write) (bytes : List ℕ) → AreInPlace (length bytes) ws → AreElsewhere page side ws → side_bytes (all_written ws bytes) page side ≡ side_bytes bytes page side
+all_elsewhere : (page side : ℕ) (ws : List Write) (bytes : List ℕ) → LeaveNoGap (length bytes) ws → AreElsewhere page side ws → side_bytes (all_written ws bytes) page side ≡ side_bytes bytes page side
 all_elsewhere page side [] bytes place away = refl
 all_elsewhere page side (w ∷ ws) bytes place away =
     let front = written_front bytes w.at w.bytes place.0 in
-    all_elsewhere page side ws (written bytes w.at w.bytes) (subst (λ (n : ℕ). AreInPlace n ws) (sym (length-written bytes w.at w.bytes place.0)) place.1) away.1
+    all_elsewhere page side ws (written bytes w.at w.bytes) (subst (λ (n : ℕ). LeaveNoGap n ws) (sym (length-written bytes w.at w.bytes place.0)) place.1) away.1
     ∙ side_same page side w.at (length w.bytes) bytes (written bytes w.at w.bytes) away.0 front.0 front.1
 
 all_behind : (us vs : List Write) (bytes : List ℕ) → all_written (us ++ vs) bytes ≡ all_written vs (all_written us bytes)
@@ -41,7 +41,7 @@ module _ (nulls : Bool) (page side : ℕ) (rows : List TableRow) (good : IsSpell
 
   -- what stands before its write does not matter, and what comes behind it is elsewhere
   pub flush_reads : (us vs : List Write) (w : Write) (bytes : List ℕ) → w.at ≡ page_place page side → w.bytes ≡ spell_page rows → page_place page side ≤ length (all_written us bytes)
-      → AreInPlace (length (written (all_written us bytes) w.at w.bytes)) vs → AreElsewhere page side vs → page_at nulls (all_written (us ++ w ∷ vs) bytes) page side ≡ Some rows
+      → LeaveNoGap (length (written (all_written us bytes) w.at w.bytes)) vs → AreElsewhere page side vs → page_at nulls (all_written (us ++ w ∷ vs) bytes) page side ≡ Some rows
   flush_reads us vs w bytes at is place behind away =
       let before = all_written us bytes in
       let now = written before w.at w.bytes in

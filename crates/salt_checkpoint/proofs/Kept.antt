@@ -7,7 +7,7 @@ use Rattle.salt_checkpoint.specs.Checkpoints.{IsBefore, IsReady, NamedSettled, S
 use Rattle.salt_checkpoint.specs.Sides.{KeepsNamed, NamedSame}
 use Rattle.salt_disk.specs.Disks.{IsSettled, KeepsOthers, View}
 use Rattle.salt_disk.specs.declared.disks.DiskErr.{DiskErr}
-use Rattle.salt_stands.specs.Commits.{parts_of}
+use Rattle.salt_stands.specs.Commits.{partition_count}
 use Rattle.salt_stands.specs.Coordinator.{Coordinator, device_of}
 use Rattle.salt_stands.specs.Partition.{pages_device, part_device}
 use Rattle.salt_stands.specs.Pieces.{PartView, other_log}
@@ -15,7 +15,7 @@ use Rattle.salt_stands.specs.Reading.{Reading}
 use Rattle.std.proofs.Common.{List, None, Option, arith, inl, inr, refl, subst, sym, ℕ, ◌+◌, ◌<◌, ◌≡◌, ◌≢◌, ◌⊎◌, ◌∙◌, []}
 use Rattle.std.proofs.lemmas.Bool.{cases_eq}
 
-module _ {D : Type 0} (r : Reading D) (d : View) (which : WhichLog) (c : Coordinator D) (v : ℕ → PartView) (ready : IsReady r d which c v) (p : ℕ) (below : p < parts_of c) where
+module _ {D : Type 0} (r : Reading D) (d : View) (which : WhichLog) (c : Coordinator D) (v : ℕ → PartView) (ready : IsReady r d which c v) (p : ℕ) (below : p < partition_count c) where
   abbrev other : ℕ
   other = device_of (part_device p) (other_log (v p).which)
 
@@ -53,7 +53,7 @@ module _ {D : Type 0} (r : Reading D) (d : View) (which : WhichLog) (c : Coordin
     as_kept : IsBefore d p other (v p).log.header.sides e.bytes
     as_kept = record { others = record { each = λ dev low page no_other. inr (others.kept dev page).bytes }; log = inr (others.kept other apart).bytes; pages = same }
 
-    pages_still : (q : ℕ) → q < parts_of c → NamedSettled (v q).log.header.sides e (pages_device q)
+    pages_still : (q : ℕ) → q < partition_count c → NamedSettled (v q).log.header.sides e (pages_device q)
     pages_still q low = by (cases_eq q p)
       where
         own : NamedSettled (v p).log.header.sides e (pages_device p)

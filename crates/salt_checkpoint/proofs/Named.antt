@@ -1,6 +1,6 @@
 -- Pages whose named sides are the same are read the same.
 use Rattle.salt_checkpoint.proofs.Torn.{named_on, named_refl, names_same}
-use Rattle.salt_checkpoint.specs.Sides.{AreInPlace, NamedSame, SpareNamed, Spares, all_written, side_bytes}
+use Rattle.salt_checkpoint.specs.Sides.{LeaveNoGap, NamedSame, SpareNamed, Spares, all_written, side_bytes}
 use Rattle.salt_checkpoint.specs.declared.writes.Write.{Write}
 use Rattle.salt_disk.specs.Disks.{written}
 use Rattle.salt_checkpoint.proofs.Torn.{length-written}
@@ -34,9 +34,9 @@ written_named sides old at bytes within spares =
     let front = written_front old at bytes within in
     names_same sides at (length bytes) old (written old at bytes) spares front.0 front.1
 
-pub all_named : (sides : List ℕ) (ws : List Write) (bytes : List ℕ) → AreInPlace (length bytes) ws → SpareNamed sides ws → NamedSame sides bytes (all_written ws bytes)
+pub all_named : (sides : List ℕ) (ws : List Write) (bytes : List ℕ) → LeaveNoGap (length bytes) ws → SpareNamed sides ws → NamedSame sides bytes (all_written ws bytes)
 all_named sides [] bytes place spare = named_refl sides bytes
 all_named sides (w ∷ ws) bytes place spare =
     let next = written bytes w.at w.bytes in
     named_on sides bytes next (all_written ws next) (written_named sides bytes w.at w.bytes place.0 spare.0)
-    (all_named sides ws next (subst (λ (n : ℕ). AreInPlace n ws) (sym (length-written bytes w.at w.bytes place.0)) place.1) spare.1)
+    (all_named sides ws next (subst (λ (n : ℕ). LeaveNoGap n ws) (sym (length-written bytes w.at w.bytes place.0)) place.1) spare.1)

@@ -9,12 +9,12 @@ use Rattle.salt_bytes.specs.Log.{entries_in}
 use Rattle.salt_disk.specs.Disks.{IsSettled, View}
 use Rattle.salt_stands.proofs.Stores.{checkpoint_found, checkpoint_stood, keeps_standing, stood_stands}
 use Rattle.salt_stands.proofs.Generations.{checkpoint_tables}
-use Rattle.salt_stands.specs.Commits.{CoordinatorSame, IsCheckpointed, PartBlanked, PartSame, Stood, found_of, parts_of, with_view}
+use Rattle.salt_stands.specs.Commits.{CoordinatorSame, IsCheckpointed, PartBlanked, PartSame, Stood, found_of, partition_count, with_view}
 use Rattle.salt_stands.specs.Coordinator.{Coordinator, device_of}
 use Rattle.salt_stands.specs.Partition.{pages_device, part_device, rows_of_pages}
 use Rattle.salt_stands.specs.Pieces.{IsSameAt, PartView, ReadsSamePages, checkpointed, next_part_header, other_log}
 use Rattle.salt_stands.specs.Reading.{Reading}
-use Rattle.salt_stands.specs.Stands.{judged, logs_of}
+use Rattle.salt_stands.specs.Stands.{stands_on, logs_of}
 use Rattle.salt_values.specs.declared.change.Change.{Change}
 use Rattle.salt_place.specs.declared.placement.Shape.{Shape}
 use Rattle.std.proofs.Common.{List, Ok, Some, [], ap, arith, inl, inr, refl, subst, sym, ℕ, ◌+◌, ◌<◌, ◌≡◌, ◌≢◌, ◌⊎◌, ◌∙◌}
@@ -48,7 +48,7 @@ settled_named sides d dev b settled (inl left) = settled b left
 settled_named sides d dev b settled (inr same) = subst (λ k. NamedSame sides (d.bytes dev) k) (sym same) (named_refl sides (d.bytes dev))
 
 module _ {D : Type 0} (r : Reading D) (d : View) (which : WhichLog) (c : Coordinator D) (v : ℕ → PartView) (ready : IsReady r d which c v)
-    (p : ℕ) (below : p < parts_of c) (other : ℕ) (is_other : other ≡ device_of (part_device p) (other_log (v p).which)) (image : ℕ → List ℕ) where
+    (p : ℕ) (below : p < partition_count c) (other : ℕ) (is_other : other ≡ device_of (part_device p) (other_log (v p).which)) (image : ℕ → List ℕ) where
   module _ (left : OthersLeft d p other image) where
     here : (dev : ℕ) → dev < 2 → dev ≢ other
     here dev low e = let at = log_is_low (other_log (v p).which) p in omega (arith, low, e, is_other, at.2)
@@ -59,16 +59,16 @@ module _ {D : Type 0} (r : Reading D) (d : View) (which : WhichLog) (c : Coordin
       b = ap entries_in (settled_same d 1 (image 1) ready.second (left.each 1 ready.two (omega arith) (here 1 (omega arith))));
     }
 
-    log_known : (q k : ℕ) → q < parts_of c → k < 2 → part_device q + k < d.count
+    log_known : (q k : ℕ) → q < partition_count c → k < 2 → part_device q + k < d.count
     log_known q k low few = omega (arith, ready.known q low, few)
 
-    part_same : (q : ℕ) → q < parts_of c → q ≢ p → PartSame (logs_of d.bytes) (logs_of image) q
+    part_same : (q : ℕ) → q < partition_count c → q ≢ p → PartSame (logs_of d.bytes) (logs_of image) q
     part_same q low apart = record {
       a = ap entries_in (settled_same d (part_device q) (image (part_device q)) (ready.log_a q low) (left.each (part_device q) (omega (arith, ready.known q low)) (λ e. log_is_no_page q p 0 (omega arith) (omega (arith, e))) (λ e. other_part (other_log (v p).which) q p 0 (omega arith) apart (omega (arith, e, is_other)))));
       b = ap entries_in (settled_same d (part_device q + 1) (image (part_device q + 1)) (ready.log_b q low) (left.each (part_device q + 1) (omega (arith, ready.known q low)) (log_is_no_page q p 1 (omega arith)) (λ e. other_part (other_log (v p).which) q p 1 (omega arith) apart (e ∙ is_other))));
     }
 
-    pages_same : (q : ℕ) → q < parts_of c → q ≢ p → ReadsSamePages (v q) (d.bytes (pages_device q)) (image (pages_device q))
+    pages_same : (q : ℕ) → q < partition_count c → q ≢ p → ReadsSamePages (v q) (d.bytes (pages_device q)) (image (pages_device q))
     pages_same q low apart =
         named_reads (v q) (d.bytes (pages_device q)) (image (pages_device q))
         (settled_named (v q).log.header.sides d (pages_device q) (image (pages_device q)) (ready.pages q low) (left.each (pages_device q) (ready.known q low) (λ e. apart (omega (arith, e))) (λ e. no_page (other_log (v p).which) p q (sym is_other ∙ sym e))))
@@ -96,19 +96,19 @@ module _ {D : Type 0} (r : Reading D) (d : View) (which : WhichLog) (c : Coordin
       own (inl blank) = inr (record { counting = counting left; other = ap (λ dev. logs_of image dev) (sym is_other) ∙ blank })
       own (inr same) = inl (same_logs (v p).which (counting left) (subst (λ dev. IsSameAt dev (logs_of d.bytes) (logs_of image)) is_other (ap entries_in same)))
 
-      part : (q : ℕ) → q < parts_of c → PartSame (logs_of d.bytes) (logs_of image) q ⊎ PartBlanked (logs_of d.bytes) (logs_of image) q (v q).which
+      part : (q : ℕ) → q < partition_count c → PartSame (logs_of d.bytes) (logs_of image) q ⊎ PartBlanked (logs_of d.bytes) (logs_of image) q (v q).which
       part q low = elim (cases_eq q p) [
         | inl e ↦ subst (λ k. PartSame (logs_of d.bytes) (logs_of image) k ⊎ PartBlanked (logs_of d.bytes) (logs_of image) k (v k).which) (sym e) (own is.log)
         | inr apart ↦ inl (part_same left q low apart)
       ]
 
-      pages : (q : ℕ) → q < parts_of c → ReadsSamePages (v q) (d.bytes (pages_device q)) (image (pages_device q))
+      pages : (q : ℕ) → q < partition_count c → ReadsSamePages (v q) (d.bytes (pages_device q)) (image (pages_device q))
       pages q low = elim (cases_eq q p) [
         | inl e ↦ subst (λ k. ReadsSamePages (v k) (d.bytes (pages_device k)) (image (pages_device k))) (sym e) (named_reads (v p) (d.bytes (pages_device p)) (image (pages_device p)) is.pages)
         | inr apart ↦ pages_same left q low apart
       ]
 
-  pub before_stands : IsBefore d p other (v p).log.header.sides image → (asked : Shape) → judged r image asked ≡ Ok (found_of c v)
+  pub before_stands : IsBefore d p other (v p).log.header.sides image → (asked : Shape) → stands_on r image asked ≡ Ok (found_of c v)
   before_stands is asked = stood_stands r (logs_of image) image asked which c v (before_stood is)
 
   -- WITH IT
@@ -130,7 +130,7 @@ module _ {D : Type 0} (r : Reading D) (d : View) (which : WhichLog) (c : Coordin
     behind_stood = checkpoint_stood r (logs_of d.bytes) (logs_of image) d.bytes image which c v p header format sides rows ready.stood (coordinator is.others) below done
         (λ q low apart. (part_same is.others q low apart, pages_same is.others q low apart))
 
-    pub behind_stands : (asked : Shape) → judged r image asked ≡ Ok (found_of c v)
+    pub behind_stands : (asked : Shape) → stands_on r image asked ≡ Ok (found_of c v)
     behind_stands asked =
         let now = checkpointed (v p) (next_part_header (v p) format sides) rows in
         stood_stands r (logs_of image) image asked which c (with_view p now v) behind_stood

@@ -1,6 +1,6 @@
 -- Devices that are ready, and what comes next there: so the conditions are met. One partition; a unit that is decided has put a row.
 use Rattle.salt_checkpoint.specs.Checkpoints.{IsNext, IsReady}
-use Rattle.salt_checkpoint.specs.Sides.{AreInPlace}
+use Rattle.salt_checkpoint.specs.Sides.{LeaveNoGap}
 use Rattle.salt_checkpoint.specs.declared.writes.Write.{Write}
 use Rattle.salt_bytes.specs.Coordinator.{CoordinatorHeader, Decides, Decision, spell_entry, spell_header}
 use Rattle.salt_bytes.specs.Generations.{LogA}
@@ -86,7 +86,7 @@ page = record { table = 0; row = row } ∷ []
 abbrev pub writes : List Write
 writes = record { at = 0; bytes = spell_page page } ∷ []
 
-pub in_place : AreInPlace (length (d.bytes (pages_device 0))) writes
+pub in_place : LeaveNoGap (length (d.bytes (pages_device 0))) writes
 in_place = (omega arith, tt)
 
 -- its page is written on side 0, and the next header names it

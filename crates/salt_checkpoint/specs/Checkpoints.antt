@@ -8,12 +8,12 @@ use Rattle.salt_disk.specs.Disks.{IsImage, IsSettled, View}
 use Rattle.salt_disk.specs.declared.disks.DiskErr.TheVariants.{Failed, Full, Memory, Stopped}
 use Rattle.salt_disk.specs.declared.disks.DiskErr.{DiskErr}
 use Rattle.salt_model.specs.Tables.{no_rows, with_changes}
-use Rattle.salt_stands.specs.Commits.{Stood, found_of, parts_of}
+use Rattle.salt_stands.specs.Commits.{Stood, found_of, partition_count}
 use Rattle.salt_stands.specs.Coordinator.{Coordinator}
 use Rattle.salt_stands.specs.Partition.{is_format_under, pages_device, part_device, rows_of_pages}
-use Rattle.salt_stands.specs.Pieces.{PartView, checkpointed, next_part_header, tables_of}
+use Rattle.salt_stands.specs.Pieces.{PartView, checkpointed, next_part_header, tables_at_part}
 use Rattle.salt_stands.specs.Reading.{Reading}
-use Rattle.salt_stands.specs.Stands.{judged, logs_of}
+use Rattle.salt_stands.specs.Stands.{stands_on, logs_of}
 use Rattle.salt_values.specs.declared.change.Change.{Change}
 use Rattle.salt_place.specs.declared.placement.Shape.{Shape}
 use Rattle.std.specs.Prelude.{List, None, Ok, Option, Some, [], nat_le, true, ℕ, ⊤, ◌+◌, ◌<◌, ◌∷◌, ◌≡◌, ◌≢◌, ◌⊎◌}
@@ -27,16 +27,16 @@ NamedSettled sides d dev = (c : List ℕ) → d.image dev c → NamedSame sides 
 pub record IsReady {D : Type 0} (r : Reading D) (d : View) (which : WhichLog) (c : Coordinator D) (v : ℕ → PartView) : Type 0 where
   pub stood : Stood r (logs_of d.bytes) d.bytes which c v
   pub two : 1 < d.count
-  pub known : (p : ℕ) → p < parts_of c → pages_device p < d.count
+  pub known : (p : ℕ) → p < partition_count c → pages_device p < d.count
   pub first : IsSettled d 0
   pub second : IsSettled d 1
-  pub log_a : (p : ℕ) → p < parts_of c → IsSettled d (part_device p)
-  pub log_b : (p : ℕ) → p < parts_of c → IsSettled d (part_device p + 1)
-  pub pages : (p : ℕ) → p < parts_of c → NamedSettled (v p).log.header.sides d (pages_device p)
+  pub log_a : (p : ℕ) → p < partition_count c → IsSettled d (part_device p)
+  pub log_b : (p : ℕ) → p < partition_count c → IsSettled d (part_device p + 1)
+  pub pages : (p : ℕ) → p < partition_count c → NamedSettled (v p).log.header.sides d (pages_device p)
 
 -- each image that a stop may leave of the devices stands for this
 abbrev pub StandsAlways : {D : Type 0} → Reading D → View → Coordinator D → (ℕ → PartView) → Type 0
-StandsAlways r d c v = (asked : Shape) (image : ℕ → List ℕ) → IsImage d image → judged r image asked ≡ Ok (found_of c v)
+StandsAlways r d c v = (asked : Shape) (image : ℕ → List ℕ) → IsImage d image → stands_on r image asked ≡ Ok (found_of c v)
 
 -- The header is the next one of partition p, these writes go to no side that the header before it names, and behind them the sides
 -- that it names have rows that are the partition's tables.
@@ -47,7 +47,7 @@ pub record IsNext {D : Type 0} (r : Reading D) (c : Coordinator D) (p : ℕ) (x 
   pub first : nat_le 1 x.log.header.generation ≡ true
   pub fits : is_format_under c.log.header.format format ≡ true
   pub reads : rows_of_pages r c p (checkpointed x (next_part_header x format sides) rows).log (all_written writes pages) ≡ Some rows
-  pub tables : with_changes rows no_rows ≡ tables_of c p x
+  pub tables : with_changes rows no_rows ≡ tables_at_part c p x
 
 -- WHAT AN IMAGE MAY BE while partition p is checkpointed into its other log
 

@@ -22,9 +22,9 @@ SpareNamed sides [] = ⊤
 SpareNamed sides (w ∷ ws) = Spares sides w.at (length w.bytes) × SpareNamed sides ws
 
 -- each begins at most where the bytes end that stand there when it comes
-abbrev pub AreInPlace : ℕ → List Write → Type 0
-AreInPlace n [] = ⊤
-AreInPlace n (w ∷ ws) = (w.at ≤ n) × AreInPlace (max n (w.at + length w.bytes)) ws
+abbrev pub LeaveNoGap : ℕ → List Write → Type 0
+LeaveNoGap n [] = ⊤
+LeaveNoGap n (w ∷ ws) = (w.at ≤ n) × LeaveNoGap (max n (w.at + length w.bytes)) ws
 
 -- what they make of bytes, one after another
 abbrev pub all_written : List Write → List ℕ → List ℕ

@@ -1,11 +1,11 @@
 //! Pages are written on sides that no header names, before any checkpoint.
 
 ghost use Rattle.salt_checkpoint.specs.Checkpoints.{IsReady, StandsAlways};
-ghost use Rattle.salt_checkpoint.specs.Sides.{AreInPlace, SpareNamed};
+ghost use Rattle.salt_checkpoint.specs.Sides.{LeaveNoGap, SpareNamed};
 ghost use Rattle.salt_bytes.specs.Generations.{WhichLog};
 ghost use Rattle.salt_disk.specs.Disks.{HasCause, KeepsOthers};
 ghost use Rattle.salt_model.specs.Kept.{Definition};
-ghost use Rattle.salt_stands.specs.Commits.{parts_of};
+ghost use Rattle.salt_stands.specs.Commits.{partition_count};
 ghost use Rattle.salt_stands.specs.Coordinator.{Coordinator};
 ghost use Rattle.salt_stands.specs.Partition.{pages_device};
 ghost use Rattle.salt_stands.specs.Pieces.{PartView};
@@ -21,12 +21,12 @@ use salt_disk::{DiskErr, Disks};
 /// what stood before, whatever the call answers; and behind Ok all stands as before.
 pub fn write_pages<D: Disks>(disks: &mut D, part: u8, writes: &[Write]) -> Result<(), DiskErr>
     requires known { pages_device part < (D.view disks.old).count }
-    requires place { IsTrue (D.view disks.old).told → AreInPlace (length ((D.view disks.old).bytes (pages_device part))) writes.now }
+    requires place { IsTrue (D.view disks.old).told → LeaveNoGap (length ((D.view disks.old).bytes (pages_device part))) writes.now }
 
     ensures images { (r : Reading Definition) (which : WhichLog) (c : Coordinator Definition) (v : ℕ → PartView) → IsTrue (D.view disks.old).told
-        → IsReady r (D.view disks.old) which c v → part < parts_of c → SpareNamed (v part).log.header.sides writes.now → StandsAlways r (D.view disks.new) c v }
+        → IsReady r (D.view disks.old) which c v → part < partition_count c → SpareNamed (v part).log.header.sides writes.now → StandsAlways r (D.view disks.new) c v }
     ensures ok { OnOk result ((r : Reading Definition) (which : WhichLog) (c : Coordinator Definition) (v : ℕ → PartView) → IsTrue (D.view disks.old).told
-        → IsReady r (D.view disks.old) which c v → part < parts_of c → SpareNamed (v part).log.header.sides writes.now → IsReady r (D.view disks.new) which c v) }
+        → IsReady r (D.view disks.old) which c v → part < partition_count c → SpareNamed (v part).log.header.sides writes.now → IsReady r (D.view disks.new) which c v) }
     ensures others { KeepsOthers (pages_device part) (D.view disks.old) (D.view disks.new) (result_err result) }
     ensures cause { HasCause (D.view disks.old) (D.view disks.new) (result_err result) }
 {

@@ -1,13 +1,13 @@
 //! A checkpoint of one partition, over the devices.
 
 ghost use Rattle.salt_checkpoint.specs.Checkpoints.{FullAt, IsNext, IsReady, StandsAlways};
-ghost use Rattle.salt_checkpoint.specs.Sides.{AreInPlace, all_written};
+ghost use Rattle.salt_checkpoint.specs.Sides.{LeaveNoGap, all_written};
 ghost use Rattle.salt_bytes.specs.Generations.{WhichLog};
 ghost use Rattle.salt_disk.specs.Disks.{HasCause, IsSettled, KeepsBut};
 ghost use Rattle.salt_gatelog.specs.Log as gates;
 ghost use Rattle.salt_gatelog.specs.Log.{IsLog};
 ghost use Rattle.salt_model.specs.Kept.{Definition};
-ghost use Rattle.salt_stands.specs.Commits.{parts_of, with_view};
+ghost use Rattle.salt_stands.specs.Commits.{partition_count, with_view};
 ghost use Rattle.salt_stands.specs.Coordinator.{Coordinator, device_of};
 ghost use Rattle.salt_stands.specs.Partition.{pages_device, part_device};
 ghost use Rattle.salt_stands.specs.Pieces.{PartView, checkpointed, next_part_header, other_log};
@@ -43,14 +43,14 @@ pub fn checkpoint<D: Disks>(
     requires known { pages_device part < (D.view disks.old).count }
     requires other { (other ≡ part_device part) ⊎ (other ≡ part_device part + 1) }
     requires settled { IsSettled (D.view disks.old) other }
-    requires place { IsTrue (D.view disks.old).told → AreInPlace (length ((D.view disks.old).bytes (pages_device part))) writes.now }
+    requires place { IsTrue (D.view disks.old).told → LeaveNoGap (length ((D.view disks.old).bytes (pages_device part))) writes.now }
 
     ensures images { (r : Reading Definition) (which : WhichLog) (c : Coordinator Definition) (v : ℕ → PartView) (format : ℕ) (sides : List ℕ) (rows : List Change) → IsTrue (D.view disks.old).told
-        → IsReady r (D.view disks.old) which c v → part < parts_of c → other ≡ device_of (part_device part) (other_log (v part).which)
+        → IsReady r (D.view disks.old) which c v → part < partition_count c → other ≡ device_of (part_device part) (other_log (v part).which)
         → IsNext r c part (v part) ((D.view disks.old).bytes (pages_device part)) writes.now header.now format sides rows
         → StandsAlways r (D.view disks.new) c v }
     ensures ok { OnOk result ((r : Reading Definition) (which : WhichLog) (c : Coordinator Definition) (v : ℕ → PartView) (format : ℕ) (sides : List ℕ) (rows : List Change) → IsTrue (D.view disks.old).told
-        → IsReady r (D.view disks.old) which c v → part < parts_of c → other ≡ device_of (part_device part) (other_log (v part).which)
+        → IsReady r (D.view disks.old) which c v → part < partition_count c → other ≡ device_of (part_device part) (other_log (v part).which)
         → IsNext r c part (v part) ((D.view disks.old).bytes (pages_device part)) writes.now header.now format sides rows
         → IsReady r (D.view disks.new) which c (with_view part (checkpointed (v part) (next_part_header (v part) format sides) rows) v)) }
     ensures log { IfOk result (λ log. IsLog (D.view disks.new) log (header.now ∷ [])) }

@@ -1,6 +1,6 @@
 //! Writes to a device of pages.
 
-ghost use Rattle.salt_checkpoint.specs.Sides.{AreInPlace, KeepsNamed, SpareNamed, all_written, writes_end};
+ghost use Rattle.salt_checkpoint.specs.Sides.{LeaveNoGap, KeepsNamed, SpareNamed, all_written, writes_end};
 ghost use Rattle.salt_disk.specs.Disks.{FullOnly, HasCause, KeepsOthers};
 ghost use Rattle.std.specs.Prelude.{IsTrue, List, OnOk, length, ℕ, ◌<◌, ◌≡◌};
 ghost use Rattle.std.specs.Result.{result_err};
@@ -20,7 +20,7 @@ pub struct Write {
 /// before it are made then.
 pub fn write_all<D: Disks>(disks: &mut D, dev: u32, writes: &[Write]) -> Result<(), DiskErr>
     requires known { dev < (D.view disks.old).count }
-    requires place { IsTrue (D.view disks.old).told → AreInPlace (length ((D.view disks.old).bytes dev)) writes.now }
+    requires place { IsTrue (D.view disks.old).told → LeaveNoGap (length ((D.view disks.old).bytes dev)) writes.now }
     ensures bytes { OnOk result (IsTrue (D.view disks.old).told → (D.view disks.new).bytes dev ≡ all_written writes.now ((D.view disks.old).bytes dev)) }
     ensures images { (sides : List ℕ) → SpareNamed sides writes.now → KeepsNamed sides (D.view disks.old) (D.view disks.new) dev }
     ensures others { KeepsOthers dev (D.view disks.old) (D.view disks.new) (result_err result) }

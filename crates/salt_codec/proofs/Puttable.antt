@@ -3,7 +3,7 @@ use Rattle.salt_bytes.proofs.Logs.{reads_prepared}
 use Rattle.salt_bytes.specs.Changes.{are_in_order}
 use Rattle.salt_bytes.specs.Partition.{Prepared, prepared_in, spell_prepared}
 use Rattle.salt_bytes.specs.Spellable.{AreSpellableValues, Every, IsSpellableChange, IsSpellableId, IsSpellableTo, IsSpellableValue}
-use Rattle.salt_codec.specs.Entries.{HasRow, HasRowTo, IsPut, IsPutTo, IsTold, IsToldTo, MayStand}
+use Rattle.salt_codec.specs.Entries.{HasRow, HasRowTo, CanBePut, IsPutTo, IsTold, IsToldTo, MayStand}
 use Rattle.salt_values.specs.Value.{IsValue, is_null}
 use Rattle.salt_values.specs.declared.change.Change.{Change}
 use Rattle.salt_values.specs.declared.value.Value.TheVariants.{Int, Null, Text}
@@ -28,12 +28,12 @@ spellable_to : (nulls : Bool) (key : Value) (row : Option (List Value)) → IsVa
 spellable_to nulls key None told row put = spellable_key key told put
 spellable_to nulls key (Some vs) told row put = ((put.0, spellable_values nulls vs row put.2), put.1)
 
-spellable_changes : (nulls : Bool) (cs : List Change) → Every IsTold cs → Every (IsPut nulls) cs → Every (IsSpellableChange nulls) cs
+spellable_changes : (nulls : Bool) (cs : List Change) → Every IsTold cs → Every (CanBePut nulls) cs → Every (IsSpellableChange nulls) cs
 spellable_changes nulls [] told put = tt
 spellable_changes nulls (c ∷ cs) told put = (record { table = told.0.table; to = spellable_to nulls c.key c.row told.0.key told.0.row put.0 }, spellable_changes nulls cs told.1 put.1)
 
 pub read_again : (x : Prepared) → IsSpellableId x.unit → length x.changes < 2 ^ 64 → Every IsTold x.changes
-    → (nulls : Bool) → Every (IsPut nulls) x.changes → are_in_order x.changes ≡ true → prepared_in nulls (spell_prepared x) ≡ Some x
+    → (nulls : Bool) → Every (CanBePut nulls) x.changes → are_in_order x.changes ≡ true → prepared_in nulls (spell_prepared x) ≡ Some x
 read_again x unit count told nulls put ordered = reads_prepared nulls x (record { unit = unit; count = count; changes = spellable_changes nulls x.changes told put; ordered = ordered })
 
 row_put : (nulls : Bool) (key : Value) (row : Option (List Value)) → IsPutTo nulls key row → HasRowTo row
@@ -41,6 +41,6 @@ row_put nulls key None put = tt
 row_put nulls key (Some vs) put = put.0
 
 -- what can be put has rows of 1 to 16 values
-pub rows_put : (nulls : Bool) (cs : List Change) → Every (IsPut nulls) cs → Every HasRow cs
+pub rows_put : (nulls : Bool) (cs : List Change) → Every (CanBePut nulls) cs → Every HasRow cs
 rows_put nulls [] put = tt
 rows_put nulls (c ∷ cs) put = (row_put nulls c.key c.row put.0, rows_put nulls cs put.1)

@@ -57,5 +57,5 @@ IsPutTo nulls key None = is_null key ≡ false
 IsPutTo nulls key (Some row) = (is_row_length (length row) ≡ true) × (key_of row ≡ key) × Every (MayStand nulls) row
 
 -- a change that can be put into a log
-abbrev pub IsPut : Bool → Change → Type 0
-IsPut nulls c = IsPutTo nulls c.key c.row
+abbrev pub CanBePut : Bool → Change → Type 0
+CanBePut nulls c = IsPutTo nulls c.key c.row

@@ -3,7 +3,7 @@
 ghost use Rattle.salt_bytes.specs.Changes.{are_in_order};
 ghost use Rattle.salt_bytes.specs.Partition.{prepared_in, spell_prepared, take_prepared};
 ghost use Rattle.salt_bytes.specs.Spellable.{Every};
-ghost use Rattle.salt_codec.specs.Entries.{HasRow, IsPut, prepared_of};
+ghost use Rattle.salt_codec.specs.Entries.{HasRow, CanBePut, prepared_of};
 ghost use Rattle.salt_codec.specs.Taking.{TakesAs};
 ghost use Rattle.std.specs.Prelude.{Bool, IfOk, Some, option_map, true, ◌++◌, ◌≡◌};
 
@@ -38,7 +38,7 @@ fn with_unit(out: Vec<u8>, unit: Id, changes: &[Change]) -> Result<Vec<u8>, Allo
 pub fn with_prepared(out: Vec<u8>, unit: Id, changes: &[Change]) -> Result<Vec<u8>, AllocError>
     requires { Every HasRow changes.now }
     ensures bytes { IfOk result (λ made. made.items ≡ out.items ++ spell_prepared (record { unit = unit; changes = changes.now })) }
-    ensures read { (nulls : Bool) → Every (IsPut nulls) changes.now → are_in_order changes.now ≡ true
+    ensures read { (nulls : Bool) → Every (CanBePut nulls) changes.now → are_in_order changes.now ≡ true
         → prepared_in nulls (spell_prepared (record { unit = unit; changes = changes.now })) ≡ Some (record { unit = unit; changes = changes.now }) }
 {
     told_changes(changes);

@@ -35,7 +35,7 @@ use Rattle.salt_stands.specs.FirstOpening.{first_coordinator, first_view}
 use Rattle.salt_stands.specs.Partition.{part_device}
 use Rattle.salt_stands.specs.Pieces.{PartStands}
 use Rattle.salt_stands.specs.Reading.{Reading}
-use Rattle.salt_stands.specs.Stands.{Stands, is_same_kind, is_same_shape, judged, logs_of, nothing_found, of_coordinator}
+use Rattle.salt_stands.specs.Stands.{Stands, is_same_kind, is_same_shape, stands_on, logs_of, nothing_found, of_coordinator}
 use Rattle.salt_place.specs.Placement.{IsParts}
 use Rattle.salt_values.specs.declared.id.Id.{Id}
 use Rattle.salt_place.specs.declared.placement.Shape.{Shape}
@@ -79,7 +79,7 @@ still_blank_image d e n answer keeps known first second blank image left =
     (ap entries_in (second (image 1) (keeps.images 1 (no_part_log n 1 (omega arith)) (image 1) (left 1 (omega (arith, known, keeps.shape.count))))) ∙ blank_b d.bytes blank)
 
 pub blank_image : {D : Type 0} (r : Reading D) (asked : Shape) (d e : View) (n : ℕ) (answer : Option DiskErr) → KeepsBut (IsPartLog n) d e answer → 1 < d.count → IsSettled d 0 → IsSettled d 1
-    → coordinator_pair (logs_of d.bytes) ≡ BothBlank → (image : ℕ → List ℕ) → IsImage e image → judged r image asked ≡ Ok (nothing_found asked)
+    → coordinator_pair (logs_of d.bytes) ≡ BothBlank → (image : ℕ → List ℕ) → IsImage e image → stands_on r image asked ≡ Ok (nothing_found asked)
 blank_image r asked d e n answer keeps known first second blank image left = blank_stands r (logs_of image) image asked (record {
   a = ap entries_in (first (image 0) (keeps.images 0 (no_part_log n 0 (omega arith)) (image 0) (left 0 (omega (arith, known, keeps.shape.count))))) ∙ blank_a d.bytes blank;
   b = ap entries_in (second (image 1) (keeps.images 1 (no_part_log n 1 (omega arith)) (image 1) (left 1 (omega (arith, known, keeps.shape.count))))) ∙ blank_b d.bytes blank;
@@ -117,7 +117,7 @@ module _ {D : Type 0} (r : Reading D) (asked : Shape) (parts : IsParts asked.par
   now : IsTrue e.told
   now = keeps.shape.told ∙ told
 
-  pub begun_image : EachImage e 0 (IsFirstImage asked) → EachImage e 1 IsBlankImage → (image : ℕ → List ℕ) → IsImage e image → judged r image asked ≡ Ok (nothing_found asked)
+  pub begun_image : EachImage e 0 (IsFirstImage asked) → EachImage e 1 IsBlankImage → (image : ℕ → List ℕ) → IsImage e image → stands_on r image asked ≡ Ok (nothing_found asked)
   begun_image first second image left = by (first now (image 0) (left 0 (omega (arith, known, keeps.shape.count))))
     where
       b : logs_of image 1 ≡ Some []
@@ -134,7 +134,7 @@ module _ {D : Type 0} (r : Reading D) (asked : Shape) (parts : IsParts asked.par
         part = part_left image left;
       }
 
-      by : IsFirstImage asked (image 0) → judged r image asked ≡ Ok (nothing_found asked)
+      by : IsFirstImage asked (image 0) → stands_on r image asked ≡ Ok (nothing_found asked)
       by (inl a) = blank_stands r (logs_of image) image asked (record { a = a; b = b })
       by (inr a) = stood_stands r (logs_of image) image asked LogA (first_coordinator asked 3) (first_view 2) (stands a) ∙ ap Ok (made_found r asked 2)
 

@@ -31,7 +31,7 @@ use Rattle.salt_partition.specs.Partitions.{IsPartition, MayPrepare, prepared}
 use Rattle.salt_partition.specs.Reopening.{GoesOn, IsLastIn}
 use Rattle.salt_stands.proofs.Booleans.{left}
 use Rattle.salt_stands.proofs.OpenedPart.{sound_is}
-use Rattle.salt_stands.specs.Commits.{found_after, found_of, parts_of, view_after}
+use Rattle.salt_stands.specs.Commits.{found_after, found_of, partition_count, view_after}
 use Rattle.salt_stands.specs.Coordinator.{Coordinator, decided_for, device_of}
 use Rattle.salt_stands.specs.OpenedPart.{is_fitting_log, is_known_log}
 use Rattle.salt_stands.specs.Partition.{is_sound_log, part_device}
@@ -39,7 +39,7 @@ use Rattle.salt_stands.specs.PartitionLog.{PartitionLog}
 use Rattle.salt_stands.specs.Pieces.{PartView, with_decision, with_prepared_unit}
 use Rattle.salt_stands.specs.Placed.{changes_at}
 use Rattle.salt_stands.specs.Reading.{Reading}
-use Rattle.salt_stands.specs.Stands.{judged}
+use Rattle.salt_stands.specs.Stands.{stands_on}
 use Rattle.salt_place.specs.Placement.{IsParts}
 use Rattle.salt_values.specs.Id.{has_id, is_same_id}
 use Rattle.salt_values.specs.declared.change.Change.{Change}
@@ -100,8 +100,8 @@ last_with u (c ∷ cs) w us some before x at =
 module _ {D : Type 0} (r : Reading D) (d : View) (x : Store) (which : WhichLog) (c : Coordinator D) (v : ℕ → PartView) (is : IsStore r d x which c v)
     (u : Id) (cs : List Change) (mv : List ℕ) (m : Move) (conts : List Cont) (may : MayCommitUnit r c v u cs mv m conts)
     (ss : List (List Change)) (shared : ss ≡ shares_in x cs) where
-  parts : IsParts (parts_of c)
-  parts = parts_known (parts_of c) (ap (λ (s : Shape). is_number_of_parts s.parts) (sym is.decisions.holds.shape) ∙ is.decisions.holds.parts)
+  parts : IsParts (partition_count c)
+  parts = parts_known (partition_count c) (ap (λ (s : Shape). is_number_of_parts s.parts) (sym is.decisions.holds.shape) ∙ is.decisions.holds.parts)
 
   same : ss ≡ shares_of c.log.header.shape cs
   same = shared ∙ ap (λ s. shares_of s cs) is.decisions.holds.shape
@@ -140,7 +140,7 @@ module _ {D : Type 0} (r : Reading D) (d : View) (x : Store) (which : WhichLog) 
     -- each image while the shares are prepared
     pub undecided_image : IsTrue d.told → (b : View) (answer : Option DiskErr) → KeepsBut (IsLogOfShares x.parts.items ss (length x.parts.items)) d b answer
         → ((p : ℕ) → p < length x.parts.items → EachImage b (device_of (part_device p) (v p).which) (IsBeforeOrWith (d.bytes (device_of (part_device p) (v p).which)) (spell_prepared (prepared u (share_at ss p)))))
-        → (asked : Shape) (image : ℕ → List ℕ) → IsImage b image → judged r image asked ≡ Ok (found_of c v)
+        → (asked : Shape) (image : ℕ → List ℕ) → IsImage b image → stands_on r image asked ≡ Ok (found_of c v)
     undecided_image told b answer others images asked image left =
         before_decision r d x which c v is u cs mv m conts may parts hand room told b answer
         (subst (λ l. KeepsBut (IsLogOfShares x.parts.items l (length x.parts.items)) d b answer) same others)
@@ -151,7 +151,7 @@ module _ {D : Type 0} (r : Reading D) (d : View) (x : Store) (which : WhichLog) 
     -- no image names pages, while the shares are prepared or behind it
     pub unnamed : IsTrue d.told → (b e : View) (answer : Option DiskErr) → KeepsBut (IsLogOfShares x.parts.items ss (length x.parts.items)) d b answer
         → ((p : ℕ) → p < length x.parts.items → EachImage b (device_of (part_device p) (v p).which) (IsBeforeOrWith (d.bytes (device_of (part_device p) (v p).which)) (spell_prepared (prepared u (share_at ss p)))))
-        → e.count ≡ d.count → ((dev : ℕ) → 1 < dev → Shrinks b e dev) → (image : ℕ → List ℕ) → IsImage e image → (p dev : ℕ) → p < parts_of c → NamesPages image p dev → ⊥
+        → e.count ≡ d.count → ((dev : ℕ) → 1 < dev → Shrinks b e dev) → (image : ℕ → List ℕ) → IsImage e image → (p dev : ℕ) → p < partition_count c → NamesPages image p dev → ⊥
     unnamed told b e answer others images count there image left =
         prepared_unnamed r d x which c v is told u cs mv m conts may parts hand b e answer
         (subst (λ l. KeepsBut (IsLogOfShares x.parts.items l (length x.parts.items)) d b answer) same others)

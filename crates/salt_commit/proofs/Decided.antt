@@ -23,10 +23,10 @@ use Rattle.salt_stands.proofs.Commits.{found_decided, listed_same, part_same}
 use Rattle.salt_stands.proofs.Coordinators.{decision_stands}
 use Rattle.salt_stands.proofs.Decided.{decided_with, decided_without, prepared_last}
 use Rattle.salt_stands.proofs.Prepared.{decided_stands, prepared_stands, prepared_tables, undecided_stands}
-use Rattle.salt_stands.specs.Commits.{PartSame, Stood, each_tables, found_after, found_of, parts_of, share, view_after}
+use Rattle.salt_stands.specs.Commits.{PartSame, Stood, each_tables, found_after, found_of, partition_count, share, view_after}
 use Rattle.salt_stands.specs.Coordinator.{Coordinator, Logs, decided_for, device_of}
 use Rattle.salt_stands.specs.Partition.{is_sound_log, part_device}
-use Rattle.salt_stands.specs.Pieces.{HasOneMore, IsSameAt, PartStands, PartView, is_prepared_in, other_log, tables_of, with_decision, with_prepared_unit}
+use Rattle.salt_stands.specs.Pieces.{HasOneMore, IsSameAt, PartStands, PartView, is_prepared_in, other_log, tables_at_part, with_decision, with_prepared_unit}
 use Rattle.salt_stands.specs.Reading.{Reading}
 use Rattle.salt_stands.specs.Stands.{found_with, logs_of}
 use Rattle.salt_stands.specs.Words.{has_bit}
@@ -58,22 +58,22 @@ within_list {X = X} xs p x e = by (less_or p (length xs))
         none o a b = cc
 
 module _ {D : Type 0} (r : Reading D) (d : View) (x : Store) (which : WhichLog) (c : Coordinator D) (v : ℕ → PartView) (is : IsStore r d x which c v)
-    (u : Id) (cs : List Change) (mv : List ℕ) (m : Move) (conts : List Cont) (may : MayCommitUnit r c v u cs mv m conts) (parts : IsParts (parts_of c))
+    (u : Id) (cs : List Change) (mv : List ℕ) (m : Move) (conts : List Cont) (may : MayCommitUnit r c v u cs mv m conts) (parts : IsParts (partition_count c))
     (hand : IsInHand u cs mv) (room : c.log.told.decisions + 1 < 2 ^ 64) where
   shares : List (List Change)
   shares = shares_of c.log.header.shape cs
 
-  same_tables : (s : List Change) (p : ℕ) → has_id u (decided_by c p) ≡ false → tables_of c p (with_share u s (v p)) ≡ tables_of c p (v p)
+  same_tables : (s : List Change) (p : ℕ) → has_id u (decided_by c p) ≡ false → tables_at_part c p (with_share u s (v p)) ≡ tables_at_part c p (v p)
   same_tables [] p e = refl
   same_tables (ch ∷ chs) p e = prepared_tables r c p (v p) (prepared u (ch ∷ chs)) e
 
   -- PREPARED SHARES change nothing of what stands
   pub found_prepared : found_of c (with_shares u (shares_of c.log.header.shape cs) v) ≡ found_of c v
-  found_prepared = ap (found_with c) (listed_same (each_tables c (with_shares u (shares_of c.log.header.shape cs) v)) (each_tables c v) 0 (parts_of c)
+  found_prepared = ap (found_with c) (listed_same (each_tables c (with_shares u (shares_of c.log.header.shape cs) v)) (each_tables c v) 0 (partition_count c)
       (λ p low. same_tables (share_at (shares_of c.log.header.shape cs) p) p (may.new p (omega (arith, low)))))
 
   -- each partition is as the unit's commit makes it
-  pub views_after : (p : ℕ) → p < parts_of c → with_shares u (shares_of c.log.header.shape cs) v p ≡ view_after c v cs (next_decision c u cs mv) p
+  pub views_after : (p : ℕ) → p < partition_count c → with_shares u (shares_of c.log.header.shape cs) v p ≡ view_after c v cs (next_decision c u cs mv) p
   views_after p low =
       ap (λ s. if has_changes (share_at (shares_of c.log.header.shape cs) p) then with_prepared_unit (v p) (prepared u s) else v p) (share_is c.log.header.shape cs p low)
       ∙ ap (λ b. if b then with_prepared_unit (v p) (share c u cs p) else v p) (sym (mask_bit (shares_of c.log.header.shape cs) p))
@@ -81,14 +81,14 @@ module _ {D : Type 0} (r : Reading D) (d : View) (x : Store) (which : WhichLog) 
   pub found_with_unit : IsTrue d.told → found_of (with_decision c (next_decision c u cs mv) conts) (with_shares u (shares_of c.log.header.shape cs) v) ≡ found_after c v cs (next_decision c u cs mv) conts
   found_with_unit told =
       let now = with_decision c (next_decision c u cs mv) conts in
-      ap (found_with now) (listed_same (each_tables now (with_shares u (shares_of c.log.header.shape cs) v)) (each_tables now (view_after c v cs (next_decision c u cs mv))) 0 (parts_of c)
-      (λ p low. ap (tables_of now p) (views_after p (omega (arith, low)))))
+      ap (found_with now) (listed_same (each_tables now (with_shares u (shares_of c.log.header.shape cs) v)) (each_tables now (view_after c v cs (next_decision c u cs mv))) 0 (partition_count c)
+      (λ p low. ap (tables_at_part now p) (views_after p (omega (arith, low)))))
       ∙ found_decided r c v which cs (next_decision c u cs mv) m conts (spell_entry (Decides (next_decision c u cs mv))) (λ p. spell_prepared (prepared u (share_at (shares_of c.log.header.shape cs) p)))
       (may_commit r d x which c v is u cs mv m conts may parts hand) (spelled r d x which c v is u cs mv m conts may parts hand room)
       (logs_of d.bytes) (logs_of d.bytes) d.bytes d.bytes (stood r d x which c v is told) (pages_same r d x which c v is told d.bytes)
 
   -- a log with its share is sound
-  pub sound_share : IsTrue d.told → (p : ℕ) → p < parts_of c → is_sound_log r c p (with_shares u (shares_of c.log.header.shape cs) v p).log ≡ true
+  pub sound_share : IsTrue d.told → (p : ℕ) → p < partition_count c → is_sound_log r c p (with_shares u (shares_of c.log.header.shape cs) v p).log ≡ true
   sound_share told p low = by (share_at (shares_of c.log.header.shape cs) p) refl
     where
       own : PartStands r c (logs_of d.bytes) d.bytes p (v p)
@@ -152,7 +152,7 @@ module _ {D : Type 0} (r : Reading D) (d : View) (x : Store) (which : WhichLog) 
   -- THE DECISION
   module _ (b : View) (y : Store) (is' : IsStore r b y which c (with_shares u (shares_of c.log.header.shape cs) v)) where
     makes_decision : IsTrue b.told → (logs : Logs) → HasOneMore (logs_of b.bytes) logs (device_of 0 which) (spell_entry (Decides (next_decision c u cs mv))) → IsSameAt (device_of 0 (other_log which)) (logs_of b.bytes) logs
-        → ((p : ℕ) → p < parts_of c → PartSame (logs_of b.bytes) logs p) → Stood r logs b.bytes which (with_decision c (next_decision c u cs mv) conts) (with_shares u (shares_of c.log.header.shape cs) v)
+        → ((p : ℕ) → p < partition_count c → PartSame (logs_of b.bytes) logs p) → Stood r logs b.bytes which (with_decision c (next_decision c u cs mv) conts) (with_shares u (shares_of c.log.header.shape cs) v)
     makes_decision told logs one other same = record {
       coordinator = decision_stands r (logs_of b.bytes) logs which c (spell_entry (Decides (next_decision c u cs mv))) (next_decision c u cs mv) m conts now.coordinator one other
           (decision_reads r d x which c v is u cs mv m conts may parts hand room) refl may.boot may.spells may.moves may.named;
@@ -162,10 +162,10 @@ module _ {D : Type 0} (r : Reading D) (d : View) (x : Store) (which : WhichLog) 
         now : Stood r (logs_of b.bytes) b.bytes which c (with_shares u (shares_of c.log.header.shape cs) v)
         now = stood r b y which c (with_shares u (shares_of c.log.header.shape cs) v) is' told
 
-        kept : (p : ℕ) → p < parts_of c → PartStands r c logs b.bytes p (with_shares u (shares_of c.log.header.shape cs) v p)
+        kept : (p : ℕ) → p < partition_count c → PartStands r c logs b.bytes p (with_shares u (shares_of c.log.header.shape cs) v p)
         kept p low = part_same r c (logs_of b.bytes) logs b.bytes p (with_shares u (shares_of c.log.header.shape cs) v p) (now.part p low) (same p low)
 
-        each : (p : ℕ) → p < parts_of c → (bit : Bool) → has_bit (next_decision c u cs mv).mask p ≡ bit → PartStands r (with_decision c (next_decision c u cs mv) conts) logs b.bytes p (with_shares u (shares_of c.log.header.shape cs) v p)
+        each : (p : ℕ) → p < partition_count c → (bit : Bool) → has_bit (next_decision c u cs mv).mask p ≡ bit → PartStands r (with_decision c (next_decision c u cs mv) conts) logs b.bytes p (with_shares u (shares_of c.log.header.shape cs) v p)
         each p low true bit = decided_stands r c logs b.bytes p (with_shares u (shares_of c.log.header.shape cs) v p) (next_decision c u cs mv) conts (kept p low) bit
             (share_there u (share_at (shares_of c.log.header.shape cs) p) (v p) (sym (mask_bit (shares_of c.log.header.shape cs) p) ∙ bit))
         each p low false bit = undecided_stands r c logs b.bytes p (with_shares u (shares_of c.log.header.shape cs) v p) (next_decision c u cs mv) conts (kept p low) bit
@@ -203,7 +203,7 @@ module _ {D : Type 0} (r : Reading D) (d : View) (x : Store) (which : WhichLog) 
 
         each : (p : ℕ) (q : Partition) → slice_get z.parts.items p ≡ Some q → IsPartition f q p (view_after c v cs (next_decision c u cs mv) p) (decided_for p (c.log.told.decided ++ next_decision c u cs mv ∷ []))
         each p q e =
-            let low : p < parts_of c = omega (arith, within_list z.parts.items p q e, size, is'.size) in
+            let low : p < partition_count c = omega (arith, within_list z.parts.items p q e, size, is'.size) in
             subst (λ us. IsPartition f q p (view_after c v cs (next_decision c u cs mv) p) us) (applied_now p)
             (subst (λ w. IsPartition f q p w (applied_with_shares u (shares_of c.log.header.shape cs) (decided_by c) p)) (views_after p low)
             (if_some (slice_get z.parts.items p) q (λ k. IsPartition f k p (with_shares u (shares_of c.log.header.shape cs) v p) (applied_with_shares u (shares_of c.log.header.shape cs) (decided_by c) p)) e (are.each p)))

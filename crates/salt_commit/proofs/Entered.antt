@@ -8,17 +8,17 @@ use Rattle.salt_commit.specs.declared.store.Store.{Store}
 use Rattle.salt_decisions.specs.Decisions.{IsBeforeOrWith, IsDecisions, booted, defined, device_in, next_definition}
 use Rattle.salt_disk.specs.Disks.{EachImage, KeepsOthers, View}
 use Rattle.salt_disk.specs.declared.disks.DiskErr.{DiskErr}
-use Rattle.salt_stands.specs.Commits.{found_of, parts_of}
+use Rattle.salt_stands.specs.Commits.{found_of, partition_count}
 use Rattle.salt_stands.specs.Coordinator.{Coordinator, device_of}
-use Rattle.salt_stands.specs.Pieces.{Grows, PartView, with_boot, with_definition}
+use Rattle.salt_stands.specs.Pieces.{StaysFitting, PartView, with_boot, with_definition}
 use Rattle.salt_stands.specs.Reading.{Reading}
 use Rattle.std.proofs.Common.{IsTrue, List, None, Option, Some, ap, refl, subst, sym, ℕ, ◌+◌, ◌<◌, ◌^◌, ◌≡◌, ◌∙◌}
 
 module _ {D : Type 0} (r : Reading D) (d e : View) (x : Store) (which : WhichLog) (c : Coordinator D) (v : ℕ → PartView) (is : IsStore r d x which c v) where
   -- A BOOT
   module _ (room : last_boot x + 1 < 2 ^ 64) where
-    boot_spelled : entry_in (parts_of c) (spell_entry (Boots (last_boot x + 1))) ≡ Some (Boots (c.log.told.boot + 1))
-    boot_spelled = reads_entry (parts_of c) (Boots (last_boot x + 1)) room ∙ ap (λ n. Some (Boots (n + 1))) is.decisions.holds.boot
+    boot_spelled : entry_in (partition_count c) (spell_entry (Boots (last_boot x + 1))) ≡ Some (Boots (c.log.told.boot + 1))
+    boot_spelled = reads_entry (partition_count c) (Boots (last_boot x + 1)) room ∙ ap (λ n. Some (Boots (n + 1))) is.decisions.holds.boot
 
     pub boot_images : (answer : Option DiskErr) → KeepsOthers (device_in x.decisions) d e answer → IsTrue d.told
         → EachImage e (device_of 0 which) (IsBeforeOrWith (d.bytes (device_of 0 which)) (spell_entry (Boots (last_boot x + 1)))) → StandForEither r e (found_of c v) (found_of (with_boot c) v)
@@ -32,16 +32,16 @@ module _ {D : Type 0} (r : Reading D) (d e : View) (x : Store) (which : WhichLog
         (λ told. makes_boot r d x which c v is told (spell_entry (Boots (last_boot x + 1))) boot_spelled) keeps parts decisions
 
   -- A DEFINITION
-  module _ (text : List ℕ) (def : D) (room : last_decision x + 1 < 2 ^ 64) (short : Rattle.std.proofs.Common.length text < 2 ^ 64) (may : MayDefine r c text def) (grows : Grows r c.definitions def) where
+  module _ (text : List ℕ) (def : D) (room : last_decision x + 1 < 2 ^ 64) (short : Rattle.std.proofs.Common.length text < 2 ^ 64) (may : MayDefine r c text def) (grows : StaysFitting r c.definitions def) where
     payload : List ℕ
     payload = spell_entry (Defines (next_definition x.decisions text))
 
     same_text : next_definition x.decisions text ≡ next_text c text
     same_text = ap (λ n. record { number = n + 1; text = text }) is.decisions.holds.decisions
 
-    text_spelled : entry_in (parts_of c) payload ≡ Some (Defines (next_text c text))
+    text_spelled : entry_in (partition_count c) payload ≡ Some (Defines (next_text c text))
     unfolding payload
-    text_spelled = reads_entry (parts_of c) (Defines (next_definition x.decisions text)) (record { number = room; text = short }) ∙ ap (λ t. Some (Defines t)) same_text
+    text_spelled = reads_entry (partition_count c) (Defines (next_definition x.decisions text)) (record { number = room; text = short }) ∙ ap (λ t. Some (Defines t)) same_text
 
     pub definition_images : (answer : Option DiskErr) → KeepsOthers (device_in x.decisions) d e answer → IsTrue d.told
         → EachImage e (device_of 0 which) (IsBeforeOrWith (d.bytes (device_of 0 which)) (spell_entry (Defines (next_definition x.decisions text))))

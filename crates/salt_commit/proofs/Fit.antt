@@ -5,7 +5,7 @@ use Rattle.salt_ast.specs.declared.trees.Field.{Field}
 use Rattle.salt_ast.specs.declared.trees.TableDef.{TableDef}
 use Rattle.salt_commit.specs.Openings.{HasTables}
 use Rattle.salt_commit.specs.Stores.{reading}
-use Rattle.salt_stands.specs.Fitting.{are_of_columns, is_key_of, is_of_column, is_row_of, passes_checks, tables_of}
+use Rattle.salt_stands.specs.Fitting.{are_of_columns, is_key_of, is_of_column, is_row_of, passes_checks, tables_defined}
 use Rattle.salt_eval.specs.Meets as eval
 use Rattle.salt_eval.specs.Meets.{meets_found, meets_table}
 use Rattle.salt_model.specs.Kept.{Definition}
@@ -55,7 +55,7 @@ lower : (a b : ℕ) → a < b → nat_lt a b ≡ true
 lower a b h = grind (arith, nat_tests)
 
 module _ (schema : List TableDef) (shape : Shape) (c : Coordinator Definition) (has : HasTables schema shape c) where
-  table_at : (table : ℕ) → slice_get (tables_of c.definitions) table ≡ slice_get schema table
+  table_at : (table : ℕ) → slice_get (tables_defined c.definitions) table ≡ slice_get schema table
   table_at table = ap (λ (ds : List TableDef). slice_get ds table) has.tables
 
   pub row_fits : (table : ℕ) (row : List Value) → meets_table schema table row ≡ reading.fits_row c.definitions table row

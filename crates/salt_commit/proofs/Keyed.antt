@@ -8,7 +8,7 @@ use Rattle.salt_eval.specs.Scans.{IsKeyed}
 use Rattle.salt_model.specs.Tables.{Tables, row_at}
 use Rattle.salt_partition.proofs.Keyed.{part_keyed}
 use Rattle.salt_stands.proofs.Places.{or_row, row_at_entries}
-use Rattle.salt_stands.specs.Commits.{each_tables, found_of, parts_of}
+use Rattle.salt_stands.specs.Commits.{each_tables, found_of, partition_count}
 use Rattle.salt_stands.specs.Coordinator.{Coordinator}
 use Rattle.salt_stands.specs.Pieces.{PartView, listed}
 use Rattle.salt_stands.specs.Reading.{Reading}
@@ -29,9 +29,9 @@ joined_keyed T p (suc n) h q = subst (λ o. IfSome o (λ row. key_of row ≡ q.k
     (keyed_or (row_at q (T p)) (row_at q (joined (listed T (suc p) n))) q.key (h p (omega arith) q) (joined_keyed T (suc p) n (λ k low. h k (omega (arith, low))) q))
 
 pub store_keyed : {D : Type 0} (r : Reading D) (d : View) (x : Store) (which : WhichLog) (c : Coordinator D) (v : ℕ → PartView) → IsStore r d x which c v → IsKeyed (found_of c v).kept.tables
-store_keyed r d x which c v is = joined_keyed (each_tables c v) 0 (parts_of c) each
+store_keyed r d x which c v is = joined_keyed (each_tables c v) 0 (partition_count c) each
   where
-    each : (k : ℕ) → k < 0 + parts_of c → IsKeyed (each_tables c v k)
+    each : (k : ℕ) → k < 0 + partition_count c → IsKeyed (each_tables c v k)
     each k low =
         let one = part_at d x.parts.items v (decided_by c) is.parts k (omega (arith, low, is.size)) in
         part_keyed d one.0 k (v k) (decided_by c k) one.1

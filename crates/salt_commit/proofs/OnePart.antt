@@ -18,7 +18,7 @@ use Rattle.salt_ranges.specs.Ranges.{has_key}
 use Rattle.salt_ranges.specs.declared.range.KeyRange.{KeyRange}
 use Rattle.salt_stands.proofs.Booleans.{left, right}
 use Rattle.salt_stands.proofs.Places.{or_row, row_at_entries}
-use Rattle.salt_stands.specs.Commits.{each_tables, found_of, parts_of}
+use Rattle.salt_stands.specs.Commits.{each_tables, found_of, partition_count}
 use Rattle.salt_stands.specs.Coordinator.{Coordinator}
 use Rattle.salt_stands.specs.Partition.{part_of_key}
 use Rattle.salt_stands.specs.Pieces.{PartView, listed}
@@ -105,6 +105,6 @@ module _ (d : View) (x : Store) (s : StandsInPlace d x) (which : WhichLog) (c : 
       ap (λ (k : Shape). part_of_key k q.key) (sym same_shape)
       ∙ s.placed p (omega (arith, low, is.size, s.is.size)) q row (ap (find place_cmp q) (sym first ∙ own) ∙ found)
 
-  pub next_of_store : (t : ℕ) (range : KeyRange) (after : Option Value) (p : ℕ) → p < parts_of c → ((key : Value) (k : ℕ) → k < parts_of c → has_key range key ≡ true → part_of_key c.log.header.shape key ≡ k → k ≡ p)
+  pub next_of_store : (t : ℕ) (range : KeyRange) (after : Option Value) (p : ℕ) → p < partition_count c → ((key : Value) (k : ℕ) → k < partition_count c → has_key range key ≡ true → part_of_key c.log.header.shape key ≡ k → k ≡ p)
       → next_row t range after (each_tables c v p) ≡ next_row t range after (found_of c v).kept.tables
-  next_of_store t range after p low alone = next_of_one t range after c.log.header.shape (each_tables c v) (parts_of c) p low each_placed alone
+  next_of_store t range after p low alone = next_of_one t range after c.log.header.shape (each_tables c v) (partition_count c) p low each_placed alone

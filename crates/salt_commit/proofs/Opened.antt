@@ -27,7 +27,7 @@ use Rattle.salt_stands.specs.Coordinator.{Coordinator, Logs, decided_for, device
 use Rattle.salt_stands.specs.OpenedPart.{fits_definitions, is_fitting_log, is_known_log}
 use Rattle.salt_stands.specs.Partition.{is_format_under, is_sound_log, judge_part, pages_device, part_at, part_device, part_pair, part_tables, rows_of_pages}
 use Rattle.salt_stands.specs.PartitionLog.{PartitionLog}
-use Rattle.salt_stands.specs.Pieces.{PartStands, PartView, tables_of}
+use Rattle.salt_stands.specs.Pieces.{PartStands, PartView, tables_at_part}
 use Rattle.salt_stands.specs.Stands.{logs_of}
 use Rattle.salt_stands.specs.Words.{if_sound, or_fault}
 use Rattle.salt_place.specs.declared.placement.Shape.{Shape}
@@ -144,7 +144,7 @@ module _ (d0 d : View) (schema : List TableDef) (shape : Shape) (kept : Kept) (o
   first_fault c k has told parts low (NotSalt dev) h = record {
     p = n;
     low = low;
-    before = λ q below. let all = so_far.all c k in (tables_of c q (all.view q), part_is_at reading c (logs_of d0.bytes) d0.bytes q (all.view q) (all.stand told has q below));
+    before = λ q below. let all = so_far.all c k in (tables_at_part c q (all.view q), part_is_at reading c (logs_of d0.bytes) d0.bytes q (all.view q) (all.stand told has q below));
     fault = subst (λ (bytes : ℕ → List ℕ). IsPartFault c bytes n dev) (same_bytes d0 d so_far.keeps) h;
   }
   first_fault c k has told parts low (OtherShape kept asked) h = h

@@ -24,12 +24,12 @@ use Rattle.salt_model.specs.Kept.{Definition}
 use Rattle.salt_model.specs.Tables.{Tables}
 use Rattle.salt_stands.proofs.Assembled.{part_is_at}
 use Rattle.salt_stands.proofs.Booleans.{left, right}
-use Rattle.salt_stands.specs.Commits.{found_of, parts_of}
-use Rattle.salt_stands.specs.Coordinator.{Coordinator, are_sound, coordinator_at, coordinator_of, coordinator_pair, defined_by, device_of, is_sound_cont, is_sound_decision, judge_coordinator}
+use Rattle.salt_stands.specs.Commits.{found_of, partition_count}
+use Rattle.salt_stands.specs.Coordinator.{Coordinator, are_sound, coordinator_at, coordinator_of, coordinator_pair, definitions_read, device_of, is_sound_cont, is_sound_decision, judge_coordinator}
 use Rattle.salt_stands.specs.CoordinatorLog.{CoordinatorLog}
 use Rattle.salt_stands.specs.OpenConts.{do_rise, moved}
 use Rattle.salt_stands.specs.Partition.{part_at, part_pair}
-use Rattle.salt_stands.specs.Pieces.{IsCoordinator, PartStands, listed, other_log, tables_of}
+use Rattle.salt_stands.specs.Pieces.{IsCoordinator, PartStands, listed, other_log, tables_at_part}
 use Rattle.salt_stands.specs.Stands as opening
 use Rattle.salt_stands.specs.Stands.{Opening, Stands, are_spent, is_same_kind, is_same_shape, logs_of, of_coordinator, of_parts, opening_of, parts_at}
 use Rattle.salt_stands.specs.Words.{each_from, if_sound, or_fault}
@@ -65,26 +65,26 @@ pub record IsOfLog (c : Coordinator Definition) (log : CoordinatorLog) : Type 0 
   pub is : IsCoordinator reading c
 
 pub of_log : (log : CoordinatorLog) (c : Coordinator Definition) → coordinator_of reading log ≡ Some c → IsOfLog c log
-of_log log c e = by (defined_by reading (Some []) log.told.definitions) (moved log.header.format (Some log.header.conts) log.told.decided) refl refl e
+of_log log c e = by (definitions_read reading (Some []) log.told.definitions) (moved log.header.format (Some log.header.conts) log.told.decided) refl refl e
   where
     made : List Definition → List Cont → Coordinator Definition
     made ds cs = record { log = log; definitions = ds; conts = cs }
 
-    facts : (ds : List Definition) (cs : List Cont) → defined_by reading (Some []) log.told.definitions ≡ Some ds → moved log.header.format (Some log.header.conts) log.told.decided ≡ Some cs → are_sound reading log ds ≡ true → IsCoordinator reading (record { log = log; definitions = ds; conts = cs })
+    facts : (ds : List Definition) (cs : List Cont) → definitions_read reading (Some []) log.told.definitions ≡ Some ds → moved log.header.format (Some log.header.conts) log.told.decided ≡ Some cs → are_sound reading log ds ≡ true → IsCoordinator reading (record { log = log; definitions = ds; conts = cs })
     facts ds cs is moves sound =
         let named = list_all (is_sound_cont reading ds log.told) log.header.conts in
         let decided = list_all (is_sound_decision reading ds log.told log.header.format) log.told.decided in
         let rest = right (do_rise log.header.conts) (named && decided) sound in
         record { defined = is; moves = moves; rise = left (do_rise log.header.conts) (named && decided) sound; named = left named decided rest; decided = right named decided rest }
 
-    with_sound : (ds : List Definition) (cs : List Cont) (b : Bool) → defined_by reading (Some []) log.told.definitions ≡ Some ds → moved log.header.format (Some log.header.conts) log.told.decided ≡ Some cs → are_sound reading log ds ≡ b
+    with_sound : (ds : List Definition) (cs : List Cont) (b : Bool) → definitions_read reading (Some []) log.told.definitions ≡ Some ds → moved log.header.format (Some log.header.conts) log.told.decided ≡ Some cs → are_sound reading log ds ≡ b
         → then_some b (record { log = log; definitions = ds; conts = cs }) ≡ Some c → IsOfLog c log
     with_sound ds cs false is moves sound e' = absurd (cc e')
     with_sound ds cs true is moves sound e' =
         let same : record { log = log; definitions = ds; conts = cs } ≡ c = cc e' in
         subst (λ (k : Coordinator Definition). IsOfLog k log) same (record { log_is = refl; is = facts ds cs is moves sound })
 
-    by : (o : Option (List Definition)) (m : Option (List Cont)) → defined_by reading (Some []) log.told.definitions ≡ o → moved log.header.format (Some log.header.conts) log.told.decided ≡ m
+    by : (o : Option (List Definition)) (m : Option (List Cont)) → definitions_read reading (Some []) log.told.definitions ≡ o → moved log.header.format (Some log.header.conts) log.told.decided ≡ m
         → option_and_then (λ ds. option_and_then (λ cs. then_some (are_sound reading log ds) (record { log = log; definitions = ds; conts = cs })) m) o ≡ Some c → IsOfLog c log
     by None m is moves e' = absurd (cc e')
     by (Some ds) None is moves e' = absurd (cc e')
@@ -150,7 +150,7 @@ pub record Whose (told : Bool) (schema : List TableDef) (log : CoordinatorLog) :
   pub c : Coordinator Definition
   pub log_is : c.log ≡ log
   pub reads : IsTrue told → coordinator_of reading log ≡ Some c
-  pub tables : IsTrue told → Rattle.salt_stands.specs.Fitting.tables_of c.definitions ≡ schema
+  pub tables : IsTrue told → Rattle.salt_stands.specs.Fitting.tables_defined c.definitions ≡ schema
 
 pub whose : (told : Bool) (schema : List TableDef) (log : CoordinatorLog) → (IsTrue told → IsSchemaOf schema log) → Whose told schema log
 whose false schema log h = record { c = record { log = log; definitions = []; conts = [] }; log_is = refl; reads = λ t. absurd (cc t); tables = λ t. absurd (cc t) }
@@ -231,8 +231,8 @@ module _ (schema : List TableDef) (asked : Shape) (d b : View) (some : IsTrue d.
       has_shape = same_shape_is own.c.log.header.shape asked own_shape;
       unspent = own_unspent;
       nulls = λ p low. all.nulls p (within p low);
-      finds = λ told. parts_answer d.bytes asked own.c (own_at told) own_shape own_unspent (Ok (listed (λ p. tables_of own.c p (all.view p)) 0 (parts_of own.c)))
-          (each_listed (part_at reading own.c (logs_of d.bytes) d.bytes) (λ p. tables_of own.c p (all.view p)) 0 (parts_of own.c) (λ p low. part_is_at reading own.c (logs_of d.bytes) d.bytes (0 + p) (all.view (0 + p))
+      finds = λ told. parts_answer d.bytes asked own.c (own_at told) own_shape own_unspent (Ok (listed (λ p. tables_at_part own.c p (all.view p)) 0 (partition_count own.c)))
+          (each_listed (part_at reading own.c (logs_of d.bytes) d.bytes) (λ p. tables_at_part own.c p (all.view p)) 0 (partition_count own.c) (λ p low. part_is_at reading own.c (logs_of d.bytes) d.bytes (0 + p) (all.view (0 + p))
           (subst (λ (bytes : ℕ → List ℕ). PartStands reading own.c (logs_of bytes) bytes (0 + p) (all.view (0 + p))) (bytes_stay told) (all.stand (same_told ∙ told) (own_has told) (0 + p) (within (0 + p) (omega (arith, low)))))));
       no_pages = λ told dev leaves.
           let x' = standing.part_at e s.parts.items all.view (decided_by own.c) all.are leaves.p (omega (arith, leaves.low, all.size)) in
@@ -244,7 +244,7 @@ module _ (schema : List TableDef) (asked : Shape) (d b : View) (some : IsTrue d.
         before : IsTrue e.told → IsTrue d.told
         before now = sym same_told ∙ (sym keeps.shape.told ∙ now)
 
-        within : (p : ℕ) → p < parts_of own.c → p < asked.parts
+        within : (p : ℕ) → p < partition_count own.c → p < asked.parts
         within p low = let same = ap (λ (t : Shape). t.parts) (same_shape_is own.c.log.header.shape asked own_shape) in omega (arith, low, same)
 
 -- THE COORDINATOR is refused

@@ -21,7 +21,7 @@ use Rattle.salt_partition.specs.Partitions.{IsPartition, prepared}
 use Rattle.salt_partition.specs.declared.partition.Partition.{Partition}
 use Rattle.salt_stands.proofs.Commits.{part_same}
 use Rattle.salt_stands.proofs.Prepared.{prepared_stands}
-use Rattle.salt_stands.specs.Commits.{PartSame, parts_of, share}
+use Rattle.salt_stands.specs.Commits.{PartSame, partition_count, share}
 use Rattle.salt_stands.specs.Coordinator.{Coordinator, device_of}
 use Rattle.salt_stands.specs.Partition.{part_device, part_pair}
 use Rattle.salt_stands.specs.PartitionLog.{PartitionLog}
@@ -65,20 +65,20 @@ both_same p old new LogA one two = record { a = one; b = two }
 both_same p old new LogB one two = record { a = two; b = one }
 
 module _ {D : Type 0} (r : Reading D) (d : View) (x : Store) (which : WhichLog) (c : Coordinator D) (v : ℕ → PartView) (is : IsStore r d x which c v) (told : IsTrue d.told) where
-  own : (p : ℕ) → p < parts_of c → PartStands r c (logs_of d.bytes) d.bytes p (v p)
+  own : (p : ℕ) → p < partition_count c → PartStands r c (logs_of d.bytes) d.bytes p (v p)
   own p low = (stood r d x which c v is told).part p low
 
-  partition : (p : ℕ) → p < parts_of c → (q : Partition) × IsPartition d q p (v p) (decided_by c p)
+  partition : (p : ℕ) → p < partition_count c → (q : Partition) × IsPartition d q p (v p) (decided_by c p)
   partition p low = part_at d x.parts.items v (decided_by c) is.parts p (omega (arith, low, is.size))
 
-  settled : (p : ℕ) → p < parts_of c → (w : WhichLog) → IsSettled d (device_of (part_device p) w)
+  settled : (p : ℕ) → p < partition_count c → (w : WhichLog) → IsSettled d (device_of (part_device p) w)
   settled p low w =
       let q = partition p low in
       let s = logs_settled d q.0 p (v p) (decided_by c p) q.1 in
       one_settled d (part_device p) w s.0 s.1
 
   -- both logs are as they were
-  unnamed_as_before : (image : ℕ → List ℕ) (p : ℕ) → p < parts_of c
+  unnamed_as_before : (image : ℕ → List ℕ) (p : ℕ) → p < partition_count c
       → IsSameAt (device_of (part_device p) (v p).which) (logs_of d.bytes) (logs_of image) → IsSameAt (device_of (part_device p) (other_log (v p).which)) (logs_of d.bytes) (logs_of image)
       → (dev : ℕ) → NamesPages image p dev → ⊥
   unnamed_as_before image p low one other dev names =
@@ -87,7 +87,7 @@ module _ {D : Type 0} (r : Reading D) (d : View) (x : Store) (which : WhichLog) 
       (no_pages r d x which c v is p low) names
 
   -- WHERE NOTHING IS WRITTEN
-  pub unwritten_unnamed : (image : ℕ → List ℕ) → IsImage d image → (p dev : ℕ) → p < parts_of c → NamesPages image p dev → ⊥
+  pub unwritten_unnamed : (image : ℕ → List ℕ) → IsImage d image → (p dev : ℕ) → p < partition_count c → NamesPages image p dev → ⊥
   unwritten_unnamed image left p dev low names = unnamed_as_before image p low (there (v p).which) (there (other_log (v p).which)) dev names
     where
       there : (w : WhichLog) → IsSameAt (device_of (part_device p) w) (logs_of d.bytes) (logs_of image)
@@ -96,11 +96,11 @@ module _ {D : Type 0} (r : Reading D) (d : View) (x : Store) (which : WhichLog) 
           ap entries_in (settled p low w (image k) (left k (one_known w p d.count (partition p low).1.known)))
 
   -- WHERE SHARES ARE PREPARED
-  module _ (u : Id) (cs : List Change) (mv : List ℕ) (m : Move) (conts : List Cont) (may : MayCommitUnit r c v u cs mv m conts) (parts : IsParts (parts_of c)) (hand : IsInHand u cs mv) where
+  module _ (u : Id) (cs : List Change) (mv : List ℕ) (m : Move) (conts : List Cont) (may : MayCommitUnit r c v u cs mv m conts) (parts : IsParts (partition_count c)) (hand : IsInHand u cs mv) where
     abbrev payload : ℕ → List ℕ
     payload p = spell_prepared (prepared u (share_at (shares_of c.log.header.shape cs) p))
 
-    unnamed_with : (image : ℕ → List ℕ) (p : ℕ) → p < parts_of c → IsSameAt (device_of (part_device p) (other_log (v p).which)) (logs_of d.bytes) (logs_of image)
+    unnamed_with : (image : ℕ → List ℕ) (p : ℕ) → p < partition_count c → IsSameAt (device_of (part_device p) (other_log (v p).which)) (logs_of d.bytes) (logs_of image)
         → IsBeforeOrWith (d.bytes (device_of (part_device p) (v p).which)) (payload p) (image (device_of (part_device p) (v p).which))
         → (dev : ℕ) → NamesPages image p dev → ⊥
     unnamed_with image p low other (inl same) dev names = unnamed_as_before image p low same other dev names
@@ -114,7 +114,7 @@ module _ {D : Type 0} (r : Reading D) (d : View) (x : Store) (which : WhichLog) 
     module _ (b e : View) (answer : Option DiskErr) (others : KeepsBut (IsLogOfShares x.parts.items (shares_of c.log.header.shape cs) (length x.parts.items)) d b answer)
         (images : (p : ℕ) → p < length x.parts.items → EachImage b (device_of (part_device p) (v p).which) (IsBeforeOrWith (d.bytes (device_of (part_device p) (v p).which)) (payload p)))
         (count : e.count ≡ d.count) (left_there : (dev : ℕ) → 1 < dev → Shrinks b e dev) where
-      pub prepared_unnamed : (image : ℕ → List ℕ) → IsImage e image → (p dev : ℕ) → p < parts_of c → NamesPages image p dev → ⊥
+      pub prepared_unnamed : (image : ℕ → List ℕ) → IsImage e image → (p dev : ℕ) → p < partition_count c → NamesPages image p dev → ⊥
       prepared_unnamed image left p dev low names = unnamed_with image p low (ap entries_in other_bytes) (images p (omega (arith, low, is.size)) (others.shape.told ∙ told) (image (device_of (part_device p) (v p).which)) (in_b (v p).which)) dev names
         where
           in_b : (w : WhichLog) → b.image (device_of (part_device p) w) (image (device_of (part_device p) w))

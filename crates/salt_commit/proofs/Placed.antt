@@ -9,7 +9,7 @@ use Rattle.salt_commit.proofs.Standing.{if_some, stood}
 use Rattle.salt_commit.specs.Loads.{AreInPlace, IsRowAt, fits_place}
 use Rattle.salt_commit.specs.Stores.{IsStore, decided_by, reading}
 use Rattle.salt_commit.specs.declared.store.Store.{Store}
-use Rattle.salt_stands.specs.Fitting.{tables_of}
+use Rattle.salt_stands.specs.Fitting.{tables_defined}
 use Rattle.salt_disk.specs.Disks.{View}
 use Rattle.salt_eval.proofs.InOrder.{less_is, parted}
 use Rattle.salt_eval.specs.Meets.{meets_table}
@@ -22,7 +22,7 @@ use Rattle.salt_partition.specs.declared.partition.Partition.{Partition}
 use Rattle.salt_stands.proofs.Booleans.{join, left, right}
 use Rattle.salt_stands.proofs.Places.{equal_is, or_row, place_same, row_at_entries}
 use Rattle.salt_stands.proofs.PlacedParts.{placed_part}
-use Rattle.salt_stands.specs.Commits.{each_tables, found_of, parts_of}
+use Rattle.salt_stands.specs.Commits.{each_tables, found_of, partition_count}
 use Rattle.salt_stands.specs.Coordinator.{Coordinator}
 use Rattle.salt_stands.specs.Partition.{part_of_key}
 use Rattle.salt_stands.specs.Pieces.{PartView, listed}
@@ -122,8 +122,8 @@ module _ (schema : List TableDef) (d : View) (x : Store) (which : WhichLog) (c :
   rows_are p q at = (if_some (slice_get x.parts.items p) q (λ y. IsPartition d y p (v p) (decided_by c p)) at (is.parts.each p)).rows
 
   -- WHERE EACH FITS
-  module _ (shape : Shape) (same : shape ≡ c.log.header.shape) (all : FitBelow schema shape x.parts.items (parts_of c)) where
-    each_fits : (p : ℕ) → p < parts_of c → Have (λ q row. fits_place schema shape p (q, row) ≡ true) (each_tables c v p)
+  module _ (shape : Shape) (same : shape ≡ c.log.header.shape) (all : FitBelow schema shape x.parts.items (partition_count c)) where
+    each_fits : (p : ℕ) → p < partition_count c → Have (λ q row. fits_place schema shape p (q, row) ≡ true) (each_tables c v p)
     each_fits p low =
         let one = some_at x.parts.items p (omega (arith, low, is.size)) in
         let fit : list_all (fits_place schema shape p) one.0.rows.entries ≡ true = if_some (slice_get x.parts.items p) one.0 (λ y. list_all (fits_place schema shape p) y.rows.entries ≡ true) one.1 (all p low) in
@@ -131,7 +131,7 @@ module _ (schema : List TableDef) (d : View) (x : Store) (which : WhichLog) (c :
         (all_every (fits_place schema shape p) (each_tables c v p).list (subst (λ (es : List Entry). list_all (fits_place schema shape p) es ≡ true) (rows_are p one.0 one.1) fit))
 
     meets : Have (λ q row. meets_table schema q.table row ≡ true) (found_of c v).kept.tables
-    meets = joined_have (λ q row. meets_table schema q.table row ≡ true) (each_tables c v) 0 (parts_of c)
+    meets = joined_have (λ q row. meets_table schema q.table row ≡ true) (each_tables c v) 0 (partition_count c)
         (λ p low q row found. left (meets_table schema q.table row) (part_of_key shape q.key == p) (each_fits p (omega (arith, low)) q row found))
 
     row_is : Have (IsRowAt schema) (found_of c v).kept.tables
@@ -148,7 +148,7 @@ module _ (schema : List TableDef) (d : View) (x : Store) (which : WhichLog) (c :
     }
 
   -- WHERE THE DISKS TELL each fits
-  pub told_fits : IsTrue d.told → tables_of c.definitions ≡ schema → (p : ℕ) → p < parts_of c → (q : Partition) → slice_get x.parts.items p ≡ Some q → list_all (fits_place schema c.log.header.shape p) q.rows.entries ≡ true
+  pub told_fits : IsTrue d.told → tables_defined c.definitions ≡ schema → (p : ℕ) → p < partition_count c → (q : Partition) → slice_get x.parts.items p ≡ Some q → list_all (fits_place schema c.log.header.shape p) q.rows.entries ≡ true
   told_fits told tables p low q at =
       subst (λ (es : List Entry). list_all (fits_place schema c.log.header.shape p) es ≡ true) (sym (rows_are p q at))
       (every_all (fits_place schema c.log.header.shape p) (each_tables c v p).list

@@ -14,10 +14,10 @@ use Rattle.salt_partition.specs.Partitions.{IsPartition, rows_in}
 use Rattle.salt_partition.specs.declared.partition.Partition.{Partition}
 use Rattle.salt_stands.proofs.Joined.{row_at_joined}
 use Rattle.salt_stands.proofs.PlacedParts.{placed_part}
-use Rattle.salt_stands.specs.Commits.{each_tables, found_of, parts_of}
+use Rattle.salt_stands.specs.Commits.{each_tables, found_of, partition_count}
 use Rattle.salt_stands.specs.Coordinator.{Coordinator}
 use Rattle.salt_stands.specs.Partition.{part_device, part_of_key}
-use Rattle.salt_stands.specs.Pieces.{PartView, tables_of}
+use Rattle.salt_stands.specs.Pieces.{PartView, tables_at_part}
 use Rattle.salt_stands.specs.Reading.{Reading}
 use Rattle.salt_stands.specs.Stands.{logs_of}
 use Rattle.salt_values.specs.declared.value.Value.{Value}
@@ -63,7 +63,7 @@ module _ {D : Type 0} (r : Reading D) (d : View) (x : Store) (which : WhichLog) 
 
 -- a row of all tables is the one of its partition
 pub row_of_all : {D : Type 0} (r : Reading D) (d : View) (x : Store) (which : WhichLog) (c : Coordinator D) (v : ℕ → PartView) → IsStore r d x which c v → IsTrue d.told
-    → (table : ℕ) (key : Value) → part_of_key c.log.header.shape key < parts_of c → row_at (place table key) (found_of c v).kept.tables ≡ row_at (place table key) (tables_of c (part_of_key c.log.header.shape key) (v (part_of_key c.log.header.shape key)))
+    → (table : ℕ) (key : Value) → part_of_key c.log.header.shape key < partition_count c → row_at (place table key) (found_of c v).kept.tables ≡ row_at (place table key) (tables_at_part c (part_of_key c.log.header.shape key) (v (part_of_key c.log.header.shape key)))
 row_of_all r d x which c v is told table key low =
-    row_at_joined c.log.header.shape (each_tables c v) (place table key) 0 (parts_of c)
+    row_at_joined c.log.header.shape (each_tables c v) (place table key) 0 (partition_count c)
     (λ k below. placed_part r c (logs_of d.bytes) d.bytes k (v k) ((stood r d x which c v is told).part k (omega (arith, below)))) (omega arith) (omega (arith, low))

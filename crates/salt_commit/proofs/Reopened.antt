@@ -9,7 +9,7 @@ use Rattle.law_definitions.specs.Texts.{definition_in}
 use Rattle.salt_commit.specs.Openings.{IsSchemaWhere}
 use Rattle.salt_commit.specs.Stores.{IsStore, MayDefine, reading}
 use Rattle.salt_commit.specs.declared.store.Store.{Store}
-use Rattle.salt_stands.specs.Fitting.{is_refused, tables_of}
+use Rattle.salt_stands.specs.Fitting.{is_refused, tables_defined}
 use Rattle.salt_disk.specs.Disks.{View}
 use Rattle.salt_model.specs.Kept.{Definition, OfTable}
 use Rattle.salt_parse.specs.Lists.{following_at}
@@ -28,9 +28,9 @@ use Rattle.std.proofs.Common.{IsTrue, List, Some, [], ap, false, refl, subst, sy
 use Rattle.std.specs.Prelude.{codes, not, option_and_then}
 use Rattle.std.specs.Bool.{then_some}
 
-pub opens_again : (d : View) (x : Store) (which : WhichLog) (c : Coordinator Definition) (v : ℕ → PartView) → IsStore reading d x which c v → IsTrue d.told → IsSchemaWhere (tables_of c.definitions) (coordinator_pair (logs_of d.bytes))
+pub opens_again : (d : View) (x : Store) (which : WhichLog) (c : Coordinator Definition) (v : ℕ → PartView) → IsStore reading d x which c v → IsTrue d.told → IsSchemaWhere (tables_defined c.definitions) (coordinator_pair (logs_of d.bytes))
 opens_again d x which c v is told =
-    subst (IsSchemaWhere (tables_of c.definitions)) (sym (is.decisions.counting.counts told)) (record { c = c; reads = is_coordinator reading c (is.sound told).coordinator; tables = refl })
+    subst (IsSchemaWhere (tables_defined c.definitions)) (sym (is.decisions.counting.counts told)) (record { c = c; reads = is_coordinator reading c (is.sound told).coordinator; tables = refl })
 
 abbrev table_text : List ℕ
 table_text = codes "create table t (id int key)"

@@ -7,7 +7,7 @@ use Rattle.salt_commit.proofs.Keyed.{store_keyed}
 use Rattle.salt_commit.proofs.Standing.{part_at}
 use Rattle.salt_commit.specs.Stores.{IsStore, decided_by, reading}
 use Rattle.salt_commit.specs.declared.store.Store.{Store}
-use Rattle.salt_stands.specs.Fitting.{tables_of}
+use Rattle.salt_stands.specs.Fitting.{tables_defined}
 use Rattle.salt_disk.specs.Disks.{View}
 use Rattle.salt_eval.proofs.Scanning.{first-found, rows_after-next}
 use Rattle.salt_eval.specs.Meets.{meets_table}
@@ -21,7 +21,7 @@ use Rattle.salt_stands.proofs.Booleans.{left, right}
 use Rattle.salt_stands.proofs.Decided.{with_changes_append}
 use Rattle.salt_stands.proofs.Places.{equal_is, or_row, place_same, row_at_entries, row_at_set}
 use Rattle.salt_stands.proofs.Prepared.{sound_units}
-use Rattle.salt_stands.specs.Commits.{each_tables, found_of, parts_of}
+use Rattle.salt_stands.specs.Commits.{each_tables, found_of, partition_count}
 use Rattle.salt_stands.specs.Coordinator.{Coordinator}
 use Rattle.salt_stands.specs.Partition.{changes_if, decided_changes, is_sound_change, is_sound_prepared, is_sound_to, part_of_key}
 use Rattle.salt_stands.specs.Pieces.{PartView, listed}
@@ -84,7 +84,7 @@ joined_are_fit r c T p (suc n) h q row e = by (row_at q (T p)) refl (joined_are_
     by (Some x) is more found = h p (omega arith) q row (is ∙ found)
 
 -- the tables of a partition
-pub part_is_fit : {D : Type 0} (r : Reading D) (d : View) (x : Store) (which : WhichLog) (c : Coordinator D) (v : ℕ → PartView) → IsStore r d x which c v → IsTrue d.told → (k : ℕ) → k < parts_of c → AreFit r c (each_tables c v k)
+pub part_is_fit : {D : Type 0} (r : Reading D) (d : View) (x : Store) (which : WhichLog) (c : Coordinator D) (v : ℕ → PartView) → IsStore r d x which c v → IsTrue d.told → (k : ℕ) → k < partition_count c → AreFit r c (each_tables c v k)
 part_is_fit r d x which c v is told k low =
     let one = part_at d x.parts.items v (decided_by c) is.parts k (omega (arith, low, is.size)) in
     let sound = sound_units r c k (v k).log ((is.sound told).part k low) in
@@ -95,10 +95,10 @@ part_is_fit r d x which c v is told k low =
     no_row q row e = cc
 
 store_is_fit : {D : Type 0} (r : Reading D) (d : View) (x : Store) (which : WhichLog) (c : Coordinator D) (v : ℕ → PartView) → IsStore r d x which c v → IsTrue d.told → AreFit r c (found_of c v).kept.tables
-store_is_fit r d x which c v is told = joined_are_fit r c (each_tables c v) 0 (parts_of c) (λ k low. part_is_fit r d x which c v is told k (omega (arith, low)))
+store_is_fit r d x which c v is told = joined_are_fit r c (each_tables c v) 0 (partition_count c) (λ k low. part_is_fit r d x which c v is told k (omega (arith, low)))
 
 -- the next row of a range meets the range's table
-pub next_meets : (d : View) (x : Store) (which : WhichLog) (c : Coordinator Definition) (v : ℕ → PartView) → IsStore reading d x which c v → IsTrue d.told → (schema : List TableDef) → schema ≡ tables_of c.definitions
+pub next_meets : (d : View) (x : Store) (which : WhichLog) (c : Coordinator Definition) (v : ℕ → PartView) → IsStore reading d x which c v → IsTrue d.told → (schema : List TableDef) → schema ≡ tables_defined c.definitions
     → (t : ℕ) (range : KeyRange) (after : Option Value) (row : List Value) → Some row ≡ next_row t range after (found_of c v).kept.tables → meets_table schema t row ≡ true
 next_meets d x which c v is told schema same t range after row next =
     let es = (found_of c v).kept.tables in

@@ -15,12 +15,12 @@ use Rattle.salt_partition.proofs.Framed.{logs_settled, part_stands, partition_ke
 use Rattle.salt_partition.specs.Partitions.{IsPartition}
 use Rattle.salt_partition.specs.declared.partition.Partition.{Partition}
 use Rattle.salt_stands.proofs.Stores.{boot_stood, definition_stood, keeps_standing, stood_stands}
-use Rattle.salt_stands.specs.Commits.{CoordinatorSame, PagesSame, PartSame, Stood, found_of, parts_of}
+use Rattle.salt_stands.specs.Commits.{CoordinatorSame, PagesSame, PartSame, Stood, found_of, partition_count}
 use Rattle.salt_stands.specs.Coordinator.{Coordinator, Logs, device_of}
 use Rattle.salt_stands.specs.Partition.{pages_device, part_device, rows_from}
-use Rattle.salt_stands.specs.Pieces.{Grows, HasOneMore, IsSameAt, PartView, other_log, with_boot, with_definition}
+use Rattle.salt_stands.specs.Pieces.{StaysFitting, HasOneMore, IsSameAt, PartView, other_log, with_boot, with_definition}
 use Rattle.salt_stands.specs.Reading.{Reading}
-use Rattle.salt_stands.specs.Stands.{judged, logs_of}
+use Rattle.salt_stands.specs.Stands.{stands_on, logs_of}
 use Rattle.salt_values.specs.declared.id.Id.{Id}
 use Rattle.salt_place.specs.declared.placement.Shape.{Shape}
 use Rattle.std.proofs.Common.{IsTrue, List, None, Ok, Option, Some, [], ap, arith, inl, inr, refl, subst, sym, ℕ, ◌*◌, ◌+◌, ◌++◌, ◌<◌, ◌≡◌, ◌≢◌, ◌⊎◌, ◌∙◌, ◌∷◌, slice_get, length}
@@ -84,10 +84,10 @@ pub record KeepsOtherLogs (which : WhichLog) (n : ℕ) (old new : ℕ → List �
   pub part_b : (p : ℕ) → p < n → new (part_device p + 1) ≡ old (part_device p + 1)
 
 module _ {D : Type 0} (r : Reading D) (d : View) (x : Store) (which : WhichLog) (c : Coordinator D) (v : ℕ → PartView) (is : IsStore r d x which c v) where
-  within : (p : ℕ) → p < parts_of c → p < length x.parts.items
+  within : (p : ℕ) → p < partition_count c → p < length x.parts.items
   within p low = omega (arith, low, is.size)
 
-  partition : (p : ℕ) → p < parts_of c → (q : Partition) × IsPartition d q p (v p) (decided_by c p)
+  partition : (p : ℕ) → p < partition_count c → (q : Partition) × IsPartition d q p (v p) (decided_by c p)
   partition p low = part_at d x.parts.items v (decided_by c) is.parts p (within p low)
 
   -- IT STANDS ON THE DEVICES, where they tell their bytes
@@ -97,7 +97,7 @@ module _ {D : Type 0} (r : Reading D) (d : View) (x : Store) (which : WhichLog) 
     part = λ p low. let q = partition p low in part_stands r c d q.0 p (v p) (decided_by c p) q.1 told ((is.sound told).part p low);
   }
 
-  pub no_pages : (p : ℕ) → p < parts_of c → (v p).log.header.sides ≡ []
+  pub no_pages : (p : ℕ) → p < partition_count c → (v p).log.header.sides ≡ []
   no_pages p low = (partition p low).1.pages
 
   -- no page is read, so that all are read as before
@@ -107,8 +107,8 @@ module _ {D : Type 0} (r : Reading D) (d : View) (x : Store) (which : WhichLog) 
       ap (λ sides. rows_from nulls (new (pages_device p)) 0 sides) (no_pages p low) ∙ sym (ap (λ sides. rows_from nulls (d.bytes (pages_device p)) 0 sides) (no_pages p low))
 
   -- WHERE ONLY THE COORDINATOR'S LOG IS WRITTEN
-  module _ (told : IsTrue d.told) (new : ℕ → List ℕ) (keeps : KeepsOtherLogs which (parts_of c) d.bytes new) where
-    pub parts_same : (p : ℕ) → p < parts_of c → PartSame (logs_of d.bytes) (logs_of new) p
+  module _ (told : IsTrue d.told) (new : ℕ → List ℕ) (keeps : KeepsOtherLogs which (partition_count c) d.bytes new) where
+    pub parts_same : (p : ℕ) → p < partition_count c → PartSame (logs_of d.bytes) (logs_of new) p
     parts_same p low = record { a = ap entries_in (keeps.part_a p low); b = ap entries_in (keeps.part_b p low) }
 
     other_same : IsSameAt (device_of 0 (other_log which)) (logs_of d.bytes) (logs_of new)
@@ -124,7 +124,7 @@ module _ {D : Type 0} (r : Reading D) (d : View) (x : Store) (which : WhichLog) 
 
     -- with it, as the entry makes it
     pub with_entry : (payload : List ℕ) (c' : Coordinator D) → PagesSame c' v d.bytes new
-        → ((logs : Logs) → HasOneMore (logs_of d.bytes) logs (device_of 0 which) payload → IsSameAt (device_of 0 (other_log which)) (logs_of d.bytes) logs → ((p : ℕ) → p < parts_of c → PartSame (logs_of d.bytes) logs p) → Stood r logs d.bytes which c' v)
+        → ((logs : Logs) → HasOneMore (logs_of d.bytes) logs (device_of 0 which) payload → IsSameAt (device_of 0 (other_log which)) (logs_of d.bytes) logs → ((p : ℕ) → p < partition_count c → PartSame (logs_of d.bytes) logs p) → Stood r logs d.bytes which c' v)
         → HasMore (d.bytes (device_of 0 which)) (new (device_of 0 which)) payload → Stood r (logs_of new) new which c' v
     with_entry payload c' pages makes more =
         keeps_standing r (logs_of new) (logs_of new) d.bytes new which c' v
@@ -136,7 +136,7 @@ module _ {D : Type 0} (r : Reading D) (d : View) (x : Store) (which : WhichLog) 
     settled_there : (image : ℕ → List ℕ) → IsImage e image → (dev : ℕ) → dev < d.count → dev ≢ device_of 0 which → IsSettled d dev → image dev ≡ d.bytes dev
     settled_there image left dev low apart settled = settled (image dev) (keeps.images dev (λ same. apart (same ∙ is.decisions.counting.device)) (image dev) (left dev (omega (arith, low, keeps.shape.count))))
 
-    pub others_there : (image : ℕ → List ℕ) → IsImage e image → KeepsOtherLogs which (parts_of c) d.bytes image
+    pub others_there : (image : ℕ → List ℕ) → IsImage e image → KeepsOtherLogs which (partition_count c) d.bytes image
     others_there image left = record {
       other = settled_there image left (device_of 0 (other_log which)) (other_below which d.count is.decisions.counting.known) (apart_from_other which) is.decisions.counting.other;
       part_a = λ p low. let q = partition p low in settled_there image left (part_device p) (omega (arith, q.1.known)) (λ same. apart_from_part which p 0 (omega (arith, same))) (logs_settled d q.0 p (v p) (decided_by c p) q.1).0;
@@ -144,7 +144,7 @@ module _ {D : Type 0} (r : Reading D) (d : View) (x : Store) (which : WhichLog) 
     }
 
     pub each_image : (payload : List ℕ) (c' : Coordinator D) → ((new : ℕ → List ℕ) → PagesSame c' v d.bytes new)
-        → ((logs : Logs) → HasOneMore (logs_of d.bytes) logs (device_of 0 which) payload → IsSameAt (device_of 0 (other_log which)) (logs_of d.bytes) logs → ((p : ℕ) → p < parts_of c → PartSame (logs_of d.bytes) logs p) → Stood r logs d.bytes which c' v)
+        → ((logs : Logs) → HasOneMore (logs_of d.bytes) logs (device_of 0 which) payload → IsSameAt (device_of 0 (other_log which)) (logs_of d.bytes) logs → ((p : ℕ) → p < partition_count c → PartSame (logs_of d.bytes) logs p) → Stood r logs d.bytes which c' v)
         → EachImage e (device_of 0 which) (IsBeforeOrWith (d.bytes (device_of 0 which)) payload) → StandForEither r e (found_of c v) (found_of c' v)
     each_image payload c' pages makes images asked image left =
         by (images (keeps.shape.told ∙ told) (image (device_of 0 which)) (left (device_of 0 which) (counted which (omega (arith, is.decisions.counting.known, keeps.shape.count)))))
@@ -153,10 +153,10 @@ module _ {D : Type 0} (r : Reading D) (d : View) (x : Store) (which : WhichLog) 
         counted LogA low = omega (arith, low)
         counted LogB low = low
 
-        kept : KeepsOtherLogs which (parts_of c) d.bytes image
+        kept : KeepsOtherLogs which (partition_count c) d.bytes image
         kept = others_there image left
 
-        by : IsBeforeOrWith (d.bytes (device_of 0 which)) payload (image (device_of 0 which)) → (judged r image asked ≡ Ok (found_of c v)) ⊎ (judged r image asked ≡ Ok (found_of c' v))
+        by : IsBeforeOrWith (d.bytes (device_of 0 which)) payload (image (device_of 0 which)) → (stands_on r image asked ≡ Ok (found_of c v)) ⊎ (stands_on r image asked ≡ Ok (found_of c' v))
         by (inl same) = inl (stood_stands r (logs_of image) image asked which c v (without told image kept same))
         by (inr more) = inr (stood_stands r (logs_of image) image asked which c' v (with_entry told image kept payload c' (pages image) makes more))
 
@@ -165,7 +165,7 @@ module _ {D : Type 0} (r : Reading D) (d : View) (x : Store) (which : WhichLog) 
   logs_with payload = pushed (logs_of d.bytes) (device_of 0 which) (is.decisions.counting.entries ++ payload ∷ [])
 
   stood_with : (payload : List ℕ) (c' : Coordinator D) → IsTrue d.told
-      → ((logs : Logs) → HasOneMore (logs_of d.bytes) logs (device_of 0 which) payload → IsSameAt (device_of 0 (other_log which)) (logs_of d.bytes) logs → ((p : ℕ) → p < parts_of c → PartSame (logs_of d.bytes) logs p) → Stood r logs d.bytes which c' v)
+      → ((logs : Logs) → HasOneMore (logs_of d.bytes) logs (device_of 0 which) payload → IsSameAt (device_of 0 (other_log which)) (logs_of d.bytes) logs → ((p : ℕ) → p < partition_count c → PartSame (logs_of d.bytes) logs p) → Stood r logs d.bytes which c' v)
       → Stood r (logs_with payload) d.bytes which c' v
   unfolding logs_with
   stood_with payload c' told makes = makes (logs_with payload) one other parts_there
@@ -183,11 +183,11 @@ module _ {D : Type 0} (r : Reading D) (d : View) (x : Store) (which : WhichLog) 
       other : IsSameAt (device_of 0 (other_log which)) (logs_of d.bytes) (logs_with payload)
       other = there (device_of 0 (other_log which)) (apart_from_other which)
 
-      parts_there : (p : ℕ) → p < parts_of c → PartSame (logs_of d.bytes) (logs_with payload) p
+      parts_there : (p : ℕ) → p < partition_count c → PartSame (logs_of d.bytes) (logs_with payload) p
       parts_there p low = record { a = there (part_device p) (λ same. apart_from_part which p 0 (omega (arith, same))); b = there (part_device p + 1) (λ same. apart_from_part which p 1 (omega (arith, same))) }
 
-  pub sound_with : (payload : List ℕ) (c' : Coordinator D) → parts_of c' ≡ parts_of c → IsTrue d.told
-      → ((logs : Logs) → HasOneMore (logs_of d.bytes) logs (device_of 0 which) payload → IsSameAt (device_of 0 (other_log which)) (logs_of d.bytes) logs → ((p : ℕ) → p < parts_of c → PartSame (logs_of d.bytes) logs p) → Stood r logs d.bytes which c' v)
+  pub sound_with : (payload : List ℕ) (c' : Coordinator D) → partition_count c' ≡ partition_count c → IsTrue d.told
+      → ((logs : Logs) → HasOneMore (logs_of d.bytes) logs (device_of 0 which) payload → IsSameAt (device_of 0 (other_log which)) (logs_of d.bytes) logs → ((p : ℕ) → p < partition_count c → PartSame (logs_of d.bytes) logs p) → Stood r logs d.bytes which c' v)
       → IsSound r c' v
   sound_with payload c' same_parts told makes = let s = stood_with payload c' told makes in record { coordinator = s.coordinator.is; part = λ p low. (s.part p low).sound }
 
@@ -199,8 +199,8 @@ module _ {D : Type 0} (r : Reading D) (d : View) (x : Store) (which : WhichLog) 
       unchanged p k = keeps.kept (2 + 3 * p + k) (λ same. apart_from_part which p k (same ∙ is.decisions.counting.device))
 
   -- AFTER OK
-  pub after_entry : (e : View) (y : Store) (payload : List ℕ) (c' : Coordinator D) → parts_of c' ≡ parts_of c → ((p : ℕ) → decided_by c' p ≡ decided_by c p)
-      → (IsTrue d.told → (logs : Logs) → HasOneMore (logs_of d.bytes) logs (device_of 0 which) payload → IsSameAt (device_of 0 (other_log which)) (logs_of d.bytes) logs → ((p : ℕ) → p < parts_of c → PartSame (logs_of d.bytes) logs p) → Stood r logs d.bytes which c' v)
+  pub after_entry : (e : View) (y : Store) (payload : List ℕ) (c' : Coordinator D) → partition_count c' ≡ partition_count c → ((p : ℕ) → decided_by c' p ≡ decided_by c p)
+      → (IsTrue d.told → (logs : Logs) → HasOneMore (logs_of d.bytes) logs (device_of 0 which) payload → IsSameAt (device_of 0 (other_log which)) (logs_of d.bytes) logs → ((p : ℕ) → p < partition_count c → PartSame (logs_of d.bytes) logs p) → Stood r logs d.bytes which c' v)
       → KeepsOthers (device_in x.decisions) d e None → y.parts ≡ x.parts → IsDecisions e y.decisions which c'.log → IsStore r e y which c' v
   after_entry e y payload c' same_parts same_units makes keeps parts decisions = record {
     decisions = decisions;
@@ -213,10 +213,10 @@ module _ {D : Type 0} (r : Reading D) (d : View) (x : Store) (which : WhichLog) 
       kept = record { each = λ p. subst (λ us. IfSome (slice_get x.parts.items p) (λ q. IsPartition e q p (v p) us)) (sym (same_units p)) ((partitions_stay e keeps).each p) }
 
   -- NOTHING IS WRITTEN
-  pub unchanged_images : IsTrue d.told → (asked : Shape) (image : ℕ → List ℕ) → IsImage d image → judged r image asked ≡ Ok (found_of c v)
+  pub unchanged_images : IsTrue d.told → (asked : Shape) (image : ℕ → List ℕ) → IsImage d image → stands_on r image asked ≡ Ok (found_of c v)
   unchanged_images told asked image left = stood_stands r (logs_of image) image asked which c v (without told image kept (ap entries_in own))
     where
-      kept : KeepsOtherLogs which (parts_of c) d.bytes image
+      kept : KeepsOtherLogs which (partition_count c) d.bytes image
       kept = others_there d None (record { shape = same_shape d; kept = λ dev other. record { bytes = refl; images = λ c' left'. left' }; images = λ dev other c' left'. left' }) told image left
 
       counted : (w : WhichLog) → 1 < d.count → device_of 0 w < d.count
@@ -227,14 +227,14 @@ module _ {D : Type 0} (r : Reading D) (d : View) (x : Store) (which : WhichLog) 
       own = subst (λ dev. (c' : List ℕ) → d.image dev c' → c' ≡ d.bytes dev) is.decisions.counting.device is.decisions.counting.is_log.settled (image (device_of 0 which)) (left (device_of 0 which) (counted which is.decisions.counting.known))
 
   -- WHAT A BOOT AND A DEFINITION MAKE
-  pub makes_boot : IsTrue d.told → (payload : List ℕ) → entry_in (parts_of c) payload ≡ Some (Boots (c.log.told.boot + 1))
-      → (logs : Logs) → HasOneMore (logs_of d.bytes) logs (device_of 0 which) payload → IsSameAt (device_of 0 (other_log which)) (logs_of d.bytes) logs → ((p : ℕ) → p < parts_of c → PartSame (logs_of d.bytes) logs p)
+  pub makes_boot : IsTrue d.told → (payload : List ℕ) → entry_in (partition_count c) payload ≡ Some (Boots (c.log.told.boot + 1))
+      → (logs : Logs) → HasOneMore (logs_of d.bytes) logs (device_of 0 which) payload → IsSameAt (device_of 0 (other_log which)) (logs_of d.bytes) logs → ((p : ℕ) → p < partition_count c → PartSame (logs_of d.bytes) logs p)
       → Stood r logs d.bytes which (with_boot c) v
   makes_boot told payload spells logs one other parts = boot_stood r (logs_of d.bytes) logs d.bytes which c v payload (stood told) one other spells parts
 
-  pub makes_definition : IsTrue d.told → (payload : List ℕ) (t : NumberedText) (def : D) → entry_in (parts_of c) payload ≡ Some (Defines t) → t.number ≡ c.log.told.decisions + 1
-      → r.read t.text ≡ Some def → r.is_refused c.definitions def ≡ false → Grows r c.definitions def
-      → (logs : Logs) → HasOneMore (logs_of d.bytes) logs (device_of 0 which) payload → IsSameAt (device_of 0 (other_log which)) (logs_of d.bytes) logs → ((p : ℕ) → p < parts_of c → PartSame (logs_of d.bytes) logs p)
+  pub makes_definition : IsTrue d.told → (payload : List ℕ) (t : NumberedText) (def : D) → entry_in (partition_count c) payload ≡ Some (Defines t) → t.number ≡ c.log.told.decisions + 1
+      → r.read t.text ≡ Some def → r.is_refused c.definitions def ≡ false → StaysFitting r c.definitions def
+      → (logs : Logs) → HasOneMore (logs_of d.bytes) logs (device_of 0 which) payload → IsSameAt (device_of 0 (other_log which)) (logs_of d.bytes) logs → ((p : ℕ) → p < partition_count c → PartSame (logs_of d.bytes) logs p)
       → Stood r logs d.bytes which (with_definition c t def) v
   makes_definition told payload t def spells number reads accepted grows logs one other parts =
       definition_stood r (logs_of d.bytes) logs d.bytes which c v payload t def (stood told) one other spells number reads accepted grows parts

@@ -28,14 +28,14 @@ use Rattle.salt_partition.specs.declared.partition.Partition.{Partition}
 use Rattle.salt_stands.proofs.Booleans.{join}
 use Rattle.salt_stands.proofs.Commits.{undecided}
 use Rattle.salt_stands.proofs.Pairs.{pair_same}
-use Rattle.salt_stands.specs.Commits.{MayCommit, PartMore, PartSame, Spelled, found_of, parts_of, share}
+use Rattle.salt_stands.specs.Commits.{MayCommit, PartMore, PartSame, Spelled, found_of, partition_count, share}
 use Rattle.salt_stands.specs.Coordinator.{Coordinator, device_of}
 use Rattle.salt_stands.specs.CoordinatorLog.{CoordinatorLog, coordinator_generation, coordinator_in}
 use Rattle.salt_stands.specs.Partition.{is_sound_change, is_sound_prepared, part_device}
 use Rattle.salt_stands.specs.Pieces.{IsSameAt, PartView, other_log}
 use Rattle.salt_stands.specs.Placed.{AreOfParts, changes_at, is_of_part}
 use Rattle.salt_stands.specs.Reading.{Reading}
-use Rattle.salt_stands.specs.Stands.{judged, logs_of}
+use Rattle.salt_stands.specs.Stands.{stands_on, logs_of}
 use Rattle.salt_place.proofs.Places.{place_of-below}
 use Rattle.salt_place.specs.Placement.{IsParts}
 use Rattle.salt_values.specs.declared.change.Change.{Change}
@@ -98,17 +98,17 @@ pub record IsInHand (u : Id) (cs : List Change) (mv : List ℕ) : Type 0 where
   pub changes : Every IsTold cs
 
 module _ {D : Type 0} (r : Reading D) (d : View) (x : Store) (which : WhichLog) (c : Coordinator D) (v : ℕ → PartView) (is : IsStore r d x which c v)
-    (u : Id) (cs : List Change) (mv : List ℕ) (m : Move) (conts : List Cont) (may : MayCommitUnit r c v u cs mv m conts) (parts : IsParts (parts_of c)) where
+    (u : Id) (cs : List Change) (mv : List ℕ) (m : Move) (conts : List Cont) (may : MayCommitUnit r c v u cs mv m conts) (parts : IsParts (partition_count c)) where
   shape : Shape
   shape = c.log.header.shape
 
   pub may_prepare : MayPrepareEach v (decided_by c) u (shares_of c.log.header.shape cs)
-  may_prepare = record { each = λ p changed. by p (less_or p (parts_of c)) changed }
+  may_prepare = record { each = λ p changed. by p (less_or p (partition_count c)) changed }
     where
       less_or : (a b : ℕ) → (a < b) ⊎ (b ≤ a)
       less_or a b = grind arith
 
-      by : (p : ℕ) → (p < parts_of c) ⊎ (parts_of c ≤ p) → has_changes (share_at (shares_of c.log.header.shape cs) p) ≡ true → MayPrepare (v p) (decided_by c p) u (share_at (shares_of c.log.header.shape cs) p)
+      by : (p : ℕ) → (p < partition_count c) ⊎ (partition_count c ≤ p) → has_changes (share_at (shares_of c.log.header.shape cs) p) ≡ true → MayPrepare (v p) (decided_by c p) u (share_at (shares_of c.log.header.shape cs) p)
       by p (inl low) changed = subst (MayPrepare (v p) (decided_by c p) u) (sym (share_is c.log.header.shape cs p low))
           (record { fresh = may.fresh p low; new = may.new p low; ordered = in_order_filter (is_of_part c.log.header.shape p) cs may.ordered; each = may.put p low })
       by p (inr high) changed = absurd (none (share_at (shares_of c.log.header.shape cs) p) (share_past c.log.header.shape cs p high) changed)
@@ -140,14 +140,14 @@ module _ {D : Type 0} (r : Reading D) (d : View) (x : Store) (which : WhichLog) 
     }
 
     -- the share of a partition is read again from its entry
-    pub share_reads : (p : ℕ) → p < parts_of c → prepared_in (has_nulls (v p).log.header.format) (spell_prepared (prepared u (share_at (shares_of c.log.header.shape cs) p))) ≡ Some (share c u cs p)
+    pub share_reads : (p : ℕ) → p < partition_count c → prepared_in (has_nulls (v p).log.header.format) (spell_prepared (prepared u (share_at (shares_of c.log.header.shape cs) p))) ≡ Some (share c u cs p)
     share_reads p low =
         let own = changes_at c.log.header.shape p cs in
         ap (λ s. prepared_in (has_nulls (v p).log.header.format) (spell_prepared (prepared u s))) (share_is c.log.header.shape cs p low)
         ∙ read_again (prepared u own) hand.unit (omega (arith, shorter_filter (is_of_part c.log.header.shape p) cs, hand.count)) (every_filter IsTold (is_of_part c.log.header.shape p) cs hand.changes) (has_nulls (v p).log.header.format) (may.put p low) (in_order_filter (is_of_part c.log.header.shape p) cs may.ordered)
 
-    pub decision_reads : c.log.told.decisions + 1 < 2 ^ 64 → entry_in (parts_of c) (spell_entry (Decides (next_decision c u cs mv))) ≡ Some (Decides (next_decision c u cs mv))
-    decision_reads room = reads_entry (parts_of c) (Decides (next_decision c u cs mv)) (record { number = room; unit = hand.unit; mask = mask_small c.log.header.shape cs; move = hand.move })
+    pub decision_reads : c.log.told.decisions + 1 < 2 ^ 64 → entry_in (partition_count c) (spell_entry (Decides (next_decision c u cs mv))) ≡ Some (Decides (next_decision c u cs mv))
+    decision_reads room = reads_entry (partition_count c) (Decides (next_decision c u cs mv)) (record { number = room; unit = hand.unit; mask = mask_small c.log.header.shape cs; move = hand.move })
 
     pub spelled : c.log.told.decisions + 1 < 2 ^ 64 → Spelled c v cs (next_decision c u cs mv) (spell_entry (Decides (next_decision c u cs mv))) (λ p. spell_prepared (prepared u (share_at (shares_of c.log.header.shape cs) p)))
     spelled room = record { coordinator = decision_reads room; part = share_reads }
@@ -157,7 +157,7 @@ module _ {D : Type 0} (r : Reading D) (d : View) (x : Store) (which : WhichLog) 
         (others : KeepsBut (IsLogOfShares x.parts.items (shares_of c.log.header.shape cs) (length x.parts.items)) d b answer)
         (images : (p : ℕ) → p < length x.parts.items → EachImage b (device_of (part_device p) (v p).which) (IsBeforeOrWith (d.bytes (device_of (part_device p) (v p).which)) (spell_prepared (prepared u (share_at (shares_of c.log.header.shape cs) p)))))
         (image : ℕ → List ℕ) (left : IsImage b image) where
-      partition : (p : ℕ) → p < parts_of c → (q : Partition) × IsPartition d q p (v p) (decided_by c p)
+      partition : (p : ℕ) → p < partition_count c → (q : Partition) × IsPartition d q p (v p) (decided_by c p)
       partition p low = part_at d x.parts.items v (decided_by c) is.parts p (omega (arith, low, is.size))
 
       -- a device that is no counting log of a partition
@@ -185,7 +185,7 @@ module _ {D : Type 0} (r : Reading D) (d : View) (x : Store) (which : WhichLog) 
           low LogA h = omega (arith, h)
           low LogB h = h
 
-      other_there : (p : ℕ) → p < parts_of c → IsSameAt (device_of (part_device p) (other_log (v p).which)) (logs_of d.bytes) (logs_of image)
+      other_there : (p : ℕ) → p < partition_count c → IsSameAt (device_of (part_device p) (other_log (v p).which)) (logs_of d.bytes) (logs_of image)
       other_there p low =
           let q = partition p low in
           ap entries_in (there (device_of (part_device p) (other_log (v p).which)) (below (v p).which q.1.known) apart q.1.other)
@@ -203,12 +203,12 @@ module _ {D : Type 0} (r : Reading D) (d : View) (x : Store) (which : WhichLog) 
               let same : p ≡ k = one_device p k (other_log (v p).which) (v k).which e in
               differs (v p).which (part_device p) (e ∙ ap (λ n. device_of (part_device n) (v n).which) (sym same))
 
-      pub before_decision : (asked : Shape) → judged r image asked ≡ Ok (found_of c v)
+      pub before_decision : (asked : Shape) → stands_on r image asked ≡ Ok (found_of c v)
       before_decision asked = undecided r c v which cs (next_decision c u cs mv) m conts (spell_entry (Decides (next_decision c u cs mv))) (λ p. spell_prepared (prepared u (share_at (shares_of c.log.header.shape cs) p)))
           may_commit (spelled room) (logs_of d.bytes) (logs_of image) d.bytes image (stood r d x which c v is told) (pages_same r d x which c v is told image) asked
           (record { a = coordinator_there LogA; b = coordinator_there LogB; part = λ p low. part p low (images p (omega (arith, low, is.size)) (others.shape.told ∙ told) (image (device_of (part_device p) (v p).which)) (left (device_of (part_device p) (v p).which) (counted p low))) })
         where
-          counted : (p : ℕ) → p < parts_of c → device_of (part_device p) (v p).which < b.count
+          counted : (p : ℕ) → p < partition_count c → device_of (part_device p) (v p).which < b.count
           counted p low = by (v p).which (omega (arith, (partition p low).1.known, others.shape.count))
             where
               by : (w : WhichLog) → 4 + 3 * p < b.count → device_of (part_device p) w < b.count
@@ -219,7 +219,7 @@ module _ {D : Type 0} (r : Reading D) (d : View) (x : Store) (which : WhichLog) 
           both p LogA one two = record { a = one; b = two }
           both p LogB one two = record { a = two; b = one }
 
-          part : (p : ℕ) → p < parts_of c → IsBeforeOrWith (d.bytes (device_of (part_device p) (v p).which)) (spell_prepared (prepared u (share_at (shares_of c.log.header.shape cs) p))) (image (device_of (part_device p) (v p).which))
+          part : (p : ℕ) → p < partition_count c → IsBeforeOrWith (d.bytes (device_of (part_device p) (v p).which)) (spell_prepared (prepared u (share_at (shares_of c.log.header.shape cs) p))) (image (device_of (part_device p) (v p).which))
               → PartSame (logs_of d.bytes) (logs_of image) p ⊎ PartMore (logs_of d.bytes) (logs_of image) p (v p).which (spell_prepared (prepared u (share_at (shares_of c.log.header.shape cs) p)))
           part p low (inl same) = inl (both p (v p).which same (other_there p low))
           part p low (inr more) = inr (record { more = record { entries = more.entries; before = more.was; after = more.now }; other = other_there p low })

@@ -12,10 +12,10 @@ use Rattle.salt_commit.specs.Stores.{IsStore, coordinator_device, coordinator_ga
 use Rattle.salt_commit.specs.declared.store.Store.{Store}
 use Rattle.salt_decisions.specs.Decisions as decisions
 use Rattle.salt_disk.specs.Disks.{View}
-use Rattle.salt_codec.specs.Entries.{IsPut}
+use Rattle.salt_codec.specs.Entries.{CanBePut}
 use Rattle.salt_model.specs.Kept.{Definition}
 use Rattle.salt_values.specs.Id.{has_id}
-use Rattle.salt_stands.specs.Commits.{parts_of}
+use Rattle.salt_stands.specs.Commits.{partition_count}
 use Rattle.salt_stands.specs.Coordinator.{Coordinator, is_sound_cont}
 use Rattle.salt_stands.specs.OpenConts.{conts_of_move, make_move}
 use Rattle.salt_stands.specs.Partition.{is_sound_change, part_of_key}
@@ -36,12 +36,12 @@ fits_its_part r c ch = is_sound_change r c (part_of_key c.log.header.shape ch.ke
 pub record MayCommitUnit {D : Type 0} (r : Reading D) (c : Coordinator D) (v : ℕ → PartView) (u : Id) (cs : List Change) (mv : List ℕ) (m : Move) (conts : List Cont) : Type 0 where
   pub boot : u.boot ≤ c.log.told.boot
   -- no entry and no decision names it
-  pub fresh : (p : ℕ) → p < parts_of c → is_prepared_in u (v p).log.prepared ≡ false
-  pub new : (p : ℕ) → p < parts_of c → has_id u (decided_by c p) ≡ false
+  pub fresh : (p : ℕ) → p < partition_count c → is_prepared_in u (v p).log.prepared ≡ false
+  pub new : (p : ℕ) → p < partition_count c → has_id u (decided_by c p) ≡ false
   -- the changes are in order, each key once; each is of a table that is defined, and fits it; and each can be put
   pub ordered : are_in_order cs ≡ true
   pub fits : list_all (fits_its_part r c) cs ≡ true
-  pub put : (p : ℕ) → p < parts_of c → Every (IsPut (has_nulls (v p).log.header.format)) (changes_at c.log.header.shape p cs)
+  pub put : (p : ℕ) → p < partition_count c → Every (CanBePut (has_nulls (v p).log.header.format)) (changes_at c.log.header.shape p cs)
   -- the move goes on from the open continuations
   pub spells : move_in c.log.header.format mv ≡ Some m
   pub moves : make_move c.conts m ≡ Some conts

@@ -10,7 +10,7 @@ use Rattle.salt_decisions.specs.Opened.{FullAtFirst, first_payload}
 use Rattle.salt_gatelog.specs.declared.unopened.OpenErr.TheVariants.{Failed, Full, Memory, NotSalt, NumbersSpent, OtherShape, Stopped}
 use Rattle.salt_gatelog.specs.declared.unopened.OpenErr.{OpenErr}
 use Rattle.salt_decisions.specs.declared.kept.Kept.{Kept}
-use Rattle.salt_stands.specs.Fitting.{tables_of}
+use Rattle.salt_stands.specs.Fitting.{tables_defined}
 use Rattle.salt_disk.specs.Disks.{IsSettled, View}
 use Rattle.salt_disk.specs.declared.disks.DiskErr.TheVariants as disk
 use Rattle.salt_model.specs.Kept.{Definition}
@@ -18,7 +18,7 @@ use Rattle.salt_model.specs.Tables.{Tables}
 use Rattle.salt_partition.specs.Openings.{has_pages, part_fault}
 use Rattle.salt_partition.specs.Partitions.{IsPartition}
 use Rattle.salt_partition.specs.declared.partition.Partition.{Partition}
-use Rattle.salt_stands.specs.Commits.{found_of, parts_of}
+use Rattle.salt_stands.specs.Commits.{found_of, partition_count}
 use Rattle.salt_stands.specs.Coordinator.{Coordinator, coordinator_at, coordinator_of, coordinator_pair}
 use Rattle.salt_stands.specs.CoordinatorLog.{CoordinatorLog}
 use Rattle.salt_stands.specs.FirstOpening.{IsCreated, first_part_header}
@@ -88,14 +88,14 @@ IsNoRefusal Memory = ⊤
 
 -- the tables are those of the definitions, and this is the shape
 pub record HasTables (schema : List TableDef) (shape : Shape) (c : Coordinator Definition) : Type 0 where
-  pub tables : tables_of c.definitions ≡ schema
+  pub tables : tables_defined c.definitions ≡ schema
   pub is_shape : c.log.header.shape ≡ shape
 
 -- the log is a coordinator's: its texts are read, and they define these tables, and its moves go on from each other
 pub record IsSchemaOf (schema : List TableDef) (log : CoordinatorLog) : Type 0 where
   pub c : Coordinator Definition
   pub reads : coordinator_of reading log ≡ Some c
-  pub tables : tables_of c.definitions ≡ schema
+  pub tables : tables_defined c.definitions ≡ schema
 
 -- if a log counts, it is so
 abbrev pub IsSchemaWhere : List TableDef → Pair CoordinatorLog → Type 0
@@ -174,6 +174,6 @@ pub record OpensStore (d e : View) (asked : Shape) (x : Store) (kept : Kept) : T
   pub keeps : IsKept kept c.log
   pub has_shape : c.log.header.shape ≡ asked
   pub unspent : are_spent c.log.told.boot c.log.told.decisions ≡ false
-  pub nulls : (p : ℕ) → p < parts_of c → spells_under c.log.header.format (v p) ≡ true
+  pub nulls : (p : ℕ) → p < partition_count c → spells_under c.log.header.format (v p) ≡ true
   pub finds : IsTrue d.told → opening_of reading d.bytes asked ≡ Stands (found_of c v)
   pub no_pages : IsTrue d.told → (dev : ℕ) → LeavesPages asked d.bytes dev → ⊥

@@ -7,7 +7,7 @@ use Rattle.salt_model.specs.Kept.{Definition}
 use Rattle.salt_model.specs.Tables.{Tables}
 use Rattle.salt_partition.specs.declared.partition.Partition.{Partition}
 use Rattle.salt_ranges.specs.declared.range.KeyRange.{KeyRange}
-use Rattle.salt_stands.specs.Commits.{each_tables, parts_of}
+use Rattle.salt_stands.specs.Commits.{each_tables, partition_count}
 use Rattle.salt_stands.specs.Coordinator.{Coordinator}
 use Rattle.salt_stands.specs.Partition.{part_tables}
 use Rattle.salt_stands.specs.Pieces.{PartView, listed}
@@ -50,7 +50,7 @@ tables_of_all v applied n = joined (listed (λ p. part_tables (applied p) (v p).
 
 -- each row of each partition is of that partition
 abbrev pub ArePlaced : {D : Type 0} → Coordinator D → (ℕ → PartView) → Type 0
-ArePlaced c v = (p : ℕ) → p < parts_of c → IsPlaced c.log.header.shape p (each_tables c v p)
+ArePlaced c v = (p : ℕ) → p < partition_count c → IsPlaced c.log.header.shape p (each_tables c v p)
 
 -- a store stands, and each row in the partition of its key; this holds where the disks tell, and where the rows were looked at
 pub record StandsInPlace (d : View) (x : Store) : Type 0 where

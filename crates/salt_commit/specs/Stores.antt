@@ -11,13 +11,13 @@ use Rattle.salt_model.specs.Kept.{Definition}
 use Rattle.salt_model.specs.Tables.{Entry, Tables, place, row_at, with_changes}
 use Rattle.salt_partition.specs.Partitions.{IsPartition, rows_in}
 use Rattle.salt_partition.specs.declared.partition.Partition.{Partition}
-use Rattle.salt_stands.specs.Commits.{parts_of}
+use Rattle.salt_stands.specs.Commits.{partition_count}
 use Rattle.salt_stands.specs.Coordinator.{Coordinator, decided_for}
 use Rattle.salt_stands.specs.Partition.{is_sound_log}
 use Rattle.salt_stands.specs.Pieces.{IsCoordinator, PartView, listed}
 use Rattle.salt_stands.specs.Placed.{changes_at}
 use Rattle.salt_stands.specs.Reading.{Reading}
-use Rattle.salt_stands.specs.Stands.{Found, judged}
+use Rattle.salt_stands.specs.Stands.{Found, stands_on}
 use Rattle.salt_values.specs.declared.change.Change.{Change}
 use Rattle.salt_values.specs.declared.id.Id.{Id}
 use Rattle.salt_place.specs.declared.placement.Shape.{Shape}
@@ -66,7 +66,7 @@ decided_by c p = decided_for p c.log.told.decided
 -- partition's log fits them.
 pub record IsSound {D : Type 0} (r : Reading D) (c : Coordinator D) (v : ℕ → PartView) : Type 0 where
   pub coordinator : IsCoordinator r c
-  pub part : (p : ℕ) → p < parts_of c → is_sound_log r c p (v p).log ≡ true
+  pub part : (p : ℕ) → p < partition_count c → is_sound_log r c p (v p).log ≡ true
 
 -- each is the partition of its place, and these units are applied in it
 pub record ArePartitions (d : View) (parts : List Partition) (v : ℕ → PartView) (applied : ℕ → List Id) : Type 0 where
@@ -75,7 +75,7 @@ pub record ArePartitions (d : View) (parts : List Partition) (v : ℕ → PartVi
 -- The value is a store that stands so on the devices: the coordinator's log, and in each partition the units that are decided.
 pub record IsStore {D : Type 0} (r : Reading D) (d : View) (x : Store) (which : WhichLog) (c : Coordinator D) (v : ℕ → PartView) : Type 0 where
   pub decisions : IsDecisions d x.decisions which c.log
-  pub size : length x.parts.items ≡ parts_of c
+  pub size : length x.parts.items ≡ partition_count c
   pub parts : ArePartitions d x.parts.items v (decided_by c)
   pub sound : IsTrue d.told → IsSound r c v
 
@@ -88,7 +88,7 @@ pub record StandsOnDevices (d : View) (x : Store) : Type 0 where
 
 -- each image that a stop may leave of the devices stands for the one or for the other
 abbrev pub StandForEither : {D : Type 0} → Reading D → View → (before after : Found D) → Type 0
-StandForEither r d before after = (asked : Shape) (image : ℕ → List ℕ) → IsImage d image → (judged r image asked ≡ Ok before) ⊎ (judged r image asked ≡ Ok after)
+StandForEither r d before after = (asked : Shape) (image : ℕ → List ℕ) → IsImage d image → (stands_on r image asked ≡ Ok before) ⊎ (stands_on r image asked ≡ Ok after)
 
 -- A definition that may be added: it is the one of this text, and the definitions before it do not refuse it.
 pub record MayDefine {D : Type 0} (r : Reading D) (c : Coordinator D) (text : List ℕ) (def : D) : Type 0 where

@@ -14,7 +14,7 @@ ghost use Rattle.salt_disk.specs.declared.disks.DiskErr.TheVariants.{Full, Memor
 ghost use Rattle.salt_model.specs.Kept.{Definition};
 ghost use Rattle.salt_net.specs.Turns.{commits};
 ghost use Rattle.salt_place.specs.Placement.{GivesPlaceOf, TakesEachKey};
-ghost use Rattle.salt_stands.specs.Commits.{found_after, found_of, parts_of, view_after};
+ghost use Rattle.salt_stands.specs.Commits.{found_after, found_of, partition_count, view_after};
 ghost use Rattle.salt_stands.specs.Coordinator.{Coordinator};
 ghost use Rattle.salt_stands.specs.Pieces.{PartView, with_decision};
 ghost use Rattle.salt_stands.specs.Placed.{nodes_in};
@@ -63,7 +63,7 @@ impl Store {
             → StandForEither reading (D.view disks.new) (found_of c v) (found_after c v changes.now (next_decision c unit changes.now mv.now) conts) }
         ensures pages { (which : WhichLog) (c : Coordinator Definition) (v : ℕ → PartView) (m : Move) (conts : List Cont) → IsStore reading (D.view disks.old) self.old which c v
             → MayCommitUnit reading c v unit changes.now mv.now m conts → IsTrue (D.view disks.old).told
-            → (image : ℕ → List ℕ) → IsImage (D.view disks.new) image → (p dev : ℕ) → p < parts_of c → NamesPages image p dev → ⊥ }
+            → (image : ℕ → List ℕ) → IsImage (D.view disks.new) image → (p dev : ℕ) → p < partition_count c → NamesPages image p dev → ⊥ }
 
         ensures net { OnOk result (net_of self.new ≡ option_map (commits unit (nodes_in (shape_of_store self.old) changes.now)) (net_of self.old)) }
         ensures rests { OnOk result (IsAtRest self.new) }

@@ -5,7 +5,7 @@ ghost use Rattle.salt_commit.specs.Loads.{AreRowsOf, IsPartOf};
 ghost use Rattle.salt_commit.specs.Messages.{messages_of};
 ghost use Rattle.salt_commit.specs.Reads.{StandsInPlace};
 ghost use Rattle.salt_commit.specs.Stores.{IsStore, reading, rows_of_store};
-ghost use Rattle.salt_stands.specs.Fitting.{tables_of};
+ghost use Rattle.salt_stands.specs.Fitting.{tables_defined};
 ghost use Rattle.salt_disk.specs.Disks.{HasCause, KeepsAll, OnlyFails, UnlessDown};
 ghost use Rattle.salt_eval.specs.Meets.{meets_table};
 ghost use Rattle.salt_eval.specs.Views as view;
@@ -83,7 +83,7 @@ impl Store {
         requires stands { StandsInPlace (D.view disks.old) self.old }
         requires table { reach.now.table < length schema.now }
         requires schema { (which : WhichLog) (c : Coordinator Definition) (v : ℕ → PartView) → IsStore reading (D.view disks.old) self.old which c v → IsTrue (D.view disks.old).told
-            → schema.now ≡ tables_of c.definitions }
+            → schema.now ≡ tables_defined c.definitions }
         ensures rows { (which : WhichLog) (c : Coordinator Definition) (v : ℕ → PartView) → IsStore reading (D.view disks.old) self.old which c v
             → IfOk result (λ rows. IsPartOf reach.now (view.tables_of rows.entries) (found_of c v).kept.tables) }
         ensures typed { IfOk result (λ rows. AreRowsOf schema.now (view.tables_of rows.entries)) }

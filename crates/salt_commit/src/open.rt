@@ -10,7 +10,7 @@ ghost use Rattle.salt_gatelog.specs.Answers.{open_disk_err};
 ghost use Rattle.salt_disk.specs.Disks.{HasCause, IsImage, KeepsAll, KeepsBut};
 ghost use Rattle.salt_stands.specs.Coordinator.{coordinator_pair};
 ghost use Rattle.salt_stands.specs.FirstOpening.{first_view};
-ghost use Rattle.salt_stands.specs.Stands.{judged, logs_of, nothing_found};
+ghost use Rattle.salt_stands.specs.Stands.{stands_on, logs_of, nothing_found};
 ghost use Rattle.salt_place.specs.Placement.{GivesPlaceOf, IsParts, TakesEachKey};
 ghost use Rattle.std.specs.Prelude.{IfErr, IfOk, IsTrue, List, None, Ok, [], length, ℕ, ◌≡◌};
 ghost use Rattle.std.specs.Result.{result_err};
@@ -54,7 +54,7 @@ fn begin_store<D: Disks>(
     ensures ok { IfOk result (λ made. OpensStore (D.view disks.old) (D.view disks.new) shape made.0 made.1) }
     ensures plain { IfOk result (λ made. messages_of made.0 ≡ None) }
     ensures err { IsTrue (D.view disks.old).told → IfErr result IsNoRefusal }
-    ensures images { IsTrue (D.view disks.old).told → (image : ℕ → List ℕ) → IsImage (D.view disks.new) image → judged reading image shape ≡ Ok (nothing_found shape) }
+    ensures images { IsTrue (D.view disks.old).told → (image : ℕ → List ℕ) → IsImage (D.view disks.new) image → stands_on reading image shape ≡ Ok (nothing_found shape) }
     ensures pages { IsTrue (D.view disks.old).told → (image : ℕ → List ℕ) → IsImage (D.view disks.new) image → (dev : ℕ) → LeavesPages shape image dev → ⊥ }
     ensures others { KeepsBut (IsStoreLog shape.parts) (D.view disks.old) (D.view disks.new) (open_disk_err result) }
     ensures cause { HasCause (D.view disks.old) (D.view disks.new) (open_disk_err result) }
@@ -133,7 +133,7 @@ pub fn open_store<D: Disks, F: Fn(PlaceKind, &Key, u32) -> u32>(
 
     ensures kept { IsTrue (D.view disks.old).told → ¬ (coordinator_pair (logs_of (D.view disks.old).bytes) ≡ BothBlank) → KeepsAll (D.view disks.old) (D.view disks.new) (open_disk_err result) }
     ensures images { IsTrue (D.view disks.old).told → coordinator_pair (logs_of (D.view disks.old).bytes) ≡ BothBlank
-        → (image : ℕ → List ℕ) → IsImage (D.view disks.new) image → judged reading image shape ≡ Ok (nothing_found shape) }
+        → (image : ℕ → List ℕ) → IsImage (D.view disks.new) image → stands_on reading image shape ≡ Ok (nothing_found shape) }
     ensures pages { IsTrue (D.view disks.old).told → coordinator_pair (logs_of (D.view disks.old).bytes) ≡ BothBlank
         → (image : ℕ → List ℕ) → IsImage (D.view disks.new) image → (dev : ℕ) → LeavesPages shape image dev → ⊥ }
 

@@ -3,7 +3,7 @@
 ghost use Rattle.salt_bytes.specs.Generations.{WhichLog};
 ghost use Rattle.salt_commit.specs.Loads.{AreInPlace, fits_place};
 ghost use Rattle.salt_commit.specs.Stores.{IsStore, reading, shape_of_store};
-ghost use Rattle.salt_stands.specs.Fitting.{tables_of};
+ghost use Rattle.salt_stands.specs.Fitting.{tables_defined};
 ghost use Rattle.salt_model.specs.Kept.{Definition};
 ghost use Rattle.salt_stands.specs.Coordinator.{Coordinator};
 ghost use Rattle.salt_stands.specs.Pieces.{PartView};
@@ -77,7 +77,7 @@ impl Store {
         ensures fit { IfOk result (λ fit. fit ≡ true → (which : WhichLog) (c : Coordinator Definition) (v : ℕ → PartView) → IsStore reading (D.view disks.now) self.now which c v
             → AreInPlace schema.now c v) }
         ensures told { IfOk result (λ fit. (which : WhichLog) (c : Coordinator Definition) (v : ℕ → PartView) → IsStore reading (D.view disks.now) self.now which c v → IsTrue (D.view disks.now).told
-            → tables_of c.definitions ≡ schema.now → fit ≡ true) }
+            → tables_defined c.definitions ≡ schema.now → fit ≡ true) }
     {
         let _ = disks;
         let shape = self.decisions.shape();

@@ -16,7 +16,7 @@ use Rattle.law_states.specs.Laws.{IsSound}
 use Rattle.law_states.specs.OpenUnits.{UnitState}
 use Rattle.law_states.specs.States.{State}
 use Rattle.law_states.specs.Steps.{units_after}
-use Rattle.law_states.specs.Told.{commits_in, next_decision}
+use Rattle.law_states.specs.Told.{commits_in, next_decision_number}
 use Rattle.salt_model.specs.Next.{decision_in}
 use Rattle.salt_model.specs.Phases.{Opening}
 use Rattle.salt_model.specs.Trace.{Trace, ◌says◌}
@@ -97,15 +97,15 @@ is-number n m h = grind (arith, nat_tests)
 pub no-number : (n m : ℕ) → n < m → (n == m) ≡ false
 no-number n m h = grind (arith, nat_tests)
 
-pub first-is : (later : Bool) (n : ℕ) (f : Option Event) (s : UnitState) → (later ≡ true → n ≡ next_decision s) → (later ≡ false → n < next_decision s) →
+pub first-is : (later : Bool) (n : ℕ) (f : Option Event) (s : UnitState) → (later ≡ true → n ≡ next_decision_number s) → (later ≡ false → n < next_decision_number s) →
     first_in later f s ≡ opened_in s n f
 first-is later n None s a b = by later
   where
     by : (later : Bool) → first_in later None s ≡ rest_in s
     by true = refl
     by false = refl
-first-is true n (Some e) s a b = sym (ap (λ t. option_or (then_some t e) (rest_in s)) (is-number n (next_decision s) (a refl)))
-first-is false n (Some e) s a b = sym (ap (λ t. option_or (then_some t e) (rest_in s)) (no-number n (next_decision s) (b refl)))
+first-is true n (Some e) s a b = sym (ap (λ t. option_or (then_some t e) (rest_in s)) (is-number n (next_decision_number s) (a refl)))
+first-is false n (Some e) s a b = sym (ap (λ t. option_or (then_some t e) (rest_in s)) (no-number n (next_decision_number s) (b refl)))
 
 below : (m n : ℕ) → nat_lt m n ≡ true → m < n
 below m n h = grind (arith, nat_tests)
@@ -123,7 +123,7 @@ no-later-number m n t = let less = not-below m n t in omega arith
 pub first-told : (x : Books) (single : Bool) (in_flight : Option InFlight) (f : Option Event) (boot n : ℕ) (old new : State) (later : Bool) →
     IsOpenedBy x single in_flight f boot n old new → later ≡ nat_lt x.known.decisions n → first_in later f new.units ≡ opened_in new.units n f
 first-told x single in_flight f boot n old new later o is =
-    let now : next_decision new.units ≡ old.units.kept.decisions + 1 = ap next_decision o.after.units in
+    let now : next_decision_number new.units ≡ old.units.kept.decisions + 1 = ap next_decision_number o.after.units in
     let test : later ≡ nat_lt old.units.kept.decisions n = is ∙ ap (λ m. nat_lt m n) o.knows.are.known.decisions in
     first-is later n f new.units
     (λ t. later-number old.units.kept.decisions n f o.stands_for (sym test ∙ t) ∙ sym now)
@@ -140,8 +140,8 @@ begins x single in_flight f boot n old new later r first o is given =
 flies-event : (i : InFlight) (f : Option Event) (s : UnitState) → IsInFlight (Some i) f s → (e : Event) × (f ≡ Some e)
 flies-event (asked.Commit u) f s h = (commits_in s h.0, h.2)
 flies-event (asked.Branch u b cause) f s h = (branches_in s u cause, h.1)
-flies-event (asked.Table d text) f s h = (Defined (next_decision s) text, h.2)
-flies-event (asked.Program p text) f s h = (Defined (next_decision s) text, h.2)
+flies-event (asked.Table d text) f s h = (Defined (next_decision_number s) text, h.2)
+flies-event (asked.Program p text) f s h = (Defined (next_decision_number s) text, h.2)
 
 pub flies-some : (x : Recovery) (in_flight : Option InFlight) (i : InFlight) (f : Option Event) (s : State) → in_flight ≡ Some i → RestsOrFlies x in_flight f s →
     (e : Event) × (f ≡ Some e) × Flies x i e s

@@ -8,7 +8,7 @@ use Rattle.law_states.specs.Laws.{IsSound}
 use Rattle.law_states.specs.OpenUnits.{OpenUnit, UnitState, unit_named}
 use Rattle.law_states.specs.Points.{KeepsPoint, Point}
 use Rattle.law_states.specs.Steps.{kept_ended, units_after}
-use Rattle.law_states.specs.Told.{commits_in, next_decision}
+use Rattle.law_states.specs.Told.{commits_in, next_decision_number}
 use Rattle.law_states.specs.UnitFacts.{facts_in}
 use Rattle.salt_model.specs.Kept.{Kept}
 use Rattle.salt_model.specs.Next.{is_decision, next}
@@ -41,15 +41,15 @@ pub record IsCounted (s : UnitState) (e : Event) : Type 0 where
 commit-counts : (s : UnitState) (o : OpenUnit) → unit_named o.unit s.units ≡ Some o → IsCounted s (commits_in s o)
 commit-counts s o named = record {
   decides = refl;
-  boot = ap (λ (q : Option OpenUnit). (kept_ended s.kept (Committed (next_decision s)) q).boot) named;
-  decisions = ap (λ (q : Option OpenUnit). (kept_ended s.kept (Committed (next_decision s)) q).decisions) named;
+  boot = ap (λ (q : Option OpenUnit). (kept_ended s.kept (Committed (next_decision_number s)) q).boot) named;
+  decisions = ap (λ (q : Option OpenUnit). (kept_ended s.kept (Committed (next_decision_number s)) q).decisions) named;
 }
 
-branch-counts : (s : UnitState) (o : OpenUnit) (u : Id) (cause : Cause) → unit_named u s.units ≡ Some o → IsCounted s (Ended u (Branched (next_decision s) cause))
+branch-counts : (s : UnitState) (o : OpenUnit) (u : Id) (cause : Cause) → unit_named u s.units ≡ Some o → IsCounted s (Ended u (Branched (next_decision_number s) cause))
 branch-counts s o u cause named = record {
   decides = refl;
-  boot = ap (λ (q : Option OpenUnit). (kept_ended s.kept (Branched (next_decision s) cause) q).boot) named;
-  decisions = ap (λ (q : Option OpenUnit). (kept_ended s.kept (Branched (next_decision s) cause) q).decisions) named;
+  boot = ap (λ (q : Option OpenUnit). (kept_ended s.kept (Branched (next_decision_number s) cause) q).boot) named;
+  decisions = ap (λ (q : Option OpenUnit). (kept_ended s.kept (Branched (next_decision_number s) cause) q).decisions) named;
 }
 
 -- nothing is, or it counts

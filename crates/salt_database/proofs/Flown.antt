@@ -17,7 +17,7 @@ use Rattle.salt_engine.specs.declared.flights.InFlight.{InFlight}
 use Rattle.salt_engine.specs.declared.flights.InFlight.TheVariants as asked
 use Rattle.law_states.specs.OpenUnits.{OpenUnit, UnitState, unit_named}
 use Rattle.law_states.specs.States.{State}
-use Rattle.law_states.specs.Told.{commits_in, next_decision}
+use Rattle.law_states.specs.Told.{commits_in, next_decision_number}
 use Rattle.salt_books.specs.Moves.{CanMove}
 use Rattle.salt_model.specs.Kept.{conts_branched, conts_committed}
 use Rattle.salt_model.specs.declared.events.Cause.{Cause}
@@ -42,8 +42,8 @@ module _ (x : Recovery) (i : InFlight) (f : Event) (s : State) (h : Flies x i f 
     commit-there y same = have-unit y s.units u commit-flies.0 (subst (λ (z : Books). AreBooks z s.units) (sym same) h.rests.stands.books) commit-flies.1
 
     pub commit-moves : (y : Books) → y ≡ books_of x → (m : Move) → ((s : UnitState) (o : OpenUnit) → AreBooks y s → unit_named u s.units ≡ Some o → IsUnitAtPart s u → CanMove s.kept o.kind →
-        make_move s.kept.conts m ≡ Some (conts_committed s.kept (next_decision s) o.kind o.vars)) →
-        make_move s.units.kept.conts m ≡ Some (conts_committed s.units.kept (next_decision s.units) commit-flies.0.kind commit-flies.0.vars)
+        make_move s.kept.conts m ≡ Some (conts_committed s.kept (next_decision_number s) o.kind o.vars)) →
+        make_move s.units.kept.conts m ≡ Some (conts_committed s.units.kept (next_decision_number s.units) commit-flies.0.kind commit-flies.0.vars)
     commit-moves y same m made =
         let sound = h.rests.recovers.sound in
         made s.units commit-flies.0 (subst (λ (z : Books). AreBooks z s.units) (sym same) h.rests.stands.books) commit-flies.1
@@ -73,7 +73,7 @@ module _ (x : Recovery) (i : InFlight) (f : Event) (s : State) (h : Flies x i f 
     branch-told new e g = gives-same s _ _ _ new (sym branch-flies.1) g
 
   module _ (d : TableDef) (text : List ℕ) (is : i ≡ asked.Table d text) where
-    table-is : IsTableToCome s.units d × (text ≡ table_text d) × (Some f ≡ Some (Defined (next_decision s.units) text))
+    table-is : IsTableToCome s.units d × (text ≡ table_text d) × (Some f ≡ Some (Defined (next_decision_number s.units) text))
     table-is = subst (λ (j : InFlight). IsInFlight (Some j) (Some f) s.units) is h.flies
 
     pub table-flies : IsTableToCome s.units d
@@ -82,12 +82,12 @@ module _ (x : Recovery) (i : InFlight) (f : Event) (s : State) (h : Flies x i f 
     pub table-allowed : table_refusal (tables_in (books_of x)) d ≡ None
     table-allowed = ap (λ (ts : List TableDef). table_refusal ts d) h.rests.stands.books.known.schema ∙ table-flies.allowed
 
-    pub table-told : (new : Recovery) (e : Event) → AnswersWith s (Some (Defined (next_decision s.units) (table_text d))) new (Some e) → AnswersWith s (Some f) new (Some e)
+    pub table-told : (new : Recovery) (e : Event) → AnswersWith s (Some (Defined (next_decision_number s.units) (table_text d))) new (Some e) → AnswersWith s (Some f) new (Some e)
     table-told new e g =
-        gives-same s _ _ _ new (sym (table-is.2 ∙ ap (λ (t : List ℕ). Some (Defined (next_decision s.units) t)) table-is.1)) g
+        gives-same s _ _ _ new (sym (table-is.2 ∙ ap (λ (t : List ℕ). Some (Defined (next_decision_number s.units) t)) table-is.1)) g
 
   module _ (p : ProgramDef) (text : List ℕ) (is : i ≡ asked.Program p text) where
-    program-is : IsProgramToCome s.units p × (text ≡ program_text p) × (Some f ≡ Some (Defined (next_decision s.units) text))
+    program-is : IsProgramToCome s.units p × (text ≡ program_text p) × (Some f ≡ Some (Defined (next_decision_number s.units) text))
     program-is = subst (λ (j : InFlight). IsInFlight (Some j) (Some f) s.units) is h.flies
 
     pub program-flies : IsProgramToCome s.units p
@@ -96,6 +96,6 @@ module _ (x : Recovery) (i : InFlight) (f : Event) (s : State) (h : Flies x i f 
     pub program-allowed : program_refusal (tables_in (books_of x)) (programs_in (books_of x)) p ≡ None
     program-allowed = (λ i. program_refusal (h.rests.stands.books.known.schema i) (h.rests.stands.books.known.catalogue i) p) ∙ program-flies.allowed
 
-    pub program-told : (new : Recovery) (e : Event) → AnswersWith s (Some (Defined (next_decision s.units) (program_text p))) new (Some e) → AnswersWith s (Some f) new (Some e)
+    pub program-told : (new : Recovery) (e : Event) → AnswersWith s (Some (Defined (next_decision_number s.units) (program_text p))) new (Some e) → AnswersWith s (Some f) new (Some e)
     program-told new e g =
-        gives-same s _ _ _ new (sym (program-is.2 ∙ ap (λ (t : List ℕ). Some (Defined (next_decision s.units) t)) program-is.1)) g
+        gives-same s _ _ _ new (sym (program-is.2 ∙ ap (λ (t : List ℕ). Some (Defined (next_decision_number s.units) t)) program-is.1)) g

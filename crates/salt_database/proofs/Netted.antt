@@ -5,7 +5,7 @@ use Rattle.law_states.specs.Follows.{opened_in}
 use Rattle.law_states.specs.OpenUnits.{OpenUnit, UnitState, unit_named}
 use Rattle.law_states.specs.Points.{Moves, Point, Say}
 use Rattle.law_states.specs.States.{After, State}
-use Rattle.law_states.specs.Told.{commits_in, next_decision}
+use Rattle.law_states.specs.Told.{commits_in, next_decision_number}
 use Rattle.law_states.specs.UnitFacts.{facts_in}
 use Rattle.salt_ast.specs.declared.lines.Line.{Line}
 use Rattle.salt_database.proofs.Booting.{no-number}
@@ -74,13 +74,13 @@ flown-turned shape line boot cs t (Some (asked.Branch u b cause)) f s e boots ab
     ap (λ (d : Event). turned shape line boot cs d t) (same-some e (branches_in s u cause) (sym is ∙ flies.1))
     ∙ earlier-unit u boot [] t (subst (λ (v : Id). v.boot < boot) (named-unit u s.units o flies.0.named) (earlier u s o boot boots above flies.0.named))
 flown-turned shape line boot cs t (Some (asked.Table d text)) f s e boots above flies is =
-    ap (λ (d : Event). turned shape line boot cs d t) (same-some e (Defined (next_decision s) text) (sym is ∙ flies.2))
+    ap (λ (d : Event). turned shape line boot cs d t) (same-some e (Defined (next_decision_number s) text) (sym is ∙ flies.2))
 flown-turned shape line boot cs t (Some (asked.Program p text)) f s e boots above flies is =
-    ap (λ (d : Event). turned shape line boot cs d t) (same-some e (Defined (next_decision s) text) (sym is ∙ flies.2))
+    ap (λ (d : Event). turned shape line boot cs d t) (same-some e (Defined (next_decision_number s) text) (sym is ∙ flies.2))
 
 first-of : (s : UnitState) (n : ℕ) (f : Option Event) (e : Event) → Some e ≡ opened_in s n f → (f ≡ Some e) ⊎ (Some e ≡ rest_in s)
 first-of s n None e told = inr told
-first-of s n (Some d) e told = by (n == next_decision s) told
+first-of s n (Some d) e told = by (n == next_decision_number s) told
   where
     by : (b : Bool) → Some e ≡ option_or (then_some b d) (rest_in s) → (Some d ≡ Some e) ⊎ (Some e ≡ rest_in s)
     by true told = inl (sym told)

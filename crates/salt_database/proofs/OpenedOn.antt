@@ -8,7 +8,7 @@ use Rattle.law_states.specs.Follows.{opened_in}
 use Rattle.law_states.specs.OpenUnits.{UnitState}
 use Rattle.law_states.specs.Points.{Point}
 use Rattle.law_states.specs.Steps.{units_after}
-use Rattle.law_states.specs.Told.{next_decision}
+use Rattle.law_states.specs.Told.{next_decision_number}
 use Rattle.salt_model.specs.Kept.{Kept}
 use Rattle.salt_model.specs.Next.{is_decision}
 use Rattle.salt_model.specs.Phases.{Fallen}
@@ -56,10 +56,10 @@ module _ (p : Point) (sound : IsSoundPoint p) (fallen : p.state.units.phase ≡ 
     where
       by : (o : Option Event) → opened_in s number o ≡ rest_in s
       by None = refl
-      by (Some e) = ap (λ t. option_or (then_some t e) (rest_in s)) (no-number number (next_decision s) (let n = same in omega arith))
+      by (Some e) = ap (λ t. option_or (then_some t e) (rest_in s)) (no-number number (next_decision_number s) (let n = same in omega arith))
 
   with-flight : (e : Event) → p.flight ≡ Some e → number ≡ p.state.units.kept.decisions + 1 → opened_in s number p.flight ≡ Some e
-  with-flight e is same = ap (opened_in s number) is ∙ ap (λ t. option_or (then_some t e) (rest_in s)) (is-number number (next_decision s) same)
+  with-flight e is same = ap (opened_in s number) is ∙ ap (λ t. option_or (then_some t e) (rest_in s)) (is-number number (next_decision_number s) same)
 
   later-boot : (m : Kept) → m.boot ≡ p.state.units.kept.boot → record m { boot = boot } ≡ booted (raised f.boots m)
   later-boot m same = λ i. record m { boot = (boot-is p sound fallen room k number boot f next_boot ∙ ap (λ n. n + f.boots + 1) (sym same)) i }

@@ -7,7 +7,7 @@ use Rattle.salt_engine.specs.Performing.{is_prepared}
 use Rattle.law_states.specs.Follows.{cut_in, cuts_or_drains_in, drains_in, unfinished_in}
 use Rattle.law_states.specs.OpenUnits.{OpenUnit, UnitState, unit_named}
 use Rattle.law_states.specs.States.{State}
-use Rattle.law_states.specs.Told.{commits_in, does_in, next_decision, serve_in}
+use Rattle.law_states.specs.Told.{commits_in, does_in, next_decision_number, serve_in}
 use Rattle.salt_model.specs.Words.{is_empty}
 use Rattle.salt_model.specs.declared.events.End.TheVariants.{Branched, Cut}
 use Rattle.salt_model.specs.declared.events.Event.{Event}
@@ -69,7 +69,7 @@ rest-told s x (coming.Commit u) b h = by (unit_named u s.units.units) refl b.rea
     by : (q : Option OpenUnit) → unit_named u s.units.units ≡ q → IsSome q → ⊥
     by None e some = cc
     by (Some o) e some = let not : false ≡ true = rests-only s.units (commits_in s.units o) (sym (ap (option_map (commits_in s.units)) e) ∙ b.meant) in cc
-rest-told s x (coming.Branch u base cause) b h = let not : false ≡ true = rests-only s.units (Ended u (Branched (next_decision s.units) cause)) b.meant in cc
+rest-told s x (coming.Branch u base cause) b h = let not : false ≡ true = rests-only s.units (Ended u (Branched (next_decision_number s.units) cause)) b.meant in cc
 
 pub told-event : (c : Coming) → IsTold c → (e : Event) × (c ≡ coming.Told e)
 told-event (coming.Told e) h = (e, refl)

@@ -27,8 +27,8 @@ use Rattle.salt_storage.specs.declared.found.Numbers.{Numbers}
 use Rattle.std.specs.Prelude.{Bool, IsSome, None, Option, Some, [], false, true, ℕ, ◌+◌, ◌<◌, ◌≡◌, ◌⊎◌}
 
 -- nothing is open over what is kept; openings may be early, or not
-abbrev pub AreFresh : Bool → Books → Kept → Type 0
-AreFresh early x k = (phase : Phase) (line : Line) → AreBooks x (record {
+abbrev pub HaveNothingOpen : Bool → Books → Kept → Type 0
+HaveNothingOpen early x k = (phase : Phase) (line : Line) → AreBooks x (record {
   kept = k;
   phase = phase;
   line = line;
@@ -47,7 +47,7 @@ pub record IsTakenOn (early : Bool) (k : Kept) (found : Option Numbers) (stage :
   pub numbers : Numbers
   pub is : found ≡ Some numbers
   pub there : stage ≡ Down books
-  pub fresh : AreFresh early books k
+  pub fresh : HaveNothingOpen early books k
   pub numbered : IsNumbered numbers k
 
 -- and was asked nothing yet

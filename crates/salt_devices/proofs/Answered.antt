@@ -16,7 +16,7 @@ use Rattle.salt_stands.specs.CoordinatorLog.{CoordinatorLog, coordinator_generat
 use Rattle.salt_stands.specs.Partition.{judge_part, pages_device, part_at, part_device, part_pair}
 use Rattle.salt_stands.specs.PartitionLog.{partition_generation, partition_in}
 use Rattle.salt_stands.specs.Stands as opening
-use Rattle.salt_stands.specs.Stands.{Opening, are_spent, found_with, is_same_kind, is_same_shape, judged, logs_of, nothing_found, of_coordinator, of_parts, opening_of, parts_at, with_parts}
+use Rattle.salt_stands.specs.Stands.{Opening, are_spent, found_with, is_same_kind, is_same_shape, stands_on, logs_of, nothing_found, of_coordinator, of_parts, opening_of, parts_at, with_parts}
 use Rattle.salt_stands.specs.Words.{each_from, if_sound, or_fault}
 use Rattle.salt_storage.specs.Writing.{FindsNoMore}
 use Rattle.salt_storage.specs.OpenErr.TheVariants as open_err
@@ -69,7 +69,7 @@ pub record IsNothing (bytes : ℕ → List ℕ) (asked : Shape) (found : opening
   pub blank : coordinator_pair (logs_of bytes) ≡ BothBlank
   pub is : nothing_found asked ≡ found
 
-pub judged_as : (bytes : ℕ → List ℕ) (asked : Shape) (found : opening.Found Definition) → judged reading bytes asked ≡ Ok found → IsNothing bytes asked found ⊎ IsCounted bytes found
+pub judged_as : (bytes : ℕ → List ℕ) (asked : Shape) (found : opening.Found Definition) → stands_on reading bytes asked ≡ Ok found → IsNothing bytes asked found ⊎ IsCounted bytes found
 judged_as bytes asked found e = by (coordinator_pair (logs_of bytes)) refl e
   where
     of_part : (which : WhichLog) (log : CoordinatorLog) → coordinator_pair (logs_of bytes) ≡ Counts which log → (c : Coordinator Definition) → coordinator_of reading log ≡ Some c
@@ -115,10 +115,10 @@ opened_as bytes asked found e = by (coordinator_pair (logs_of bytes)) refl e
     by (Counts which log) is e' = inr (of_log_read which log is (coordinator_of reading log) refl e')
 
 -- what is opened stands, in the shape that is asked for
-pub opened_stands : (bytes : ℕ → List ℕ) (asked : Shape) (found : opening.Found Definition) → opening_of reading bytes asked ≡ opening.Stands found → judged reading bytes asked ≡ Ok found
+pub opened_stands : (bytes : ℕ → List ℕ) (asked : Shape) (found : opening.Found Definition) → opening_of reading bytes asked ≡ opening.Stands found → stands_on reading bytes asked ≡ Ok found
 opened_stands bytes asked found e = by (opened_as bytes asked found e)
   where
-    by : IsNothing bytes asked found ⊎ IsOpened bytes asked found → judged reading bytes asked ≡ Ok found
+    by : IsNothing bytes asked found ⊎ IsOpened bytes asked found → stands_on reading bytes asked ≡ Ok found
     by (inl none) = ap (λ p. if_sound (with_parts reading (logs_of bytes) bytes asked) (judge_coordinator reading p)) none.blank ∙ ap Ok none.is
     by (inr o) =
         let k = o.counted in
@@ -141,7 +141,7 @@ same_shape_true : (s : Shape) → is_same_shape s s ≡ true
 same_shape_true s = ap (λ b. b && is_same_kind s.kind s.kind) ((Decides-eqb s.parts s.parts).1 refl) ∙ same_kind s.kind
 
 -- what stands for a new database is opened as one
-pub new_opens : (image : ℕ → List ℕ) (asked : Shape) → judged reading image asked ≡ Ok (nothing_found asked) → opening_of reading image asked ≡ opening.Stands (nothing_found asked)
+pub new_opens : (image : ℕ → List ℕ) (asked : Shape) → stands_on reading image asked ≡ Ok (nothing_found asked) → opening_of reading image asked ≡ opening.Stands (nothing_found asked)
 new_opens image asked e = by (judged_as image asked (nothing_found asked) e)
   where
     by : IsNothing image asked (nothing_found asked) ⊎ IsCounted image (nothing_found asked) → opening_of reading image asked ≡ opening.Stands (nothing_found asked)
@@ -164,7 +164,7 @@ pub record AreSpent (bytes : ℕ → List ℕ) (asked : Shape) (found : opening.
   pub opens : opening_of reading bytes asked ≡ opening.NumbersSpent found.kept.boot found.kept.decisions
   pub spent : are_spent found.kept.boot found.kept.decisions ≡ true
 
-pub judged_opens : (bytes : ℕ → List ℕ) (asked : Shape) (found : opening.Found Definition) → judged reading bytes asked ≡ Ok found → found.shape ≡ asked → (opening_of reading bytes asked ≡ opening.Stands found) ⊎ AreSpent bytes asked found
+pub judged_opens : (bytes : ℕ → List ℕ) (asked : Shape) (found : opening.Found Definition) → stands_on reading bytes asked ≡ Ok found → found.shape ≡ asked → (opening_of reading bytes asked ≡ opening.Stands found) ⊎ AreSpent bytes asked found
 judged_opens bytes asked found e has = by (judged_as bytes asked found e)
   where
     by : IsNothing bytes asked found ⊎ IsCounted bytes found → (opening_of reading bytes asked ≡ opening.Stands found) ⊎ AreSpent bytes asked found
@@ -271,10 +271,10 @@ module _ (shape : Shape) (bytes image : ℕ → List ℕ) (alike : AreAlike shap
   }
 
   -- what the one stands for in this shape, the other does
-  same_judged : (found : opening.Found Definition) → found.shape ≡ shape → judged reading image shape ≡ Ok found → judged reading bytes shape ≡ Ok found
+  same_judged : (found : opening.Found Definition) → found.shape ≡ shape → stands_on reading image shape ≡ Ok found → stands_on reading bytes shape ≡ Ok found
   same_judged found is e = by (judged_as image shape found e)
     where
-      by : IsNothing image shape found ⊎ IsCounted image found → judged reading bytes shape ≡ Ok found
+      by : IsNothing image shape found ⊎ IsCounted image found → stands_on reading bytes shape ≡ Ok found
       by (inl none) = ap (λ p. if_sound (with_parts reading (logs_of bytes) bytes shape) (judge_coordinator reading p)) (sym same_pair ∙ none.blank) ∙ ap Ok none.is
       by (inr k) =
           let has : k.c.log.header.shape ≡ shape = ap (λ (f : opening.Found Definition). f.shape) k.is ∙ is in
@@ -306,7 +306,7 @@ module _ (shape : Shape) (bytes image : ℕ → List ℕ) (alike : AreAlike shap
 
 pub record IsMadeNew (shape : Shape) (bytes image : ℕ → List ℕ) : Type 0 where
   pub blank : coordinator_pair (logs_of bytes) ≡ BothBlank
-  pub new : judged reading image shape ≡ Ok (nothing_found shape)
+  pub new : stands_on reading image shape ≡ Ok (nothing_found shape)
   pub unnamed : (dev : ℕ) → LeavesPages shape image dev → ⊥
 
 module _ (shape : Shape) (bytes image : ℕ → List ℕ) (made : IsMadeNew shape bytes image) where
@@ -337,7 +337,7 @@ module _ (shape : Shape) (bytes image : ℕ → List ℕ) (made : IsMadeNew shap
   no_refusal (open_err.Full dev) is = is
   no_refusal open_err.Memory is = is
 
-  judged_blank : judged reading bytes shape ≡ Ok (nothing_found shape)
+  judged_blank : stands_on reading bytes shape ≡ Ok (nothing_found shape)
   judged_blank = ap (λ p. if_sound (with_parts reading (logs_of bytes) bytes shape) (judge_coordinator reading p)) made.blank
 
   new_finds : FindsNoMore (RefusedAs shape bytes) (StandsFor shape bytes) (RefusedAs shape image) (StandsFor shape image)

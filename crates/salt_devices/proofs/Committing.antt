@@ -13,10 +13,10 @@ use Rattle.salt_codec.specs.Moves.{IsShort, IsShortMove}
 use Rattle.salt_commit.specs.Commits.{MayCommitUnit, fits_its_part}
 use Rattle.salt_commit.specs.Shares.{next_decision}
 use Rattle.salt_commit.specs.Stores.{reading}
-use Rattle.salt_stands.specs.Fitting.{are_of_columns, is_cont_of, is_key_of, is_row_of, passes_checks, programs_of, tables_of}
+use Rattle.salt_stands.specs.Fitting.{are_of_columns, is_cont_of, is_key_of, is_row_of, passes_checks, programs_defined, tables_defined}
 use Rattle.salt_devices.proofs.Limits.{arguments_length, at_every, columns_length, few_columns, few_params, few_vars, short_name}
 use Rattle.salt_devices.specs.Holding.{IsFresh, Keeps}
-use Rattle.salt_codec.specs.Entries.{IsPut, MayStand}
+use Rattle.salt_codec.specs.Entries.{CanBePut, MayStand}
 use Rattle.salt_model.specs.Kept.{Definition, Kept, OfProgram, OfTable, Rise, cont_in, schema_of}
 use Rattle.salt_model.specs.Tables.{changed_at}
 use Rattle.salt_model.specs.Words.{Every}
@@ -100,7 +100,7 @@ row_length d row key few same = by d.columns key few same
         le a b h = grind (arith, nat_tests)
 
 -- the tables of definitions that texts spell are within the limits
-spelled_tables : (ds : List Definition) → Every IsSpelledDefinition ds → Every (λ (d : TableDef). length d.columns ≤ 16) (tables_of ds)
+spelled_tables : (ds : List Definition) → Every IsSpelledDefinition ds → Every (λ (d : TableDef). length d.columns ≤ 16) (tables_defined ds)
 spelled_tables [] h = tt
 spelled_tables (OfTable d ∷ ds) h = (few_columns d h.0.within, spelled_tables ds h.1)
 spelled_tables (OfProgram p ∷ ds) h = spelled_tables ds h.1
@@ -110,7 +110,7 @@ record IsSmall (p : ProgramDef) : Type 0 where
   pub params : length p.params ≤ 16
   pub vars : length p.vars ≤ 16
 
-spelled_programs : (ds : List Definition) → Every IsSpelledDefinition ds → Every IsSmall (programs_of ds)
+spelled_programs : (ds : List Definition) → Every IsSpelledDefinition ds → Every IsSmall (programs_defined ds)
 spelled_programs [] h = tt
 spelled_programs (OfTable d ∷ ds) h = spelled_programs ds h.1
 spelled_programs (OfProgram p ∷ ds) h = (record { name = short_name p h.0.within; params = few_params p h.0.within; vars = few_vars p h.0.within }, spelled_programs ds h.1)
@@ -133,14 +133,14 @@ put_row schema table row plain fits = by (slice_get schema table) refl fits
         let p = at_every IsPlain schema table d plain is in
         row_length d row p.key p.few (columns_length d.columns row (left (are_of_columns d.columns row) (passes_checks d row) e))
 
-put_change : (schema : List TableDef) (c : Change) → Every IsPlain schema → FitsAt schema (changed_at c) c.row → IsPut true c
+put_change : (schema : List TableDef) (c : Change) → Every IsPlain schema → FitsAt schema (changed_at c) c.row → CanBePut true c
 put_change schema c plain fits = by c.row fits
   where
     by : (o : Option (List Value)) → FitsAt schema (changed_at c) o → Rattle.salt_codec.specs.Entries.IsPutTo true c.key o
     by None h = key_is_some (slice_get schema c.table) c.key h
     by (Some row) h = (put_row schema c.table row plain h.fits, sym h.key, all_stand row)
 
-put_changes : (schema : List TableDef) (cs : List Change) → Every IsPlain schema → AreChangesOf schema cs → bytes.Every (IsPut true) cs
+put_changes : (schema : List TableDef) (cs : List Change) → Every IsPlain schema → AreChangesOf schema cs → bytes.Every (CanBePut true) cs
 put_changes schema [] plain h = tt
 put_changes schema (c ∷ cs) plain h = (put_change schema c plain h.0, put_changes schema cs plain h.1)
 
@@ -172,13 +172,13 @@ small_named (q ∷ ps) name p all e = by (same_bytes name q.name) refl e (λ e'.
     by true is e' more = let same : q ≡ p = cc e' in subst (IsSmallNamed name) same (record { small = all.0; same = same_length name q.name is })
     by false is e' more = more e'
 
-short_cont : (ds : List Definition) (c : Cont) → Every IsSpelledDefinition ds → is_cont_of (program_named (programs_of ds) c.program) c ≡ true → IsShort c
-short_cont ds c spelled fits = by (program_named (programs_of ds) c.program) refl fits
+short_cont : (ds : List Definition) (c : Cont) → Every IsSpelledDefinition ds → is_cont_of (program_named (programs_defined ds) c.program) c ≡ true → IsShort c
+short_cont ds c spelled fits = by (program_named (programs_defined ds) c.program) refl fits
   where
-    by : (o : Option ProgramDef) → program_named (programs_of ds) c.program ≡ o → is_cont_of o c ≡ true → IsShort c
+    by : (o : Option ProgramDef) → program_named (programs_defined ds) c.program ≡ o → is_cont_of o c ≡ true → IsShort c
     by None is e = absurd cc
     by (Some p) is e =
-        let s = small_named (programs_of ds) c.program p (spelled_programs ds spelled) is in
+        let s = small_named (programs_defined ds) c.program p (spelled_programs ds spelled) is in
         let args = arguments_length p.params c.args (left _ _ e) in
         let vars = arguments_length p.vars c.vars (left _ _ (right (are_arguments p.params c.args) _ e)) in
         record {
@@ -196,8 +196,8 @@ short_move k u cs (Finish b) conts may = tt
 
 module _ (shape : Shape) (c : Coordinator Definition) (v : ℕ → PartView) (k : Kept) (keeps : Keeps shape c v k) (u : Id) (cs : List Change) (m : Move) (conts : List Cont) (may : MayDecide k u cs m conts)
     (kept : IsSoundKept k) where
-  schema_is : schema_of k ≡ tables_of c.definitions
-  schema_is = ap tables_of keeps.definitions
+  schema_is : schema_of k ≡ tables_defined c.definitions
+  schema_is = ap tables_defined keeps.definitions
 
   le : (a b : ℕ) → a ≤ b → nat_le a b ≡ true
   le a b h = grind (arith, nat_tests)
@@ -209,16 +209,16 @@ module _ (shape : Shape) (c : Coordinator Definition) (v : ℕ → PartView) (k 
       let now = decided k cs conts in
       let boots : x.base.boot ≤ k.boot = every_made (λ y. y.base.boot ≤ k.boot) x k.conts conts moves may.sound.well.boots in
       let numbers : x.accepted ≤ k.decisions + 1 = every_made (λ y. y.accepted ≤ k.decisions + 1) x k.conts conts moves (accepted_within (k.decisions + 1) conts may.sound.well.accepted) in
-      let fits : is_cont_of (program_named (programs_of k.definitions) x.program) x ≡ true = every_made (IsContOf now) x k.conts conts moves may.sound.typed.conts in
+      let fits : is_cont_of (program_named (programs_defined k.definitions) x.program) x ≡ true = every_made (IsContOf now) x k.conts conts moves may.sound.typed.conts in
       join (is_sound_cont reading c.definitions (with_decision c (next_decision c u cs mv) conts).log.told x) true
-      (join (is_cont_of (program_named (programs_of c.definitions) x.program) x) (nat_le x.base.boot c.log.told.boot && nat_le x.accepted (c.log.told.decisions + 1))
-      (subst (λ (ds : List Definition). is_cont_of (program_named (programs_of ds) x.program) x ≡ true) keeps.definitions fits)
+      (join (is_cont_of (program_named (programs_defined c.definitions) x.program) x) (nat_le x.base.boot c.log.told.boot && nat_le x.accepted (c.log.told.decisions + 1))
+      (subst (λ (ds : List Definition). is_cont_of (program_named (programs_defined ds) x.program) x ≡ true) keeps.definitions fits)
       (join (nat_le x.base.boot c.log.told.boot) (nat_le x.accepted (c.log.told.decisions + 1))
       (le x.base.boot c.log.told.boot (subst (λ n. x.base.boot ≤ n) keeps.boot boots))
       (le x.accepted (c.log.told.decisions + 1) (subst (λ n. x.accepted ≤ n + 1) keeps.decisions numbers))))
       refl
 
-  pub may_commit_unit : IsFresh c v u → move_in 3 (spell_move 3 m) ≡ Some m → (AreChangesOf (tables_of c.definitions) cs → list_all (fits_its_part reading c) cs ≡ true)
+  pub may_commit_unit : IsFresh c v u → move_in 3 (spell_move 3 m) ≡ Some m → (AreChangesOf (tables_defined c.definitions) cs → list_all (fits_its_part reading c) cs ≡ true)
       → MayCommitUnit reading c v u cs (spell_move 3 m) m conts
   may_commit_unit fresh reads sound = record {
     boot = subst (λ n. u.boot ≤ n) keeps.boot may.boot;
@@ -226,8 +226,8 @@ module _ (shape : Shape) (c : Coordinator Definition) (v : ℕ → PartView) (k 
     new = fresh.new;
     ordered = may.ordered;
     fits = sound (subst (λ s. AreChangesOf s cs) schema_is may.fits);
-    put = λ p low. subst (λ b. bytes.Every (IsPut b) (changes_at c.log.header.shape p cs)) (sym (keeps.nulls p low))
-        (every_filter (IsPut true) (is_of_part c.log.header.shape p) cs (put_changes (schema_of k) cs (plain_tables (schema_of k) kept.typed.tables (spelled_tables k.definitions kept.spelled)) may.fits));
+    put = λ p low. subst (λ b. bytes.Every (CanBePut b) (changes_at c.log.header.shape p cs)) (sym (keeps.nulls p low))
+        (every_filter (CanBePut true) (is_of_part c.log.header.shape p) cs (put_changes (schema_of k) cs (plain_tables (schema_of k) kept.typed.tables (spelled_tables k.definitions kept.spelled)) may.fits));
     spells = ap (λ f. move_in f (spell_move 3 m)) keeps.format ∙ reads;
     moves = ap (λ cs'. make_move cs' m) (sym keeps.conts) ∙ may.moves;
     named = names_sound (spell_move 3 m) m may.moves;

@@ -8,7 +8,7 @@ use Rattle.salt_commit.specs.Openings.{NamesPages}
 use Rattle.salt_commit.specs.Shares.{next_decision}
 use Rattle.salt_commit.specs.Stores.{IsStore, StandForEither, reading}
 use Rattle.salt_commit.specs.declared.store.Store.{Store}
-use Rattle.salt_stands.specs.Fitting.{tables_of}
+use Rattle.salt_stands.specs.Fitting.{tables_defined}
 use Rattle.salt_devices.proofs.Committing.{may_commit_unit}
 use Rattle.salt_devices.proofs.Decided.{unit_held, unit_leaves, unit_new}
 use Rattle.salt_devices.proofs.Renamed.{IsHeldWithout, held_without}
@@ -18,7 +18,7 @@ use Rattle.salt_disk.specs.Disks.{IsImage, SameShape, View}
 use Rattle.salt_model.specs.Kept.{Definition, Kept}
 use Rattle.salt_model.specs.Words.{Every}
 use Rattle.salt_stands.proofs.Booleans.{left, right}
-use Rattle.salt_stands.specs.Commits.{found_after, found_of, parts_of, view_after}
+use Rattle.salt_stands.specs.Commits.{found_after, found_of, partition_count, view_after}
 use Rattle.salt_stands.specs.Coordinator.{Coordinator}
 use Rattle.salt_stands.specs.Pieces.{PartView, with_decision}
 use Rattle.salt_storage.specs.Storing.{MayDecide, decided}
@@ -43,7 +43,7 @@ is_parts n e = (le_true 1 n (left (nat_le 1 n) (nat_le n 8) e), le_true n 8 (rig
 
 module _ (d : View) (shape : Shape) (x : Store) (k : Kept) (h : IsHeld d shape x k) (u : Id) (cs : List Change) (m : Move) (conts : List Cont) (may : MayDecide k u cs m conts) (new : IsNewTo d u)
     (reads : move_in 3 (spell_move 3 m) ≡ Some m)
-    (sound : (c : Coordinator Definition) → AreChangesOf (tables_of c.definitions) cs → list_all (fits_its_part reading c) cs ≡ true)
+    (sound : (c : Coordinator Definition) → AreChangesOf (tables_defined c.definitions) cs → list_all (fits_its_part reading c) cs ≡ true)
     (mv : List ℕ) (spells : mv ≡ spell_move 3 m) where
   without : IsHeldWithout d shape x k u
   without = held_without d shape x k u h new
@@ -73,7 +73,7 @@ module _ (d : View) (shape : Shape) (x : Store) (k : Kept) (h : IsHeld d shape x
     module _ (images : (which : WhichLog) (c : Coordinator Definition) (v : ℕ → PartView) (m' : Move) (conts' : List Cont) → IsStore reading d x which c v → MayCommitUnit reading c v u cs mv m' conts' → IsTrue d.told
         → StandForEither reading e (found_of c v) (found_after c v cs (next_decision c u cs mv) conts'))
         (pages : (which : WhichLog) (c : Coordinator Definition) (v : ℕ → PartView) (m' : Move) (conts' : List Cont) → IsStore reading d x which c v → MayCommitUnit reading c v u cs mv m' conts' → IsTrue d.told
-        → (image : ℕ → List ℕ) → IsImage e image → (p dev : ℕ) → p < parts_of c → NamesPages image p dev → ⊥) where
+        → (image : ℕ → List ℕ) → IsImage e image → (p dev : ℕ) → p < partition_count c → NamesPages image p dev → ⊥) where
       pub unit_leaves_either : LeavesEither e shape k (decided k cs conts)
       unit_leaves_either = unit_leaves d e shape x y k without.held u cs m mv conts may without.fresh parts told same
           (λ t. images without.held.which without.held.c without.held.v m conts without.held.is may_now t)

@@ -13,11 +13,11 @@ use Rattle.salt_devices.specs.Leaving.{LeavesEither, StandsFor}
 use Rattle.salt_disk.specs.Disks.{IsImage, KeepsOthers, SameShape, Shrinks, View}
 use Rattle.salt_disk.specs.declared.disks.DiskErr.{DiskErr}
 use Rattle.salt_model.specs.Kept.{Definition, Kept}
-use Rattle.salt_stands.specs.Commits.{found_of, parts_of}
+use Rattle.salt_stands.specs.Commits.{found_of, partition_count}
 use Rattle.salt_stands.specs.Coordinator.{Coordinator}
 use Rattle.salt_stands.specs.Partition.{part_device}
 use Rattle.salt_stands.specs.Pieces.{PartView, with_boot, with_definition}
-use Rattle.salt_stands.specs.Stands.{Found, judged}
+use Rattle.salt_stands.specs.Stands.{Found, stands_on}
 use Rattle.salt_storage.specs.Storing.{MayDefine, booted, defined}
 use Rattle.salt_place.specs.declared.placement.Shape.{Shape}
 use Rattle.std.proofs.Common.{IsTrue, List, Ok, Option, Some, [], ap, arith, inl, inr, sym, ℕ, ◌+◌, ◌*◌, ◌++◌, ◌<◌, ◌≡◌, ◌⊎◌, ◌∙◌, ◌∷◌}
@@ -30,7 +30,7 @@ module _ (d e : View) (shape : Shape) (x : Store) (k : Kept) (h : IsHeld d shape
   -- each image stands for what was found, or for what is found now
   pub leaves_either : (after : Found Definition) (b : Kept) → after.shape ≡ shape → after.format ≡ 3 → (IsTrue d.told → kept_in after ≡ b)
       → (IsTrue d.told → StandForEither reading e (found_of h.c h.v) after)
-      → (IsTrue d.told → (image : ℕ → List ℕ) → IsImage e image → (p dev : ℕ) → NamesPages image p dev → p < parts_of h.c → ⊥)
+      → (IsTrue d.told → (image : ℕ → List ℕ) → IsImage e image → (p dev : ℕ) → NamesPages image p dev → p < partition_count h.c → ⊥)
       → LeavesEither e shape k b
   leaves_either after b has_shape newest keeps either no_pages told image left = record { begun = is_begun shape image (λ asked. one asked (either was asked image left)); stands = by (either was shape image left) }
     where
@@ -40,11 +40,11 @@ module _ (d e : View) (shape : Shape) (x : Store) (k : Kept) (h : IsHeld d shape
       none : (dev : ℕ) → LeavesPages shape image dev → ⊥
       none dev pages = no_pages was image left pages.p dev pages.names (omega (arith, pages.low, ap (λ (s : Shape). s.parts) h.keeps.has_shape))
 
-      one : (asked : Shape) → (judged reading image asked ≡ Ok (found_of h.c h.v)) ⊎ (judged reading image asked ≡ Ok after) → IsJudged shape image asked
+      one : (asked : Shape) → (stands_on reading image asked ≡ Ok (found_of h.c h.v)) ⊎ (stands_on reading image asked ≡ Ok after) → IsJudged shape image asked
       one asked (inl is) = record { found = found_of h.c h.v; has_shape = h.keeps.has_shape; is = is }
       one asked (inr is) = record { found = after; has_shape = has_shape; is = is }
 
-      by : (judged reading image shape ≡ Ok (found_of h.c h.v)) ⊎ (judged reading image shape ≡ Ok after) → StandsFor shape image k ⊎ StandsFor shape image b
+      by : (stands_on reading image shape ≡ Ok (found_of h.c h.v)) ⊎ (stands_on reading image shape ≡ Ok after) → StandsFor shape image k ⊎ StandsFor shape image b
       by (inl is) = inl (record { found = found_of h.c h.v; is = is; has_shape = h.keeps.has_shape; newest = h.keeps.format; keeps = held_is d shape x k h was; no_pages = none })
       by (inr is) = inr (record { found = after; is = is; has_shape = has_shape; newest = newest; keeps = keeps was; no_pages = none })
 
@@ -53,7 +53,7 @@ module _ (d e : View) (shape : Shape) (x : Store) (k : Kept) (h : IsHeld d shape
     untouched : (p k : ℕ) → 2 + 3 * p + k ≡ coordinator_device x → ⊥
     untouched p k e = apart_from_part h.which p k (e ∙ h.is.decisions.counting.device)
 
-    no_pages_entered : IsTrue d.told → (image : ℕ → List ℕ) → IsImage e image → (p dev : ℕ) → NamesPages image p dev → p < parts_of h.c → ⊥
+    no_pages_entered : IsTrue d.told → (image : ℕ → List ℕ) → IsImage e image → (p dev : ℕ) → NamesPages image p dev → p < partition_count h.c → ⊥
     no_pages_entered told image left p dev names low =
         no_pages_left d x h.which h.c h.v h.is told e same image left
         (λ q. keeps.images (part_device q) (λ at. untouched q 0 (omega (arith, at)))) (λ q. keeps.images (part_device q + 1) (λ at. untouched q 1 at)) p low dev names

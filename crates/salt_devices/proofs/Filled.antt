@@ -12,7 +12,7 @@ use Rattle.salt_commit.specs.Shares.{has_changes, mask_of, share_at, shares_of}
 use Rattle.salt_commit.specs.Stores.{coordinator_device, coordinator_gate, decided_by, last_boot}
 use Rattle.salt_commit.specs.declared.store.Store.{Store}
 use Rattle.salt_decisions.specs.Decisions as decisions
-use Rattle.salt_devices.specs.Filling.{EntryFills, FillsIn, IsTooLong, ShareFills, next_boot, next_decision, next_definition}
+use Rattle.salt_devices.specs.Filling.{EntryFills, FillsIn, IsTooLong, ShareFills, next_boot, decision_entry, definition_entry}
 use Rattle.salt_devices.specs.Holding.{IsHeld}
 use Rattle.salt_decisions.specs.declared.header_payload.TheConstants.{FORMAT}
 use Rattle.salt_disk.specs.Disks.{View}
@@ -60,16 +60,16 @@ module _ (d : View) (shape : Shape) (x : Store) (k : Kept) (h : IsHeld d shape x
   pub definition_fills : (text : List ℕ) (dev : ℕ) → dev ≡ coordinator_device x → d.limit dev < coordinator_gate x + 10 + length (spell_entry (Defines (decisions.next_definition x.decisions text)))
       → FillsIn d shape (OfDefinition text) dev
   definition_fills text dev at over told =
-      entry_fills (next_definition text) dev at
+      entry_fills (definition_entry text) dev at
       (subst (λ n. d.limit dev < coordinator_gate x + 10 + length (spell_entry (Defines (record { number = n + 1; text = text })))) h.is.decisions.holds.decisions over) told
 
   has_shape : decisions.shape_of x.decisions ≡ shape
   has_shape = h.is.decisions.holds.shape ∙ h.keeps.has_shape
 
   module _ (u : Id) (cs : List Change) (m : Move) (dev : ℕ) (told : IsTrue d.told) where
-    decision_fills : DecisionPassesLimit d.limit x u cs (spell_move FORMAT m) dev → EntryFills d (next_decision shape u cs m) dev
+    decision_fills : DecisionPassesLimit d.limit x u cs (spell_move FORMAT m) dev → EntryFills d (decision_entry shape u cs m) dev
     decision_fills p =
-        entry_fills (next_decision shape u cs m) dev p.device
+        entry_fills (decision_entry shape u cs m) dev p.device
         (subst (λ n. d.limit dev < coordinator_gate x + 10 + length (spell_entry (Decides (record { number = n + 1; unit = u; mask = mask_of (shares_of shape cs); move = spell_move FORMAT m })))) h.is.decisions.holds.decisions
         (subst (λ (s : Shape). d.limit dev < coordinator_gate x + 10 + length (spell_entry (Decides (decisions.next_decision x.decisions u (mask_of (shares_of s cs)) (spell_move FORMAT m))))) has_shape p.over)) told
 

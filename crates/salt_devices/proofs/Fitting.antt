@@ -9,7 +9,7 @@ use Rattle.salt_commit.specs.Stores.{ArePartitions, IsSound, IsStore, reading}
 use Rattle.salt_commit.specs.declared.store.Store.{Store}
 use Rattle.salt_decisions.specs.Decisions.{IsDecisions}
 use Rattle.salt_decisions.specs.declared.kept.Kept as log
-use Rattle.salt_stands.specs.Fitting.{kept_in, tables_of}
+use Rattle.salt_stands.specs.Fitting.{kept_in, tables_defined}
 use Rattle.salt_devices.proofs.Sound.{sound_kept}
 use Rattle.salt_devices.specs.Holding.{IsHeld, Keeps}
 use Rattle.salt_devices.specs.Opened.{HoldsFound, IsNewest, IsOpen}
@@ -22,7 +22,7 @@ use Rattle.salt_model.specs.Words.{Every}
 use Rattle.salt_ast.specs.declared.trees.TableDef.{TableDef}
 use Rattle.salt_ast.specs.Spelling.{SpellsTable}
 use Rattle.salt_stands.proofs.Coordinators.{is_coordinator}
-use Rattle.salt_stands.specs.Commits.{each_tables, found_of, parts_of}
+use Rattle.salt_stands.specs.Commits.{each_tables, found_of, partition_count}
 use Rattle.salt_stands.specs.Coordinator.{Coordinator, coordinator_of, decided_for}
 use Rattle.salt_stands.specs.CoordinatorLog.{CoordinatorLog}
 use Rattle.salt_stands.specs.Pieces.{PartView}
@@ -63,8 +63,8 @@ module _ (texts : Texts) (keyed : Keyed) where
         cc
 
     -- where the disks tell, these are the tables
-    pub recovered_tables : IsTrue e.told → tables_of c.definitions ≡ r.schema
-    recovered_tables told = ap (λ (k : Coordinator Definition). tables_of k.definitions) (same told) ∙ sym rec.schema
+    pub recovered_tables : IsTrue e.told → tables_defined c.definitions ≡ r.schema
+    recovered_tables told = ap (λ (k : Coordinator Definition). tables_defined k.definitions) (same told) ∙ sym rec.schema
 
     stands : IsStore reading e x o.which rec.c v
     stands = record {
@@ -80,9 +80,9 @@ module _ (texts : Texts) (keyed : Keyed) where
     log_format : c.log.header.format ≡ 3
     log_format = sym o.keeps.format ∙ newest.format
 
-    nulls : (p : ℕ) → p < parts_of rec.c → has_nulls (v p).log.header.format ≡ true
+    nulls : (p : ℕ) → p < partition_count rec.c → has_nulls (v p).log.header.format ≡ true
     nulls p low =
-        let count : parts_of rec.c ≡ parts_of c = ap (λ (l : CoordinatorLog). l.header.shape.parts) own.log_is in
+        let count : partition_count rec.c ≡ partition_count c = ap (λ (l : CoordinatorLog). l.header.shape.parts) own.log_is in
         ap (λ f. nat_lt f 2 || has_nulls (v p).log.header.format) (sym log_format) ∙ o.nulls p (omega (arith, low, count))
 
     abbrev kept_there : Kept

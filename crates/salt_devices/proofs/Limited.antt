@@ -6,7 +6,7 @@ use Rattle.salt_commit.specs.Stores.{decided_by}
 use Rattle.salt_commit.specs.declared.store.Store.{Store}
 use Rattle.salt_devices.proofs.Untouched.{entry_stays, share_stays}
 use Rattle.salt_devices.proofs.Within.{share_device}
-use Rattle.salt_devices.specs.Filling.{EntryFills, FillsIn, ShareFills, next_decision}
+use Rattle.salt_devices.specs.Filling.{EntryFills, FillsIn, ShareFills, decision_entry}
 use Rattle.salt_devices.specs.Holding.{IsHeld}
 use Rattle.salt_disk.specs.Disks.{IsUnchanged, KeepsBut, View}
 use Rattle.salt_disk.specs.declared.disks.DiskErr.TheVariants.{Full}
@@ -62,11 +62,11 @@ module _ (d e : View) (shape : Shape) (x : Store) (k : Kept) (h : IsHeld d shape
       was : IsTrue d.told
       was = sym others.shape.told ∙ told
 
-      by : EntryFills d (next_decision shape u cs m) n ⊎ ShareFills d shape u cs n → EntryFills e (next_decision shape u cs m) n ⊎ ShareFills e shape u cs n
+      by : EntryFills d (decision_entry shape u cs m) n ⊎ ShareFills d shape u cs n → EntryFills e (decision_entry shape u cs m) n ⊎ ShareFills e shape u cs n
       by (inl f) =
           let w : f.which ≡ h.which = same_which f.which h.which f.log h.c.log (sym f.counts ∙ h.is.decisions.counting.counts was) in
           let p = pair_stays 0 h.which (f.device ∙ ap (device_of 0) w) coordinator_apart in
-          inl (entry_stays d e others.shape (next_decision shape u cs m) n p.0 p.1 f)
+          inl (entry_stays d e others.shape (decision_entry shape u cs m) n p.0 p.1 f)
       by (inr f) =
           let low : f.p < length x.parts.items = omega (arith, f.low, h.is.size, ap (λ (s : Shape). s.parts) h.keeps.has_shape) in
           let is = (part_at d x.parts.items h.v (decided_by h.c) h.is.parts f.p low).1 in

@@ -24,7 +24,7 @@ use Rattle.salt_stands.specs.Coordinator.{coordinator_pair}
 use Rattle.salt_stands.specs.CoordinatorLog.{CoordinatorLog}
 use Rattle.salt_stands.specs.Partition.{pages_device}
 use Rattle.salt_stands.specs.Stands as opening
-use Rattle.salt_stands.specs.Stands.{judged, logs_of, nothing_found}
+use Rattle.salt_stands.specs.Stands.{stands_on, logs_of, nothing_found}
 use Rattle.salt_storage.specs.Answers.{open_disk_err_of}
 use Rattle.salt_storage.specs.declared.found.Found.{Found}
 use Rattle.salt_storage.specs.OpenErr.TheVariants as storage
@@ -66,7 +66,7 @@ stopped_blank shape bytes Stopped is h = h
 stopped_blank shape bytes (Full k) is h = absurd (cc is)
 stopped_blank shape bytes Memory is h = absurd (cc is)
 
-pub new_stands : (shape : Shape) (image : ℕ → List ℕ) → judged reading image shape ≡ Ok (nothing_found shape) → ((dev : ℕ) → LeavesPages shape image dev → ⊥) → StandsForSomething shape image
+pub new_stands : (shape : Shape) (image : ℕ → List ℕ) → stands_on reading image shape ≡ Ok (nothing_found shape) → ((dev : ℕ) → LeavesPages shape image dev → ⊥) → StandsForSomething shape image
 new_stands shape image is none = (kept_in (nothing_found shape), record { found = nothing_found shape; is = is; has_shape = refl; newest = refl; keeps = refl; no_pages = none })
 
 -- THE LOG that is peeked at
@@ -120,7 +120,7 @@ module _ (d : View) (shape : Shape) (parts : IsParts shape.parts) (room : HasRoo
 
   -- behind an opening of the store
   module _ (b e : View) (answer : Option DiskErr) (first : KeepsAll d b None) (kept : ¬ (coordinator_pair (logs_of b.bytes) ≡ BothBlank) → KeepsAll b e answer)
-      (images : coordinator_pair (logs_of b.bytes) ≡ BothBlank → (image : ℕ → List ℕ) → IsImage e image → judged reading image shape ≡ Ok (nothing_found shape))
+      (images : coordinator_pair (logs_of b.bytes) ≡ BothBlank → (image : ℕ → List ℕ) → IsImage e image → stands_on reading image shape ≡ Ok (nothing_found shape))
       (pages : coordinator_pair (logs_of b.bytes) ≡ BothBlank → (image : ℕ → List ℕ) → IsImage e image → (dev : ℕ) → LeavesPages shape image dev → ⊥) where
     pub like_opened : (image : ℕ → List ℕ) → IsImage e image → IsLike shape d.bytes image
     like_opened image left = by (coordinator_pair (logs_of d.bytes)) refl

@@ -9,7 +9,7 @@ use Rattle.salt_devices.specs.Remembering.{HasRows, entries_of}
 use Rattle.salt_disk.specs.Disks.{View}
 use Rattle.salt_model.specs.Kept.{Definition, Kept}
 use Rattle.salt_model.specs.Tables.{Entry, Tables, place_cmp}
-use Rattle.salt_stands.specs.Commits.{each_tables, parts_of}
+use Rattle.salt_stands.specs.Commits.{each_tables, partition_count}
 use Rattle.salt_stands.specs.Coordinator.{Coordinator}
 use Rattle.salt_stands.specs.Pieces.{PartView, listed}
 use Rattle.salt_stands.specs.Placed.{IsPlaced}
@@ -50,7 +50,7 @@ placed_same shape p s t same h q row at = h q row (ap (λ (es : List Entry). fin
 
 -- over disks that tell nothing
 module _ (d : View) (mute : d.told ≡ false) (shape : Shape) (x : Store) (which : WhichLog) (c : Coordinator Definition) (v : ℕ → PartView) (is : IsStore reading d x which c v)
-    (has_shape : c.log.header.shape ≡ shape) (format : c.log.header.format ≡ 3) (nulls : (p : ℕ) → p < parts_of c → has_nulls (v p).log.header.format ≡ true)
+    (has_shape : c.log.header.shape ≡ shape) (format : c.log.header.format ≡ 3) (nulls : (p : ℕ) → p < partition_count c → has_nulls (v p).log.header.format ≡ true)
     (k : Kept) (boot : k.boot ≡ c.log.told.boot) (decisions : k.decisions ≡ c.log.told.decisions) (rows : HasRows shape x k) (sound : IsSoundKept k) where
   -- its definitions and continuations are not known there, and so may be those
   abbrev now : Coordinator Definition
@@ -59,7 +59,7 @@ module _ (d : View) (mute : d.told ≡ false) (shape : Shape) (x : Store) (which
   not_told : (A : Type 0) → IsTrue d.told → A
   not_told A told = absurd cc
 
-  same_parts : parts_of c ≡ shape.parts
+  same_parts : partition_count c ≡ shape.parts
   same_parts = ap (λ (s : Shape). s.parts) has_shape
 
   stands_now : IsStore reading d x which now v

@@ -10,7 +10,7 @@ use Rattle.salt_model.specs.Kept.{Definition, Kept}
 use Rattle.salt_model.specs.Tables.{Entry}
 use Rattle.salt_partition.specs.Partitions.{IsPartition, rows_in}
 use Rattle.salt_partition.specs.declared.partition.Partition.{Partition}
-use Rattle.salt_stands.specs.Commits.{each_tables, parts_of}
+use Rattle.salt_stands.specs.Commits.{each_tables, partition_count}
 use Rattle.salt_stands.specs.Coordinator.{Coordinator}
 use Rattle.salt_stands.specs.Pieces.{PartView, listed}
 use Rattle.salt_stands.specs.Tables.{joined}
@@ -35,7 +35,7 @@ weaker : (o : Option Partition) (P Q : Partition → Type 0) → ((x : Partition
 weaker None P Q f h = tt
 weaker (Some x) P Q f h = f x h
 
-pub store_rows : (d : View) (x : Store) (which : WhichLog) (c : Coordinator Definition) (v : ℕ → PartView) → IsStore reading d x which c v → rows_of_store x ≡ listed (λ p. entries_of (each_tables c v p)) 0 (parts_of c)
+pub store_rows : (d : View) (x : Store) (which : WhichLog) (c : Coordinator Definition) (v : ℕ → PartView) → IsStore reading d x which c v → rows_of_store x ≡ listed (λ p. entries_of (each_tables c v p)) 0 (partition_count c)
 store_rows d x which c v is =
     all_listed x.parts.items (λ p. entries_of (each_tables c v p)) 0
     (λ p. weaker (slice_get x.parts.items p) (λ y. IsPartition d y p (v p) (decided_by c p)) (λ y. rows_in y ≡ entries_of (each_tables c v (0 + p)))
@@ -44,7 +44,7 @@ store_rows d x which c v is =
 
 pub held_rows : (d : View) (shape : Shape) (x : Store) (k : Kept) → IsHeld d shape x k → HasRows shape x k
 held_rows d shape x k h =
-    let parts : parts_of h.c ≡ shape.parts = ap (λ (s : Shape). s.parts) h.keeps.has_shape in
+    let parts : partition_count h.c ≡ shape.parts = ap (λ (s : Shape). s.parts) h.keeps.has_shape in
     record {
       tables = each_tables h.c h.v;
       rows = store_rows d x h.which h.c h.v h.is ∙ ap (listed (λ p. entries_of (each_tables h.c h.v p)) 0) parts;

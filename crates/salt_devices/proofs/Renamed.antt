@@ -18,7 +18,7 @@ use Rattle.salt_partition.specs.Contents.{AreKeyed}
 use Rattle.salt_partition.specs.Partitions.{IsLastKept, IsPartition}
 use Rattle.salt_partition.specs.declared.partition.Partition.{Partition}
 use Rattle.salt_stands.proofs.Commits.{listed_same}
-use Rattle.salt_stands.specs.Commits.{each_tables, found_of, parts_of}
+use Rattle.salt_stands.specs.Commits.{each_tables, found_of, partition_count}
 use Rattle.salt_stands.specs.Coordinator.{Coordinator, decided_for, names_part, unit_of}
 use Rattle.salt_stands.specs.Partition.{changes_if, decided_changes, part_tables}
 use Rattle.salt_stands.specs.Pieces.{PartView, is_prepared_in}
@@ -196,7 +196,7 @@ module _ (d : View) (mute : d.told ≡ false) (u : Id) where
         ∙ ap (λ cs. with_changes ((v p).rows ++ cs) no_rows) (changes_renamed u (decided_by c p) (v p).log.prepared)
 
     found_renamed : found_of (coordinator_renamed u c) (view_renamed u c v) ≡ found_of c v
-    found_renamed = ap (found_with c) (listed_same (each_tables (coordinator_renamed u c) (view_renamed u c v)) (each_tables c v) 0 (parts_of c) (λ p low. tables_renamed p))
+    found_renamed = ap (found_with c) (listed_same (each_tables (coordinator_renamed u c) (view_renamed u c v)) (each_tables c v) 0 (partition_count c) (λ p low. tables_renamed p))
 
     fresh_renamed : IsFresh (coordinator_renamed u c) (view_renamed u c v) u
     fresh_renamed = record {

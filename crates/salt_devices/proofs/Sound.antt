@@ -6,12 +6,12 @@ use Rattle.salt_bytes.specs.Conts.{move_in}
 use Rattle.salt_bytes.specs.Coordinator.{Decision, NumberedText}
 use Rattle.law_definitions.specs.Texts.{IsTextOf, definition_in}
 use Rattle.salt_commit.specs.Stores.{reading}
-use Rattle.salt_stands.specs.Fitting.{is_cont_of, programs_of, stands_at_part}
+use Rattle.salt_stands.specs.Fitting.{is_cont_of, programs_defined, stands_at_part}
 use Rattle.salt_model.specs.Kept.{Definition, Kept, OfProgram, OfTable, Rise, WellKept, kept_program, parts_of, retries_of}
 use Rattle.salt_model.specs.Words.{Every}
 use Rattle.salt_stands.proofs.Booleans.{all_weaker, left, right}
 use Rattle.salt_stands.proofs.OpenConts.{AreOpen, moved_keeps}
-use Rattle.salt_stands.specs.Coordinator.{Coordinator, define, defined_by, is_sound_cont, is_sound_decision}
+use Rattle.salt_stands.specs.Coordinator.{Coordinator, define, definitions_read, is_sound_cont, is_sound_decision}
 use Rattle.salt_stands.specs.OpenConts.{conts_of_move, do_rise, is_later_than, is_not_of}
 use Rattle.salt_stands.specs.Pieces.{IsCoordinator}
 use Rattle.salt_storage.specs.Storing.{IsSoundKept, IsSpelledDefinition}
@@ -50,7 +50,7 @@ module _ (texts : (text : List ℕ) (d : Definition) → definition_in text ≡ 
   one_more None t h = tt
   one_more (Some ds) t h = with_one ds t.text (definition_in t.text) refl h
 
-  all_spelled : (o : Option (List Definition)) (ts : List NumberedText) → AllSpelled o → AllSpelled (defined_by reading o ts)
+  all_spelled : (o : Option (List Definition)) (ts : List NumberedText) → AllSpelled o → AllSpelled (definitions_read reading o ts)
   all_spelled o [] h = h
   all_spelled o (t ∷ ts) h = all_spelled (define reading t o) ts (one_more o t h)
 
@@ -98,18 +98,18 @@ module _ (c : Coordinator Definition) (is : IsCoordinator reading c) where
       (λ d e. right (nat_le d.unit.boot c.log.told.boot) (list_all p (conts_of_move (move_in format d.move))) e) c.log.told.decided is.decided)
       (record { rise = is.rise; each = is.named }) is.moves
 
-  fits : (x : Cont) → is_sound_cont reading c.definitions c.log.told x ≡ true → is_cont_of (program_named (programs_of c.definitions) x.program) x ≡ true
-  fits x e = left (is_cont_of (program_named (programs_of c.definitions) x.program) x) (nat_le x.base.boot c.log.told.boot && nat_le x.accepted c.log.told.decisions) e
+  fits : (x : Cont) → is_sound_cont reading c.definitions c.log.told x ≡ true → is_cont_of (program_named (programs_defined c.definitions) x.program) x ≡ true
+  fits x e = left (is_cont_of (program_named (programs_defined c.definitions) x.program) x) (nat_le x.base.boot c.log.told.boot && nat_le x.accepted c.log.told.decisions) e
 
   numbers : (x : Cont) → is_sound_cont reading c.definitions c.log.told x ≡ true → (nat_le x.base.boot c.log.told.boot && nat_le x.accepted c.log.told.decisions) ≡ true
-  numbers x e = right (is_cont_of (program_named (programs_of c.definitions) x.program) x) (nat_le x.base.boot c.log.told.boot && nat_le x.accepted c.log.told.decisions) e
+  numbers x e = right (is_cont_of (program_named (programs_defined c.definitions) x.program) x) (nat_le x.base.boot c.log.told.boot && nat_le x.accepted c.log.told.decisions) e
 
   module _ (k : Kept) (boot : k.boot ≡ c.log.told.boot) (decisions : k.decisions ≡ c.log.told.decisions) (definitions : k.definitions ≡ c.definitions) (conts : k.conts ≡ c.conts) where
     each : (P : Cont → Type 0) → ((x : Cont) → is_sound_cont reading c.definitions c.log.told x ≡ true → P x) → Every P k.conts
     each P f = subst (Every P) (sym conts) (every_true (is_sound_cont reading c.definitions c.log.told) P f c.conts are_open.each)
 
     named_in : (x : Cont) → is_sound_cont reading c.definitions c.log.told x ≡ true → is_cont_of (kept_program x.program k) x ≡ true
-    named_in x e = subst (λ (ds : List Definition). is_cont_of (program_named (programs_of ds) x.program) x ≡ true) (sym definitions) (fits x e)
+    named_in x e = subst (λ (ds : List Definition). is_cont_of (program_named (programs_defined ds) x.program) x ≡ true) (sym definitions) (fits x e)
 
     pub well : WellKept k
     well = record {

@@ -6,7 +6,7 @@ use Rattle.salt_commit.specs.Openings.{NamesPages}
 use Rattle.salt_commit.specs.Reads.{StandsInPlace}
 use Rattle.salt_commit.specs.Stores.{IsStore, StandsOnDevices, decided_by, next_text, reading}
 use Rattle.salt_commit.specs.declared.store.Store.{Store}
-use Rattle.salt_stands.specs.Fitting.{kept_in, tables_of}
+use Rattle.salt_stands.specs.Fitting.{kept_in, tables_defined}
 use Rattle.salt_devices.specs.Holding.{AreLogsOf, IsFresh, IsHeld, IsNewTo}
 use Rattle.salt_devices.specs.Leaving.{IsEither, LeavesEither, StandsFor}
 use Rattle.salt_disk.proofs.CallAfterCall.{same_shape}
@@ -16,13 +16,13 @@ use Rattle.salt_values.specs.Id.{has_id}
 use Rattle.salt_partition.proofs.Framed.{logs_settled}
 use Rattle.salt_partition.specs.Openings.{are_some, has_pages}
 use Rattle.salt_stands.proofs.Pairs.{pair_same}
-use Rattle.salt_stands.specs.Commits.{found_of, parts_of}
-use Rattle.salt_stands.specs.Coordinator.{Coordinator, coordinator_pair, decided_for, defined_by, judge_coordinator}
+use Rattle.salt_stands.specs.Commits.{found_of, partition_count}
+use Rattle.salt_stands.specs.Coordinator.{Coordinator, coordinator_pair, decided_for, definitions_read, judge_coordinator}
 use Rattle.salt_stands.specs.CoordinatorLog.{CoordinatorLog}
 use Rattle.salt_stands.specs.Partition.{part_device, part_of_key, part_pair}
 use Rattle.salt_stands.specs.PartitionLog.{PartitionLog, partition_generation, partition_in}
 use Rattle.salt_stands.specs.Pieces.{PartView, is_prepared_in, with_definition}
-use Rattle.salt_stands.specs.Stands.{Found, judged, logs_of, nothing_found, with_parts}
+use Rattle.salt_stands.specs.Stands.{Found, stands_on, logs_of, nothing_found, with_parts}
 use Rattle.salt_stands.specs.Words.{if_sound}
 use Rattle.salt_values.specs.declared.id.Id.{Id}
 use Rattle.salt_place.specs.declared.placement.Shape.{Shape}
@@ -46,27 +46,27 @@ module _ (d : View) (c b : Coordinator Definition) (v u : ℕ → PartView) (the
   one_log : c.log ≡ b.log
   one_log = same_of_counts these.which those.which c.log b.log (sym these.counts ∙ those.counts)
 
-  one_view : (p : ℕ) → p < parts_of c → (v p).log ≡ (u p).log
+  one_view : (p : ℕ) → p < partition_count c → (v p).log ≡ (u p).log
   one_view p low =
-      let other : p < parts_of b = omega (arith, low, ap (λ (l : CoordinatorLog). l.header.shape.parts) one_log) in
+      let other : p < partition_count b = omega (arith, low, ap (λ (l : CoordinatorLog). l.header.shape.parts) one_log) in
       same_of_counts (v p).which (u p).which (v p).log (u p).log (sym (these.parts p low) ∙ those.parts p other)
 
   -- and so there is one set of names
   pub one_fresh : (n : Id) → IsFresh c v n → IsFresh b u n
   one_fresh n f =
-      let same : parts_of c ≡ parts_of b = ap (λ (l : CoordinatorLog). l.header.shape.parts) one_log in
+      let same : partition_count c ≡ partition_count b = ap (λ (l : CoordinatorLog). l.header.shape.parts) one_log in
       record {
-        fresh = λ p low. let low' : p < parts_of c = omega (arith, low, same) in sym (ap (λ (l : PartitionLog). is_prepared_in n l.prepared) (one_view p low')) ∙ f.fresh p low';
-        new = λ p low. let low' : p < parts_of c = omega (arith, low, same) in sym (ap (λ (l : CoordinatorLog). has_id n (decided_for p l.told.decided)) one_log) ∙ f.new p low';
+        fresh = λ p low. let low' : p < partition_count c = omega (arith, low, same) in sym (ap (λ (l : PartitionLog). is_prepared_in n l.prepared) (one_view p low')) ∙ f.fresh p low';
+        new = λ p low. let low' : p < partition_count c = omega (arith, low, same) in sym (ap (λ (l : CoordinatorLog). has_id n (decided_for p l.told.decided)) one_log) ∙ f.new p low';
       }
 
 -- and its definitions are of one store
-pub one_schema : (d : View) (x : Store) (told : IsTrue d.told) (w z : WhichLog) (c b : Coordinator Definition) (v u : ℕ → PartView) → IsStore reading d x w c v → IsStore reading d x z b u → tables_of c.definitions ≡ tables_of b.definitions
+pub one_schema : (d : View) (x : Store) (told : IsTrue d.told) (w z : WhichLog) (c b : Coordinator Definition) (v u : ℕ → PartView) → IsStore reading d x w c v → IsStore reading d x z b u → tables_defined c.definitions ≡ tables_defined b.definitions
 one_schema d x told w z c b v u is also =
     let one = (is.sound told).coordinator in
     let two = (also.sound told).coordinator in
     let log = one_log d c b v u (logs_of_store d x w c v is told) (logs_of_store d x z b u also told) in
-    ap tables_of (same_of_some c.definitions b.definitions (sym one.defined ∙ ap (λ (l : CoordinatorLog). defined_by reading (Some []) l.told.definitions) log ∙ two.defined))
+    ap tables_defined (same_of_some c.definitions b.definitions (sym one.defined ∙ ap (λ (l : CoordinatorLog). definitions_read reading (Some []) l.told.definitions) log ∙ two.defined))
 
 -- NO PAGES are named in an image where the partitions' logs are as they were
 
@@ -78,7 +78,7 @@ pages_not w z l m same none some =
 module _ (d : View) (x : Store) (w : WhichLog) (c : Coordinator Definition) (v : ℕ → PartView) (is : IsStore reading d x w c v) (told : IsTrue d.told)
     (e : View) (shape : SameShape d e) (image : ℕ → List ℕ) (left : IsImage e image) where
   pub no_pages_left : ((p : ℕ) → Shrinks d e (part_device p)) → ((p : ℕ) → Shrinks d e (part_device p + 1))
-      → (p : ℕ) → p < parts_of c → (dev : ℕ) → NamesPages image p dev → ⊥
+      → (p : ℕ) → p < partition_count c → (dev : ℕ) → NamesPages image p dev → ⊥
   no_pages_left first second p low dev names =
       let q = part_at d x.parts.items v (decided_by c) is.parts p (omega (arith, low, is.size)) in
       let s = logs_settled d q.0 p (v p) (decided_by c p) q.1 in
@@ -93,13 +93,13 @@ module _ (d : View) (x : Store) (w : WhichLog) (c : Coordinator Definition) (v :
 pub record IsJudged (shape : Shape) (image : ℕ → List ℕ) (asked : Shape) : Type 0 where
   pub found : Found Definition
   pub has_shape : found.shape ≡ shape
-  pub is : judged reading image asked ≡ Ok found
+  pub is : stands_on reading image asked ≡ Ok found
 
 pub is_begun : (shape : Shape) (image : ℕ → List ℕ) → ((asked : Shape) → IsJudged shape image asked) → ¬ (coordinator_pair (logs_of image) ≡ BothBlank)
 is_begun shape image each blank =
     let other : Shape = record shape { parts = shape.parts + 1 } in
     let j : IsJudged shape image other = each other in
-    let new : judged reading image other ≡ Ok (nothing_found other) = ap (λ p. if_sound (with_parts reading (logs_of image) image other) (judge_coordinator reading p)) blank in
+    let new : stands_on reading image other ≡ Ok (nothing_found other) = ap (λ p. if_sound (with_parts reading (logs_of image) image other) (judge_coordinator reading p)) blank in
     let both : Ok j.found ≡ Ok (nothing_found other) = sym j.is ∙ new in
     let same : j.found ≡ nothing_found other = cc both in
     let shapes : shape ≡ other = sym j.has_shape ∙ ap (λ (f : Found Definition). f.shape) same in
@@ -121,8 +121,8 @@ module _ (d : View) (shape : Shape) (x : Store) (k : Kept) (h : IsHeld d shape x
     placed = λ p low q row found. ap (λ (s : Shape). part_of_key s q.key) h.keeps.has_shape ∙ h.keeps.placed p low q row found;
   }
 
-  pub held_schema : schema_of k ≡ tables_of h.c.definitions
-  held_schema = ap tables_of h.keeps.definitions
+  pub held_schema : schema_of k ≡ tables_defined h.c.definitions
+  held_schema = ap tables_defined h.keeps.definitions
 
   module _ (told : IsTrue d.told) where
     pub held_is : kept_in (found_of h.c h.v) ≡ k

@@ -2,7 +2,7 @@
 use Rattle.salt_bytes.specs.Coordinator.{CoordinatorEntry}
 use Rattle.salt_bytes.specs.Generations.{LogA, LogB, WhichLog}
 use Rattle.salt_bytes.specs.Log.{entries_in}
-use Rattle.salt_devices.specs.Filling.{EntryFills, FillsIn, IsTooLong, ShareFills, next_boot, next_definition}
+use Rattle.salt_devices.specs.Filling.{EntryFills, FillsIn, IsTooLong, ShareFills, next_boot, definition_entry}
 use Rattle.salt_disk.specs.Disks.{IsUnchanged, KeepsOthers, SameShape, View}
 use Rattle.salt_disk.specs.declared.disks.DiskErr.TheVariants.{Full}
 use Rattle.salt_stands.proofs.Pairs.{pair_same}
@@ -65,4 +65,4 @@ module _ (d e : View) (same : SameShape d e) where
   boot_stays shape dev bytes h told = entry_stays next_boot dev (bytes 0) (bytes 1) (h (sym same.told ∙ told))
 
   pub definition_stays : (shape : Shape) (text : List ℕ) (dev : ℕ) → ((k : ℕ) → e.bytes k ≡ d.bytes k) → FillsIn d shape (OfDefinition text) dev → FillsIn e shape (OfDefinition text) dev
-  definition_stays shape text dev bytes h told = entry_stays (next_definition text) dev (bytes 0) (bytes 1) (h (sym same.told ∙ told))
+  definition_stays shape text dev bytes h told = entry_stays (definition_entry text) dev (bytes 0) (bytes 1) (h (sym same.told ∙ told))

@@ -51,18 +51,18 @@ pub record ShareFills (d : View) (shape : Shape) (u : Id) (cs : List Change) (de
 abbrev pub next_boot : CoordinatorLog → CoordinatorEntry
 next_boot log = Boots (log.told.boot + 1)
 
-abbrev pub next_definition : List ℕ → CoordinatorLog → CoordinatorEntry
-next_definition text log = Defines (record { number = log.told.decisions + 1; text = text })
+abbrev pub definition_entry : List ℕ → CoordinatorLog → CoordinatorEntry
+definition_entry text log = Defines (record { number = log.told.decisions + 1; text = text })
 
 -- the unit, with the bits of the partitions that it changes, and its program's move
-abbrev pub next_decision : Shape → Id → List Change → Move → CoordinatorLog → CoordinatorEntry
-next_decision shape u cs m log = Decides (record { number = log.told.decisions + 1; unit = u; mask = mask_of (shares_of shape cs); move = spell_move FORMAT m })
+abbrev pub decision_entry : Shape → Id → List Change → Move → CoordinatorLog → CoordinatorEntry
+decision_entry shape u cs m log = Decides (record { number = log.told.decisions + 1; unit = u; mask = mask_of (shares_of shape cs); move = spell_move FORMAT m })
 
 abbrev pub Fills : View → Shape → ToWrite → ℕ → Type 0
 Fills d shape OfOpening dev = StorePassesLimit d shape dev
 Fills d shape OfBoot dev = EntryFills d next_boot dev
-Fills d shape (OfDefinition text) dev = EntryFills d (next_definition text) dev
-Fills d shape (OfUnit u cs m) dev = EntryFills d (next_decision shape u cs m) dev ⊎ ShareFills d shape u cs dev
+Fills d shape (OfDefinition text) dev = EntryFills d (definition_entry text) dev
+Fills d shape (OfUnit u cs m) dev = EntryFills d (decision_entry shape u cs m) dev ⊎ ShareFills d shape u cs dev
 
 -- what is to be written would pass the limit of the device; of disks that do not tell their bytes nothing is said
 abbrev pub FillsIn : View → Shape → ToWrite → ℕ → Type 0

@@ -11,7 +11,7 @@ use Rattle.salt_disk.specs.Disks.{View}
 use Rattle.salt_model.specs.Kept.{Definition, Kept}
 use Rattle.salt_net.specs.Turns.{Turning}
 use Rattle.salt_values.specs.Id.{has_id}
-use Rattle.salt_stands.specs.Commits.{each_tables, found_of, parts_of}
+use Rattle.salt_stands.specs.Commits.{each_tables, found_of, partition_count}
 use Rattle.salt_stands.specs.Coordinator.{Coordinator, coordinator_pair}
 use Rattle.salt_stands.specs.Partition.{pages_device, part_pair}
 use Rattle.salt_stands.specs.Pieces.{PartView, is_prepared_in}
@@ -43,13 +43,13 @@ pub record CanStart (shape : Shape) (started : Bool) (p : Pending) (d : View) : 
 pub record Keeps (shape : Shape) (c : Coordinator Definition) (v : ℕ → PartView) (k : Kept) : Type 0 where
   pub has_shape : c.log.header.shape ≡ shape
   pub format : c.log.header.format ≡ 3
-  pub nulls : (p : ℕ) → p < parts_of c → has_nulls (v p).log.header.format ≡ true
+  pub nulls : (p : ℕ) → p < partition_count c → has_nulls (v p).log.header.format ≡ true
   pub boot : k.boot ≡ c.log.told.boot
   pub decisions : k.decisions ≡ c.log.told.decisions
   pub definitions : k.definitions ≡ c.definitions
   pub conts : k.conts ≡ c.conts
   pub tables : k.tables ≡ (found_of c v).kept.tables
-  pub placed : (p : ℕ) → p < parts_of c → IsPlaced shape p (each_tables c v p)
+  pub placed : (p : ℕ) → p < partition_count c → IsPlaced shape p (each_tables c v p)
 
 -- the store stands, and keeps this, which is sound
 pub record IsHeld (d : View) (shape : Shape) (x : Store) (k : Kept) : Type 0 where
@@ -79,14 +79,14 @@ HoldsIn d shape (Some x) k = IsHeld d shape x k
 
 -- no entry of a partition and no decision names the unit
 pub record IsFresh (c : Coordinator Definition) (v : ℕ → PartView) (u : Id) : Type 0 where
-  pub fresh : (p : ℕ) → p < parts_of c → is_prepared_in u (v p).log.prepared ≡ false
-  pub new : (p : ℕ) → p < parts_of c → has_id u (decided_by c p) ≡ false
+  pub fresh : (p : ℕ) → p < partition_count c → is_prepared_in u (v p).log.prepared ≡ false
+  pub new : (p : ℕ) → p < partition_count c → has_id u (decided_by c p) ≡ false
 
 -- the logs that count are these
 pub record AreLogsOf (d : View) (c : Coordinator Definition) (v : ℕ → PartView) : Type 0 where
   pub which : WhichLog
   pub counts : coordinator_pair (logs_of d.bytes) ≡ Counts which c.log
-  pub parts : (p : ℕ) → p < parts_of c → part_pair p (logs_of d.bytes) ≡ Counts (v p).which (v p).log
+  pub parts : (p : ℕ) → p < partition_count c → part_pair p (logs_of d.bytes) ≡ Counts (v p).which (v p).log
 
 -- where the disks tell; where not, the units' names are not known
 abbrev pub IsNewTo : View → Id → Type 0

@@ -8,14 +8,14 @@ use Rattle.salt_devices.specs.declared.pending.Pending.{Pending}
 use Rattle.salt_disk.specs.Disks.{IsImage, View}
 use Rattle.salt_model.specs.Kept.{Definition, Kept}
 use Rattle.salt_stands.specs.Coordinator.{coordinator_pair}
-use Rattle.salt_stands.specs.Stands.{Found, judged, logs_of}
+use Rattle.salt_stands.specs.Stands.{Found, stands_on, logs_of}
 use Rattle.salt_place.specs.declared.placement.Shape.{Shape}
 use Rattle.std.specs.Prelude.{Bool, IsTrue, List, Ok, false, true, ℕ, ◌<◌, ◌≡◌, ◌⊎◌}
 
 -- the devices stand for what is kept, in this shape and the newest format; no pages are left there
 pub record StandsFor (shape : Shape) (image : ℕ → List ℕ) (k : Kept) : Type 0 where
   pub found : Found Definition
-  pub is : judged reading image shape ≡ Ok found
+  pub is : stands_on reading image shape ≡ Ok found
   pub has_shape : found.shape ≡ shape
   pub newest : found.format ≡ 3
   pub keeps : kept_in found ≡ k

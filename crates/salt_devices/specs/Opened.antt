@@ -14,7 +14,7 @@ use Rattle.salt_disk.specs.Disks.{View}
 use Rattle.salt_found.specs.Recovered.{IsRecovered}
 use Rattle.salt_found.specs.declared.recovery.Recovered.{Recovered}
 use Rattle.salt_model.specs.Kept.{Definition, Kept}
-use Rattle.salt_stands.specs.Commits.{found_of, parts_of}
+use Rattle.salt_stands.specs.Commits.{found_of, partition_count}
 use Rattle.salt_stands.specs.Coordinator.{Coordinator, coordinator_of}
 use Rattle.salt_stands.specs.CoordinatorLog.{CoordinatorLog}
 use Rattle.salt_stands.specs.Pieces.{PartView}
@@ -53,7 +53,7 @@ pub record IsOpen (e : View) (shape : Shape) (x : Store) (kept : log.Kept) (c : 
   pub is : IsStore reading e x which c v
   pub keeps : IsKept kept c.log
   pub has_shape : c.log.header.shape ≡ shape
-  pub nulls : (p : ℕ) → p < parts_of c → spells_under c.log.header.format (v p) ≡ true
+  pub nulls : (p : ℕ) → p < partition_count c → spells_under c.log.header.format (v p) ≡ true
 
 -- it is held, and what is found is of what it keeps, which where the disks tell is what it stands for
 pub record HoldsFound (e : View) (shape : Shape) (x : Store) (found : Found) (c : Coordinator Definition) (v : ℕ → PartView) : Type 0 where

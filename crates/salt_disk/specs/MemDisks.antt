@@ -1,7 +1,7 @@
 -- What contracts see of disks in memory, and what is done to them beside the calls of the trait.
 use Rattle.std.specs.Prelude.{IsTrue, List, None, Option, Some, [], if◌then◌else◌, nat_le, ℕ, ◌<◌, ◌≡◌, ◌≢◌, ◌∷◌}
 use Rattle.salt_disk.specs.Calls.{one_more}
-use Rattle.salt_disk.specs.Devices.{ChangesAt, ChangesEach, Stops, Writes, view_of}
+use Rattle.salt_disk.specs.Devices.{ChangesAt, ChangesEach, HasStopped, Writes, view_of}
 use Rattle.salt_disk.specs.Disks.{IsSettled, IsUnchanged, SameShape, View}
 use Rattle.salt_disk.specs.declared.device.Device.{Device}
 use Rattle.salt_disk.specs.declared.memory.MemDisks.{MemDisks}
@@ -56,10 +56,10 @@ pub record IsStoppedWrite (old new : MemDisks) (dev at : ℕ) (bytes : List ℕ)
   pub due : due_pick old.stops.items old.since_first ≡ Some pick
   pub issued : List Device
   pub writes : ChangesAt old.devices.items issued dev (λ d e. Writes d e at bytes)
-  pub stops : ChangesEach issued new.devices.items (Stops pick)
+  pub stops : ChangesEach issued new.devices.items (HasStopped pick)
 
 -- likewise at a sync, which is not done
 pub record IsStoppedSync (old new : MemDisks) : Type 0 where
   pub pick : ℕ
   pub due : due_pick old.stops.items old.since_first ≡ Some pick
-  pub stops : ChangesEach old.devices.items new.devices.items (Stops pick)
+  pub stops : ChangesEach old.devices.items new.devices.items (HasStopped pick)

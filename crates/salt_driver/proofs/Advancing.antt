@@ -7,7 +7,7 @@ use Rattle.law_states.specs.Nexts.{next_turn_of}
 use Rattle.law_states.specs.Points.{Ask, TraceStep, Moves, Point, Runs, Say, Turn, told_by, trace_on}
 use Rattle.law_states.specs.States.{State}
 use Rattle.law_story.specs.ContNames.{AreNamed}
-use Rattle.salt_model.specs.Trace.{Asked, Start, Trace, from, lines_of, start_of, ◌asks◌, ◌says◌, ◌turns◌}
+use Rattle.salt_model.specs.Trace.{Asked, Start, Trace, from, lines_asked, start_of, ◌asks◌, ◌says◌, ◌turns◌}
 use Rattle.salt_model.specs.Words.{Every}
 use Rattle.salt_model.specs.declared.events.Event.{Event}
 use Rattle.salt_model.specs.declared.events.Flight.{Flight}
@@ -44,7 +44,7 @@ tells-both story told now ms ns t u =
     u ∙ ap (λ es. es ++ told_by ns) t ∙ append-both story (told_by ms) (told_by ns) ∙ ap (λ es. story ++ es) (sym (told-both ms ns))
 
 -- lines are asked by Ask alone
-pub lines-on : (ms : List TraceStep) (trace : Trace) → Every IsInside ms → lines_of (trace_on trace ms) ≡ lines_of trace
+pub lines-on : (ms : List TraceStep) (trace : Trace) → Every IsInside ms → lines_asked (trace_on trace ms) ≡ lines_asked trace
 lines-on [] trace h = refl
 lines-on (Ask asked ∷ ms) trace h = absurd h.0
 lines-on (Turn b ∷ ms) trace h = lines-on ms (trace turns b) h.1
@@ -86,7 +86,7 @@ sound-asked asked p q key s n =
       sound = k.1;
       typed = s.typed;
       named = s.named;
-      keyed = every-last asked (lines_of s.trace) s.keyed key;
+      keyed = every-last asked (lines_asked s.trace) s.keyed key;
     }
 
 -- nothing more is told

@@ -6,7 +6,7 @@ use Rattle.salt_model.specs.Ends.{flight_told}
 use Rattle.salt_model.specs.Everywhere.{Each}
 use Rattle.salt_model.specs.Kept.{Kept, WellKept}
 use Rattle.salt_model.specs.Phases.{Fallen, downs, has_opened, phase}
-use Rattle.salt_model.specs.Trace.{Start, Trace, lines_of, start_of}
+use Rattle.salt_model.specs.Trace.{Start, Trace, lines_asked, start_of}
 use Rattle.salt_model.specs.Words.{Every}
 use Rattle.salt_model.specs.declared.events.Event.TheVariants.{Down}
 use Rattle.salt_model.specs.declared.events.Event.{Event}
@@ -38,7 +38,7 @@ often-down : (start : Start) (times : ℕ) → phase (fallen_often start times) 
 often-down start zero = refl
 often-down start (suc times) = refl
 
-often-asked : (start : Start) (times : ℕ) → lines_of (fallen_often start times) ≡ []
+often-asked : (start : Start) (times : ℕ) → lines_asked (fallen_often start times) ≡ []
 often-asked start zero = refl
 often-asked start (suc times) = often-asked start times
 
@@ -84,7 +84,7 @@ unfound-point k can_stop early over well (suc times) =
 
 -- over what was found then it is down
 pub down-at-first : (k : Kept) (can_stop early over : Bool) (lies : ℕ → Point → Type 0) (flies : Option Flight) (story : List Event) → IsUnfound story → IsSoundKept k →
-    IsOpenedFirst lies k can_stop early over → flies ≡ None → (trace : Trace) × IsDown lies flies (start_over k can_stop early over) story trace × (lines_of trace ≡ [])
+    IsOpenedFirst lies k can_stop early over → flies ≡ None → (trace : Trace) × IsDown lies flies (start_over k can_stop early over) story trace × (lines_asked trace ≡ [])
 down-at-first k can_stop early over lies flies story u sound opens none =
     let start = start_over k can_stop early over in
     let times = u.0 in

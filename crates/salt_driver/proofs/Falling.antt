@@ -23,7 +23,7 @@ use Rattle.salt_driver.proofs.Along.{along-behind, says-along, stays-along}
 use Rattle.salt_driver.proofs.Segments.{sound-of}
 use Rattle.salt_driver.specs.Opening.{IsFallenFrom, halt_of}
 use Rattle.salt_driver.specs.Reopening.{BreaksOpening, EndsWithin, FallsAnew, NotBegun, Reopens, WithinOpening}
-use Rattle.salt_driver.specs.Serving.{Grows, Halts, IsDown, IsFitting}
+use Rattle.salt_driver.specs.Serving.{GainsEvents, Halts, IsDown, IsFitting}
 use Rattle.salt_storage.specs.Answers.{halted_by, numbers_of}
 use Rattle.salt_storage.specs.Writing.{ToWrite}
 use Rattle.salt_storage.specs.declared.found.Numbers.{Numbers}
@@ -265,7 +265,7 @@ halted-short lies left fills filled flies why start trace story now same h = rec
 pub not-fallen : (lies : ℕ → Point → Type 0) (flies : Option Flight) (start : Start) (trace : Trace) (story : List Event) → IsDown lies flies start story trace → FallsAnew lies flies start trace story story
 not-fallen lies flies start trace story down = record { after = trace; lines = refl; down = down; grows = ([], sym (append-nil story)); along = stays-along trace }
 
-grows-both : (story told now : List Event) → (a : Grows story told) → (b : Grows told now) → now ≡ story ++ (a.0 ++ b.0)
+grows-both : (story told now : List Event) → (a : GainsEvents story told) → (b : GainsEvents told now) → now ≡ story ++ (a.0 ++ b.0)
 grows-both story told now a b = b.1 ∙ ap (λ es. es ++ b.0) a.1 ∙ appended story a.0 b.0
 
 module _ (lies again : ℕ → Point → Type 0) (flies known : Option Flight) (start : Start) (trace : Trace) (story told now : List Event)

@@ -3,7 +3,7 @@ use Rattle.law_states.proofs.PointsGoOn.{idle-complete, no-more, runs-point, sta
 use Rattle.law_states.specs.Laws.{IsSound, is_of_run}
 use Rattle.law_states.specs.Follows.{said_in}
 use Rattle.law_states.specs.OpenUnits.{UnitState}
-use Rattle.law_states.specs.Points.{KeepsPoint, TraceStep, Moves, Point, Runs, Say, moved, told_by, trace_on}
+use Rattle.law_states.specs.Points.{KeepsPoint, TraceStep, Moves, Point, Runs, Say, stepped, told_by, trace_on}
 use Rattle.law_states.specs.Readings.{beside_by}
 use Rattle.law_states.specs.States.{State}
 use Rattle.law_states.specs.Steps.{units_after}
@@ -233,7 +233,7 @@ module _ (lies : ℕ → Point → Type 0) (flies : Option Flight) (start : Star
     where
       go : (t : Trace) (ms : List TraceStep) → trace_on t (ms ++ Say e ∷ []) ≡ (trace_on t ms says e)
       go t [] = refl
-      go t (m ∷ ms) = go (moved t m) ms
+      go t (m ∷ ms) = go (stepped t m) ms
 
   pub opening-breaks : (now : ℕ → Point → Type 0) (left : Option Numbers → ℕ → Point → Type 0) (fills : ToWrite → ℕ → Type 0) (flight : Option Flight) (halt : Halt) (h : HasOpened d.room d.point) (opened told : List Event) →
       opened ≡ story ++ Opened h.boot h.number ∷ [] → BreaksWithin (now 0) (left None 0) fills flight halt h.point opened told → BreaksOpening now left fills flight (halted_by halt) start trace story told

@@ -9,7 +9,7 @@ use Rattle.salt_model.specs.Kept.{WellKept}
 use Rattle.salt_model.specs.Phases.{Serving, phase}
 use Rattle.salt_model.specs.Played.{IsPlayed}
 use Rattle.law_story.specs.ContNames.{AreNamed}
-use Rattle.salt_model.specs.Trace.{Asked, Start, Trace, from, lines_of, start_of, story_before, ◌asks◌, ◌says◌, ◌turns◌}
+use Rattle.salt_model.specs.Trace.{Asked, Start, Trace, from, lines_asked, start_of, story_before, ◌asks◌, ◌says◌, ◌turns◌}
 use Rattle.salt_model.specs.Words.{Every}
 use Rattle.salt_model.specs.declared.events.Event.{Event}
 use Rattle.salt_model.specs.declared.events.Event.TheVariants.{Down, Early, Opened, Ready}
@@ -82,7 +82,7 @@ fits-on start trace asked ms p q runs inside key f = record {
   well = f.well;
   typed = f.typed;
   named = f.named;
-  keyed = subst (Every HasKey) (sym (lines-on ms (trace asks asked) inside)) (every-last asked (lines_of trace) f.keyed key);
+  keyed = subst (Every HasKey) (sym (lines-on ms (trace asks asked) inside)) (every-last asked (lines_asked trace) f.keyed key);
   unspent = unspent-on ms p q (trace asks asked) runs f.unspent;
 }
 

@@ -62,9 +62,9 @@ pub record CountsStops (old new : View) (answer : Option DiskErr) (armed : List 
   pub stops : (answer ≡ Some Memory → ⊥) → HaveCome (stops_in answer + told) (old.armed ++ armed) new.armed
 
 -- those that are armed in the event that a call gives
-abbrev pub armed_by : {H : Type 0} → Line → Result (Option Event) H → List (ℕ × ℕ)
-armed_by line (Ok next) = armed_at line next
-armed_by line (Err e) = []
+abbrev pub armed_told : {H : Type 0} → Line → Result (Option Event) H → List (ℕ × ℕ)
+armed_told line (Ok next) = armed_at line next
+armed_told line (Err e) = []
 
 -- So it is for the events of a line by which a story has grown, of which the first was at hand before: what that has armed stands last
 -- already. And none is a fall.

@@ -6,12 +6,12 @@ use Rattle.law_states.specs.States.{State}
 use Rattle.salt_model.specs.Ends.{flight_told}
 use Rattle.salt_model.specs.Phases.{Fallen, Opening, downs, has_opened, phase}
 use Rattle.salt_model.specs.Played.{Tells}
-use Rattle.salt_model.specs.Trace.{Start, Trace, lines_of, ◌says◌}
+use Rattle.salt_model.specs.Trace.{Start, Trace, lines_asked, ◌says◌}
 use Rattle.salt_model.specs.declared.events.Event.{Event}
 use Rattle.salt_model.specs.declared.events.Flight.{Flight}
 use Rattle.salt_driver.specs.Along.{GoesAlong}
 use Rattle.salt_driver.specs.Opening.{MayFailAt}
-use Rattle.salt_driver.specs.Serving.{Grows, IsDown, IsFitting, Serves}
+use Rattle.salt_driver.specs.Serving.{GainsEvents, IsDown, IsFitting, Serves}
 use Rattle.salt_driver.specs.Standing.{HaltsAt}
 use Rattle.salt_storage.specs.Answers.{IsLater, halted_by, numbers_of}
 use Rattle.salt_storage.specs.Writing.{OfBoot, ToWrite}
@@ -25,9 +25,9 @@ use Rattle.std.specs.Prelude.{Bool, List, None, Option, false, if◌then◌else�
 pub record Reopens {E : Type 0} (sees : E → Option Event → State → Type 0) (start : Start) (trace : Trace) (story : List Event) (e : E)
     (told : List Event) : Type 0 where
   pub after : Trace
-  pub lines : lines_of after ≡ lines_of trace
+  pub lines : lines_asked after ≡ lines_asked trace
   pub serves : Serves sees start e told after
-  pub grows : Grows story told
+  pub grows : GainsEvents story told
   pub along : GoesAlong trace after grows.0
 
 -- An opening was not begun: what is left of the devices stands here, where they may have one boot more; and unless memory ran out the
@@ -61,12 +61,12 @@ pub record WithinOpening (lies : ℕ → Point → Type 0) (left : Option Number
 pub record BreaksOpening (lies : ℕ → Point → Type 0) (left : Option Numbers → ℕ → Point → Type 0) (fills : ToWrite → ℕ → Type 0) (flight : Option Flight) (e : OpenErr) (start : Start)
     (trace : Trace) (story told : List Event) : Type 0 where
   pub after : Trace
-  pub lines : lines_of after ≡ lines_of trace
+  pub lines : lines_asked after ≡ lines_asked trace
   pub tells : Tells start after told
   pub fits : IsFitting start after
   pub point : Point
   pub keeps : KeepsPoint point after
-  pub grows : Grows story told
+  pub grows : GainsEvents story told
   pub along : GoesAlong trace after grows.0
   pub later : IsLater e
   pub stops : NotBegun lies left fills flight e after point ⊎ WithinOpening lies left fills flight e after point
@@ -74,9 +74,9 @@ pub record BreaksOpening (lies : ℕ → Point → Type 0) (left : Option Number
 -- the run has fallen again, and its trace has gone on by a front of an opening
 pub record FallsAnew (lies : ℕ → Point → Type 0) (flight : Option Flight) (start : Start) (trace : Trace) (story told : List Event) : Type 0 where
   pub after : Trace
-  pub lines : lines_of after ≡ lines_of trace
+  pub lines : lines_asked after ≡ lines_asked trace
   pub down : IsDown lies flight start told after
-  pub grows : Grows story told
+  pub grows : GainsEvents story told
   pub along : GoesAlong trace after grows.0
 
 -- it is opened, or has fallen again

@@ -8,7 +8,7 @@ use Rattle.salt_model.specs.Kept.{WellKept}
 use Rattle.salt_model.specs.Phases.{Fallen, Serving, downs, has_opened, phase}
 use Rattle.salt_model.specs.Played.{Tells}
 use Rattle.salt_model.specs.Segments.{IsComplete}
-use Rattle.salt_model.specs.Trace.{Asked, Start, Trace, from, line_asked, lines_of, story_before}
+use Rattle.salt_model.specs.Trace.{Asked, Start, Trace, from, line_asked, lines_asked, story_before}
 use Rattle.salt_model.specs.Words.{Every}
 use Rattle.salt_model.specs.declared.events.Event.{Event}
 use Rattle.salt_model.specs.declared.events.Flight.{Flight}
@@ -28,7 +28,7 @@ pub record IsFitting (start : Start) (trace : Trace) : Type 0 where
   pub well : WellKept start.kept
   pub typed : IsTyped start.kept
   pub named : AreNamed (from start)
-  pub keyed : Every HasKey (lines_of trace)
+  pub keyed : Every HasKey (lines_asked trace)
   pub unspent : Each OpensUnspent trace
 
 -- the engine and the story are those of a trace that is played from this start and complete
@@ -41,17 +41,17 @@ pub record Serves {E : Type 0} (sees : E → Option Event → State → Type 0) 
   pub stands : IsIdleAt sees e point
 
 -- the story has gained events, if any
-abbrev pub Grows : List Event → List Event → Type 0
-Grows story told = (more : List Event) × (told ≡ story ++ more)
+abbrev pub GainsEvents : List Event → List Event → Type 0
+GainsEvents story told = (more : List Event) × (told ≡ story ++ more)
 
 -- a trace goes on by a line and its whole segment
 pub record Goes {E : Type 0} (sees : E → Option Event → State → Type 0) (start : Start) (trace : Trace) (asked : Asked) (story : List Event)
     (new : E) (told : List Event) : Type 0 where
   pub after : Trace
-  pub asks : lines_of after ≡ lines_of trace ++ asked ∷ []
+  pub asks : lines_asked after ≡ lines_asked trace ++ asked ∷ []
   pub before : story_before after ≡ story
   pub serves : Serves sees start new told after
-  pub grows : Grows story told
+  pub grows : GainsEvents story told
   pub armed : ArmsAlong (line_asked asked) trace after grows.0
 
 -- it breaks off in a line: the story is that of a played trace, at whose end what is left of the devices stands, and from which the run
@@ -68,10 +68,10 @@ pub record Halts (lies left : Point → Type 0) (fills : ToWrite → ℕ → Typ
 pub record Breaks (lies left : Point → Type 0) (fills : ToWrite → ℕ → Type 0) (flight : Option Flight) (halt : Halt) (start : Start) (trace : Trace)
     (asked : Asked) (story told : List Event) : Type 0 where
   pub after : Trace
-  pub asks : (lines_of after ≡ lines_of trace ++ asked ∷ []) ⊎ ((halt ≡ Memory) × (after ≡ trace))
+  pub asks : (lines_asked after ≡ lines_asked trace ++ asked ∷ []) ⊎ ((halt ≡ Memory) × (after ≡ trace))
   pub before : (story_before after ≡ story) ⊎ (told ≡ story)
   pub halts : Halts lies left fills flight halt start told after
-  pub grows : Grows story told
+  pub grows : GainsEvents story told
   pub armed : ArmsAlong (line_asked asked) trace after grows.0
 
 -- each trace of the engine and the story goes on by the line

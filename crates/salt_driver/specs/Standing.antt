@@ -8,7 +8,7 @@ use Rattle.law_states.specs.Told.{at_devices_in}
 use Rattle.law_story.specs.ContNames.{AreNamed}
 use Rattle.salt_model.specs.Ends.{flight_told}
 use Rattle.salt_model.specs.Phases.{Opening, Serving}
-use Rattle.salt_model.specs.Trace.{Trace, from, lines_of, start_of}
+use Rattle.salt_model.specs.Trace.{Trace, from, lines_asked, start_of}
 use Rattle.salt_model.specs.Words.{Every}
 use Rattle.salt_model.specs.declared.events.Event.{Event}
 use Rattle.salt_model.specs.declared.events.Flight.{Flight}
@@ -29,7 +29,7 @@ pub record IsSoundPoint (p : Point) : Type 0 where
   pub sound : IsSound trace
   pub typed : IsTyped (start_of trace).kept
   pub named : AreNamed (from (start_of trace))
-  pub keyed : Every HasKey (lines_of trace)
+  pub keyed : Every HasKey (lines_asked trace)
 
 -- it serves this line, and what comes next of it is at hand
 pub record IsAt {E : Type 0} (sees : E → Option Event → State → Type 0) (served : Line) (e : E) (next : Option Event) (p : Point) : Type 0 where

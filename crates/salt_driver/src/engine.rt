@@ -11,7 +11,7 @@ ghost use Rattle.salt_model.specs.declared.events.Event.TheVariants.{Refused};
 ghost use Rattle.salt_model.specs.declared.events.Event.{Event};
 ghost use Rattle.salt_model.specs.declared.events.Flight.{Flight};
 ghost use Rattle.salt_model.specs.declared.events.Refusal.{Refusal};
-ghost use Rattle.salt_driver.specs.Counting.{CountsStops, armed_by};
+ghost use Rattle.salt_driver.specs.Counting.{CountsStops, armed_told};
 ghost use Rattle.salt_driver.specs.Standing.{BreaksAt, HaltsAt, IsAt, IsIdleAt, IsSoundPoint, RunsShort, left_to_come};
 ghost use Rattle.salt_storage.specs.Answers.{disk_err};
 ghost use Rattle.salt_storage.specs.Staying.{Setup, StaysWithin};
@@ -79,7 +79,7 @@ pub trait Stepping {
             RunsShort (lies (D.view disks.new) self.new 0) (left (D.view disks.new) self.new None 0) (fills (D.view disks.new) self.new) (flight self.new) halt p ⊎
             ((q : Point) × Moves (Ask (Tree line.now)) p q × HaltsAt (lies (D.view disks.new) self.new 0) (left (D.view disks.new) self.new None 0) (fills (D.view disks.new) self.new) (flight self.new) halt q)) }
         ensures within { StaysWithin (asked self.old) (asked self.new) (D.view disks.old) (D.view disks.new) }
-        ensures counts { CountsStops (D.view disks.old) (D.view disks.new) (disk_err result) (armed_by line.now result) 0 };
+        ensures counts { CountsStops (D.view disks.old) (D.view disks.new) (disk_err result) (armed_told line.now result) 0 };
 
     /// Begins a line whose text is refused, and gives its first event.
     fn ask_rejected<D: Disks>(
@@ -95,7 +95,7 @@ pub trait Stepping {
             RunsShort (lies (D.view disks.new) self.new 0) (left (D.view disks.new) self.new None 0) (fills (D.view disks.new) self.new) (flight self.new) halt p ⊎
             ((q : Point) × Moves (Ask (Rejected refusal)) p q × HaltsAt (lies (D.view disks.new) self.new 0) (left (D.view disks.new) self.new None 0) (fills (D.view disks.new) self.new) (flight self.new) halt q)) }
         ensures within { StaysWithin (asked self.old) (asked self.new) (D.view disks.old) (D.view disks.new) }
-        ensures counts { CountsStops (D.view disks.old) (D.view disks.new) (disk_err result) (armed_by Nothing result) 0 };
+        ensures counts { CountsStops (D.view disks.old) (D.view disks.new) (disk_err result) (armed_told Nothing result) 0 };
 
     /// The program whose turn behind the line comes next.
     fn next_turn<D: Disks>(&self, disks: &D) -> Option<Id>
@@ -119,7 +119,7 @@ pub trait Stepping {
             ((q : Point) × Moves (Turn base) p q × HaltsAt (lies (D.view disks.new) self.new 0) (left (D.view disks.new) self.new None 0) (fills (D.view disks.new) self.new) (flight self.new) halt q)) }
         ensures fewer { OnOk result (turns self.new < turns self.old) }
         ensures within { StaysWithin (asked self.old) (asked self.new) (D.view disks.old) (D.view disks.new) }
-        ensures counts { CountsStops (D.view disks.old) (D.view disks.new) (disk_err result) (armed_by line.now result) 0 };
+        ensures counts { CountsStops (D.view disks.old) (D.view disks.new) (disk_err result) (armed_told line.now result) 0 };
 
     /// Tells what comes next, and gives what comes after it. An error leaves the story as it was, or with this event.
     fn say<D: Disks, F: Fn(PlaceKind, &Key, u32) -> u32>(
@@ -142,7 +142,7 @@ pub trait Stepping {
         ensures less { IfOk result (λ next. left_to_come (waiting self.new) next < left_to_come (waiting self.old) (Some event)) }
         ensures turns { OnOk result (turns self.new ≤ turns self.old) }
         ensures within { StaysWithin (asked self.old) (asked self.new) (D.view disks.old) (D.view disks.new) }
-        ensures counts { CountsStops (D.view disks.old) (D.view disks.new) (disk_err result) (armed_by line.now result) 0 };
+        ensures counts { CountsStops (D.view disks.old) (D.view disks.new) (disk_err result) (armed_told line.now result) 0 };
 
     /// A law: between lines it can be opened anew, and nothing is in flight; where it can be opened, what is left of its devices
     /// stands; and so it does where numbers are told.

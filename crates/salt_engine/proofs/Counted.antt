@@ -5,7 +5,7 @@ use Rattle.salt_disk.specs.Disks.{HasCause, View}
 use Rattle.salt_disk.specs.declared.disks.DiskErr.TheVariants.{Memory}
 use Rattle.salt_model.specs.declared.events.Event.{Event}
 use Rattle.salt_driver.proofs.Counted.{counts-cause}
-use Rattle.salt_driver.specs.Counting.{CountsStops, armed_by}
+use Rattle.salt_driver.specs.Counting.{CountsStops, armed_told}
 use Rattle.salt_storage.specs.Answers.{disk_err, disk_err_of}
 use Rattle.salt_storage.specs.declared.halt.Halt.{Halt}
 use Rattle.std.proofs.Common.{arith, subst, sym}
@@ -22,7 +22,7 @@ cause-lost old new h = record { later = h.later; failed = λ f. cc; stops = h.st
 
 -- a call of the storage was broken off
 pub counts-broken : (line : Line) (old new : View) (result : Result (Option Event) Halt) (halt : Halt) → IsErrAnd result (λ told. told ≡ halt) → HasCause old new (Some (disk_err_of halt)) →
-    CountsStops old new (disk_err result) (armed_by line result) 0
+    CountsStops old new (disk_err result) (armed_told line result) 0
 counts-broken line old new (Ok e) halt never h = absurd never
 counts-broken line old new (Err told) halt is h =
     counts-cause old new (Some (disk_err_of told)) [] refl (subst (λ (t : Halt). HasCause old new (Some (disk_err_of t))) (sym is) h)

@@ -8,7 +8,7 @@ use Rattle.law_states.specs.Laws.{IsSound, is_of_run}
 use Rattle.law_states.specs.OpenUnits.{OpenUnit, UnitState, unit_named}
 use Rattle.law_states.specs.Overlays.{Edit, edits_of}
 use Rattle.law_states.specs.Steps.{kept_ended, units_after}
-use Rattle.law_states.specs.Told.{at_devices_in, commits_in, next_decision}
+use Rattle.law_states.specs.Told.{at_devices_in, commits_in, next_decision_number}
 use Rattle.law_story.proofs.Ids.{is_same_id-true}
 use Rattle.law_story.proofs.NextFits.{find-in}
 use Rattle.salt_model.specs.Kept.{Kept, conts_branched, conts_committed}
@@ -117,13 +117,13 @@ module _ (holds : Kept → Type 0) (is_new : Id → Type 0) (x : Books) (s : Uni
   }
 
 pub commit-written : (s : UnitState) (o : OpenUnit) (u : Id) (cs : List Change) (m : Move) → unit_named u s.units ≡ Some o → cs ≡ map change_at o.changes →
-    make_move s.kept.conts m ≡ Some (conts_committed s.kept (next_decision s) o.kind o.vars) → (w : ToWrite) → w ≡ OfUnit u cs m → IsWrittenBy s (Some (commits_in s o)) w
+    make_move s.kept.conts m ≡ Some (conts_committed s.kept (next_decision_number s) o.kind o.vars) → (w : ToWrite) → w ≡ OfUnit u cs m → IsWrittenBy s (Some (commits_in s o)) w
 commit-written s o u cs m named are moves w is =
     let own = named-own u s.units o named in
     record {
       made = m;
-      moves = moves ∙ ap (λ (q : Option OpenUnit). Some (kept_ended s.kept (Committed (next_decision s)) q).conts) (sym own);
-      writes = is ∙ (λ i. OfUnit (sym (named-unit u s.units o named) i) ((are ∙ ap (changes_decided (Committed (next_decision s))) (sym own)) i) m);
+      moves = moves ∙ ap (λ (q : Option OpenUnit). Some (kept_ended s.kept (Committed (next_decision_number s)) q).conts) (sym own);
+      writes = is ∙ (λ i. OfUnit (sym (named-unit u s.units o named) i) ((are ∙ ap (changes_decided (Committed (next_decision_number s))) (sym own)) i) m);
     }
 
 pub branch-written : (s : UnitState) (o : OpenUnit) (u : Id) (cause : Cause) (m : Move) → unit_named u s.units ≡ Some o →
@@ -132,6 +132,6 @@ branch-written s o u cause m named moves w is =
     let own = named-own u s.units o named in
     record {
       made = m;
-      moves = moves ∙ ap (λ (q : Option OpenUnit). Some (kept_ended s.kept (Branched (next_decision s) cause) q).conts) (sym own);
+      moves = moves ∙ ap (λ (q : Option OpenUnit). Some (kept_ended s.kept (Branched (next_decision_number s) cause) q).conts) (sym own);
       writes = is ∙ (λ i. OfUnit (sym (named-unit u s.units o named) i) [] m);
     }

@@ -30,7 +30,7 @@ use Rattle.salt_scheduler.specs.Standing as scheduling
 use Rattle.salt_scheduler.specs.declared.scheduler.Scheduler.{Scheduler}
 use Rattle.law_decisions.proofs.Reading.{few-parts}
 use Rattle.salt_driver.proofs.Counted.{counts-cause}
-use Rattle.salt_driver.specs.Counting.{CountsStops, armed_at, armed_by}
+use Rattle.salt_driver.specs.Counting.{CountsStops, armed_at, armed_told}
 use Rattle.salt_storage.specs.Writing.{ToWrite}
 use Rattle.salt_storage.specs.declared.halt.Halt.{Halt}
 use Rattle.salt_values.specs.declared.id.Id.{Id}
@@ -53,7 +53,7 @@ plain-line (Crash pairs) no_table no_program no_crash no_net = absurd (no_crash 
 plain-line (Net pairs) no_table no_program no_crash no_net = absurd (no_net pairs refl)
 plain-line line no_table no_program no_crash no_net = refl
 
-pub armed-none : {H : Type 0} (line : Line) (r : Result (Option Event) H) → IfOk r (λ e. armed_at line e ≡ []) → armed_by line r ≡ []
+pub armed-none : {H : Type 0} (line : Line) (r : Result (Option Event) H) → IfOk r (λ e. armed_at line e ≡ []) → armed_told line r ≡ []
 armed-none line (Ok e) h = h
 armed-none line (Err e) h = refl
 

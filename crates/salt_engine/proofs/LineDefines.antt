@@ -25,7 +25,7 @@ use Rattle.law_states.specs.Readings.{WatchReading, clash_by, items_by, under_wa
 use Rattle.law_states.specs.Refused.{known_in}
 use Rattle.law_states.specs.States.{State}
 use Rattle.law_states.specs.Steps.{units_after}
-use Rattle.law_states.specs.Told.{line_in, next_decision}
+use Rattle.law_states.specs.Told.{line_in, next_decision_number}
 use Rattle.salt_model.specs.Kept.{Definition, Kept, OfProgram, OfTable, programs_of, schema_of}
 use Rattle.salt_model.specs.Printable.{IsSpelledProgram, IsSpelledTable}
 use Rattle.salt_model.specs.Trace.{◌says◌}
@@ -65,8 +65,8 @@ reads-there holds is_new stoppable line x s h = reads s h.allowed.serves.sound
 pub record Defines (line : Line) (asked : InFlight) (s : State) : Type 0 where
   pub definition : Definition
   pub may : MayBeDefined s.units (text_of asked) definition
-  pub meant : (r : WatchReading s.watch) → line_in s.units (clash_by s) (items_by s r) line ≡ Some (Defined (next_decision s.units) (text_of asked))
-  pub flies : IsInFlight (Some asked) (Some (Defined (next_decision s.units) (text_of asked))) s.units
+  pub meant : (r : WatchReading s.watch) → line_in s.units (clash_by s) (items_by s r) line ≡ Some (Defined (next_decision_number s.units) (text_of asked))
+  pub flies : IsInFlight (Some asked) (Some (Defined (next_decision_number s.units) (text_of asked))) s.units
 
 module _ (holds : Kept → Type 0) (is_new : Id → Type 0) (stoppable : Bool) (x : Scheduler) (s : State) (tables : TableLaw) (programs : ProgramLaw)
     (may : (k : Kept) → holds k → IsSoundKept k) where
@@ -104,7 +104,7 @@ module _ (holds : Kept → Type 0) (is_new : Id → Type 0) (stoppable : Bool) (
 module _ (holds : Kept → Type 0) (is_new : Id → Type 0) (stoppable : Bool) (line : Line) (x : Scheduler) (s : State) (h : AsksLine holds is_new stoppable line x s)
     (f : InFlight) (d : Defines line f s) where
   abbrev event : Event
-  event = Defined (next_decision s.units) (text_of f)
+  event = Defined (next_decision_number s.units) (text_of f)
 
   sound-behind : (r : WatchReading s.watch) → IsSound ((h.played r).trace says event)
   sound-behind r =
@@ -160,12 +160,12 @@ module _ (holds : Kept → Type 0) (is_new : Id → Type 0) (stoppable : Bool) (
 -- WHAT IS TOLD of a definition is what its line brings
 
 module _ (line : Line) (x y : Scheduler) (e : Event) where
-  pub table-allows : (d : TableDef) → line ≡ line_of.Table d → scheduling.DoesAllowed (λ s r. Some (Defined (next_decision s.units) (table_text d))) line x y e →
+  pub table-allows : (d : TableDef) → line ≡ line_of.Table d → scheduling.DoesAllowed (λ s r. Some (Defined (next_decision_number s.units) (table_text d))) line x y e →
       scheduling.DoesAllowed (λ s r. line_in s.units (clash_by s) (items_by s r) line) line x y e
   table-allows d is allows s r stands h =
       subst (λ (m : Option Event). scheduling.AnswersWith s m y (Some e)) (sym (ap (line_in s.units (clash_by s) (items_by s r)) is)) (allows s r stands h)
 
-  pub program-allows : (p : ProgramDef) → line ≡ line_of.Program p → scheduling.DoesAllowed (λ s r. Some (Defined (next_decision s.units) (program_text p))) line x y e →
+  pub program-allows : (p : ProgramDef) → line ≡ line_of.Program p → scheduling.DoesAllowed (λ s r. Some (Defined (next_decision_number s.units) (program_text p))) line x y e →
       scheduling.DoesAllowed (λ s r. line_in s.units (clash_by s) (items_by s r) line) line x y e
   program-allows p is allows s r stands h =
       subst (λ (m : Option Event). scheduling.AnswersWith s m y (Some e)) (sym (ap (line_in s.units (clash_by s) (items_by s r)) is)) (allows s r stands h)

@@ -14,7 +14,7 @@ use Rattle.law_states.specs.States.{Keeps, asked_of, turned_to}
 use Rattle.salt_model.specs.Next.{decision_in}
 use Rattle.salt_model.specs.Kept.{Kept}
 use Rattle.salt_model.specs.Phases.{Serving}
-use Rattle.salt_model.specs.Trace.{Asked, lines_of, line_asked, ◌asks◌, ◌turns◌}
+use Rattle.salt_model.specs.Trace.{Asked, lines_asked, line_asked, ◌asks◌, ◌turns◌}
 use Rattle.salt_model.specs.Turns.{is_statement_line}
 use Rattle.salt_model.specs.Words.{Every}
 use Rattle.salt_model.specs.declared.events.Event.{Event}
@@ -49,7 +49,7 @@ module _ (asked : Asked) (p : Point) (sound : IsSoundPoint p) (idle : IsIdle p) 
     keeps = asks-keeps;
     sound = asks-sound;
     typed = sound.typed;
-    keyed = every-more HasKey (lines_of sound.trace) asked sound.keyed key;
+    keyed = every-more HasKey (lines_asked sound.trace) asked sound.keyed key;
     next = asked-kept p.state sound.trace asked r sound.keeps.state asks-sound.played sound.sound.well;
     late = refl;
   }

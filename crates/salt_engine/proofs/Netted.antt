@@ -3,7 +3,7 @@ use Rattle.law_decisions.proofs.Naming.{decided-boot}
 use Rattle.law_states.specs.Laws.{is_of_run}
 use Rattle.law_states.specs.OpenUnits.{OpenUnit, UnitState, unit_named}
 use Rattle.law_states.specs.States.{After, State}
-use Rattle.law_states.specs.Told.{Clashes, Items, commits_in, line_in, next_decision}
+use Rattle.law_states.specs.Told.{Clashes, Items, commits_in, line_in, next_decision_number}
 use Rattle.law_states.specs.UnitFacts.{facts_in, facts_of}
 use Rattle.salt_ast.specs.declared.lines.Line.TheVariants.{Program, Table}
 use Rattle.salt_ast.specs.declared.lines.Line.{Line}
@@ -73,7 +73,7 @@ module _ (holds : Kept → Type 0) (is_new : Id → Type 0) (x : Books) (s : Uni
   pub commit-sent : (b : IsBefore holds is_new x (commits_in s o) s) (cs : List Change) → cs ≡ map change_at o.changes → new ≡ net_committed setup u cs old → new ≡ net_after setup (Some (commits_in s o)) s old
   commit-sent b cs are sent =
       let e : Event = commits_in s o in
-      let boot : (o.unit.boot == s.kept.boot) ≡ true = same-number o.unit.boot s.kept.boot (decided-boot s b.comes.trace o.unit (Committed (next_decision s)) b.comes.keeps b.comes.sound b.comes.next refl b.comes.late) in
+      let boot : (o.unit.boot == s.kept.boot) ≡ true = same-number o.unit.boot s.kept.boot (decided-boot s b.comes.trace o.unit (Committed (next_decision_number s)) b.comes.keeps b.comes.sound b.comes.next refl b.comes.late) in
       let changed : cs ≡ map change_at (facts_in s e).changes = are ∙ ap (λ (q : Option OpenUnit). map change_at (facts_of s e q).changes) (sym own) in
       sent
       ∙ (λ i. option_map (commits (sym (named-unit u s.units o named) i) (nodes_in setup.shape (changed i))) old)
@@ -81,7 +81,7 @@ module _ (holds : Kept → Type 0) (is_new : Id → Type 0) (x : Books) (s : Uni
 
   pub branch-sent : (cause : Cause) (b : IsBefore holds is_new x (branches_in s o.unit cause) s) → new ≡ net_committed setup u [] old → new ≡ net_after setup (Some (branches_in s u cause)) s old
   branch-sent cause b sent =
-      let boot : (o.unit.boot == s.kept.boot) ≡ true = same-number o.unit.boot s.kept.boot (decided-boot s b.comes.trace o.unit (Branched (next_decision s) cause) b.comes.keeps b.comes.sound b.comes.next refl b.comes.late) in
+      let boot : (o.unit.boot == s.kept.boot) ≡ true = same-number o.unit.boot s.kept.boot (decided-boot s b.comes.trace o.unit (Branched (next_decision_number s) cause) b.comes.keeps b.comes.sound b.comes.next refl b.comes.late) in
       let same : o.unit ≡ u = named-unit u s.units o named in
       sent
       ∙ ap (λ (nodes : List ℕ). option_map (commits u nodes) old) (none-changed setup.shape 0 setup.shape.parts)

@@ -12,12 +12,12 @@ use Rattle.law_states.specs.Keeps.{KeepsUnits}
 use Rattle.law_states.specs.Laws.{IsSound}
 use Rattle.law_states.specs.OpenUnits.{OpenUnit, UnitState, unit_named}
 use Rattle.law_states.specs.Steps.{units_after}
-use Rattle.law_states.specs.Told.{at_devices_in, commits_in, does_in, next_decision}
+use Rattle.law_states.specs.Told.{at_devices_in, commits_in, does_in, next_decision_number}
 use Rattle.salt_model.specs.Kept.{Kept, conts_branched, conts_committed}
 use Rattle.salt_model.specs.Next.{next}
 use Rattle.salt_model.specs.Stops.{is_just_opened}
 use Rattle.salt_model.specs.Tables.{Tables}
-use Rattle.salt_model.specs.Trace.{Trace, lines_of, start_of}
+use Rattle.salt_model.specs.Trace.{Trace, lines_asked, start_of}
 use Rattle.salt_model.specs.Words.{Every}
 use Rattle.salt_model.specs.declared.events.Cause.{Cause}
 use Rattle.salt_model.specs.declared.events.End.TheVariants.{Branched}
@@ -42,7 +42,7 @@ pub record ComesNext (e : Event) (s : UnitState) : Type 0 where
   pub keeps : KeepsUnits s trace
   pub sound : IsSound trace
   pub typed : IsTyped (start_of trace).kept
-  pub keyed : Every HasKey (lines_of trace)
+  pub keyed : Every HasKey (lines_asked trace)
   pub next : next trace ≡ Some e
   pub late : is_just_opened trace ≡ false
 
@@ -54,16 +54,16 @@ pub record IsBefore (holds : Kept → Type 0) (is_new : Id → Type 0) (x : Book
 
 -- the end of a unit by a branch
 abbrev pub branches_in : UnitState → Id → Cause → Event
-branches_in s u cause = Ended u (Branched (next_decision s) cause)
+branches_in s u cause = Ended u (Branched (next_decision_number s) cause)
 
 -- a unit has been decided by the next decision, with the move of its program that its commit makes, or its branch
 pub record IsCommitted (holds : Kept → Type 0) (is_new : Id → Type 0) (d : Decided) (s : UnitState) (o : OpenUnit) : Type 0 where
-  pub number : d.number ≡ next_decision s
-  pub moves : make_move s.kept.conts d.made ≡ Some (conts_committed s.kept (next_decision s) o.kind o.vars)
+  pub number : d.number ≡ next_decision_number s
+  pub moves : make_move s.kept.conts d.made ≡ Some (conts_committed s.kept (next_decision_number s) o.kind o.vars)
   pub stored : Stored holds is_new (units_after (commits_in s o) s)
 
 pub record IsBranched (holds : Kept → Type 0) (is_new : Id → Type 0) (d : Decided) (s : UnitState) (o : OpenUnit) (cause : Cause) : Type 0 where
-  pub number : d.number ≡ next_decision s
+  pub number : d.number ≡ next_decision_number s
   pub moves : make_move s.kept.conts d.made ≡ Some (conts_branched s.kept o.kind)
   pub stored : Stored holds is_new (units_after (branches_in s o.unit cause) s)
 

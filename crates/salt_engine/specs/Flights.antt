@@ -10,7 +10,7 @@ use Rattle.salt_engine.specs.Deciding.{branches_in}
 use Rattle.salt_engine.specs.declared.flights.InFlight.TheVariants.{Branch, Commit, Program, Table}
 use Rattle.salt_engine.specs.declared.flights.InFlight.{InFlight}
 use Rattle.law_states.specs.OpenUnits.{OpenUnit, UnitState, unit_named}
-use Rattle.law_states.specs.Told.{commits_in, next_decision}
+use Rattle.law_states.specs.Told.{commits_in, next_decision_number}
 use Rattle.salt_model.specs.Kept.{programs_of, schema_of}
 use Rattle.salt_model.specs.declared.events.Event.TheVariants.{Defined}
 use Rattle.salt_model.specs.declared.events.Event.{Event}
@@ -56,5 +56,5 @@ abbrev pub IsInFlight : Option InFlight → Option Event → UnitState → Type 
 IsInFlight None e s = e ≡ None
 IsInFlight (Some (Commit u)) e s = (o : OpenUnit) × (unit_named u s.units ≡ Some o) × (e ≡ Some (commits_in s o))
 IsInFlight (Some (Branch u b cause)) e s = IsLaterUnit s u b × (e ≡ Some (branches_in s u cause))
-IsInFlight (Some (Table d text)) e s = IsTableToCome s d × (text ≡ table_text d) × (e ≡ Some (Defined (next_decision s) text))
-IsInFlight (Some (Program p text)) e s = IsProgramToCome s p × (text ≡ program_text p) × (e ≡ Some (Defined (next_decision s) text))
+IsInFlight (Some (Table d text)) e s = IsTableToCome s d × (text ≡ table_text d) × (e ≡ Some (Defined (next_decision_number s) text))
+IsInFlight (Some (Program p text)) e s = IsProgramToCome s p × (text ≡ program_text p) × (e ≡ Some (Defined (next_decision_number s) text))

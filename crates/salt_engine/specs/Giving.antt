@@ -22,7 +22,7 @@ use Rattle.law_states.specs.Laws.{is_of_run}
 use Rattle.law_states.specs.OpenUnits.{OpenUnit, UnitState, unit_named}
 use Rattle.law_states.specs.States.{State}
 use Rattle.law_states.specs.Steps.{units_after}
-use Rattle.law_states.specs.Told.{next_decision}
+use Rattle.law_states.specs.Told.{next_decision_number}
 use Rattle.salt_model.specs.Kept.{Kept, conts_branched, conts_committed, schema_of}
 use Rattle.salt_model.specs.Next.{decision_in}
 use Rattle.salt_model.specs.Tables.{Tables}
@@ -72,8 +72,8 @@ pub record AreRowsFor (a : Asking) (rows : Tables) (s : UnitState) : Type 0 wher
 abbrev pub FitsUnits : Given → UnitState → Type 0
 FitsUnits (Rows a rows) s = AreRowsFor a (tables_of rows.entries) s
 FitsUnits (Committed u m n) s =
-    (o : OpenUnit) × (unit_named u s.units ≡ Some o) × MovesTo m s.kept (conts_committed s.kept (next_decision s) o.kind o.vars) × (n ≡ next_decision s)
-FitsUnits (Branched u b cause m n) s = (later : IsLaterUnit s u b) × MovesTo m s.kept (conts_branched s.kept later.unit.kind) × (n ≡ next_decision s)
+    (o : OpenUnit) × (unit_named u s.units ≡ Some o) × MovesTo m s.kept (conts_committed s.kept (next_decision_number s) o.kind o.vars) × (n ≡ next_decision_number s)
+FitsUnits (Branched u b cause m n) s = (later : IsLaterUnit s u b) × MovesTo m s.kept (conts_branched s.kept later.unit.kind) × (n ≡ next_decision_number s)
 FitsUnits g s = ⊤
 
 -- the units behind what comes next

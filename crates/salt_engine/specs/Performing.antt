@@ -25,7 +25,7 @@ use Rattle.salt_model.specs.Kept.{Kept}
 use Rattle.salt_model.specs.Next.{decision_in, next}
 use Rattle.salt_model.specs.Phases as phases
 use Rattle.salt_model.specs.Stops.{is_just_opened}
-use Rattle.salt_model.specs.Trace.{Rejected, Trace, Tree, lines_of, start_of}
+use Rattle.salt_model.specs.Trace.{Rejected, Trace, Tree, lines_asked, start_of}
 use Rattle.salt_model.specs.Words.{Every}
 use Rattle.salt_model.specs.declared.events.Event.TheVariants.{Armed, Defined, Refused}
 use Rattle.salt_model.specs.declared.events.Event.{Event}
@@ -51,7 +51,7 @@ pub record IsPlayedBefore (comes : Option Event) (s : State) : Type 0 where
   pub keeps : Keeps s trace
   pub sound : IsSound trace
   pub typed : IsTyped (start_of trace).kept
-  pub keyed : Every HasKey (lines_of trace)
+  pub keyed : Every HasKey (lines_asked trace)
   pub next : next trace ≡ comes
   pub late : is_just_opened trace ≡ false
 

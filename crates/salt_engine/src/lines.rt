@@ -15,7 +15,7 @@ ghost use Rattle.salt_model.specs.Trace.{Tree};
 ghost use Rattle.salt_model.specs.Words.{Every};
 ghost use Rattle.salt_model.specs.declared.events.Event.TheVariants.{Refused};
 ghost use Rattle.salt_model.specs.declared.events.Refusal.{Refusal};
-ghost use Rattle.salt_driver.specs.Counting.{CountsStops, armed_by};
+ghost use Rattle.salt_driver.specs.Counting.{CountsStops, armed_told};
 ghost use Rattle.salt_scheduler.specs.Standing.{DoesAllowed, IsAllowed, StandsForState};
 ghost use Rattle.salt_storage.specs.Answers.{disk_err};
 ghost use Rattle.salt_storage.specs.Staying.{StaysWithin};
@@ -131,7 +131,7 @@ impl<S: Storage> Engine<S> {
         ensures comes { BeginsOut S.holds S.is_new S.leaves S.fills (D.view disks.old) (D.view disks.new) line.now self.old self.new result }
         ensures sent { OnOk result (SendsBegun S.holds S.is_new S.asked S.net (D.view disks.old) line.now self.old self.new) }
         ensures stays { StaysServing S.asked (D.view disks.old) (D.view disks.new) self.old self.new }
-        ensures counts { CountsStops (D.view disks.old) (D.view disks.new) (disk_err result) (armed_by line.now result) 0 }
+        ensures counts { CountsStops (D.view disks.old) (D.view disks.new) (disk_err result) (armed_told line.now result) 0 }
     {
         definitions_may_be_kept();
         self.storage.stands(disks);
@@ -166,7 +166,7 @@ impl<S: Storage> Engine<S> {
         ensures comes { BeginsOut S.holds S.is_new S.leaves S.fills (D.view disks.old) (D.view disks.new) line.now self.old self.new result }
         ensures sent { OnOk result (SendsBegun S.holds S.is_new S.asked S.net (D.view disks.old) line.now self.old self.new) }
         ensures stays { StaysServing S.asked (D.view disks.old) (D.view disks.new) self.old self.new }
-        ensures counts { CountsStops (D.view disks.old) (D.view disks.new) (disk_err result) (armed_by line.now result) 0 }
+        ensures counts { CountsStops (D.view disks.old) (D.view disks.new) (disk_err result) (armed_told line.now result) 0 }
     {
         self.storage.stands(disks);
         let Stage::Going(scheduler) = &mut self.stage else {
@@ -198,7 +198,7 @@ impl<S: Storage> Engine<S> {
         ensures comes { BeginsOut S.holds S.is_new S.leaves S.fills (D.view disks.old) (D.view disks.new) line.now self.old self.new result }
         ensures sent { OnOk result (SendsBegun S.holds S.is_new S.asked S.net (D.view disks.old) line.now self.old self.new) }
         ensures stays { StaysServing S.asked (D.view disks.old) (D.view disks.new) self.old self.new }
-        ensures counts { CountsStops (D.view disks.old) (D.view disks.new) (disk_err result) (armed_by line.now result) 0 }
+        ensures counts { CountsStops (D.view disks.old) (D.view disks.new) (disk_err result) (armed_told line.now result) 0 }
     {
         self.storage.stands(disks);
         let Stage::Going(scheduler) = &mut self.stage else {
@@ -232,7 +232,7 @@ impl<S: Storage> Engine<S> {
         ensures comes { BeginsOut S.holds S.is_new S.leaves S.fills (D.view disks.old) (D.view disks.new) line.now self.old self.new result }
         ensures sent { OnOk result (SendsBegun S.holds S.is_new S.asked S.net (D.view disks.old) line.now self.old self.new) }
         ensures stays { StaysServing S.asked (D.view disks.old) (D.view disks.new) self.old self.new }
-        ensures counts { CountsStops (D.view disks.old) (D.view disks.new) (disk_err result) (armed_by line.now result) 0 }
+        ensures counts { CountsStops (D.view disks.old) (D.view disks.new) (disk_err result) (armed_told line.now result) 0 }
     {
         self.storage.stands(disks);
         let Stage::Going(scheduler) = &mut self.stage else {
@@ -256,7 +256,7 @@ impl<S: Storage> Engine<S> {
         ensures comes { BeginsOut S.holds S.is_new S.leaves S.fills (D.view disks.old) (D.view disks.new) line.now self.old self.new result }
         ensures sent { OnOk result (SendsBegun S.holds S.is_new S.asked S.net (D.view disks.old) line.now self.old self.new) }
         ensures stays { StaysServing S.asked (D.view disks.old) (D.view disks.new) self.old self.new }
-        ensures counts { CountsStops (D.view disks.old) (D.view disks.new) (disk_err result) (armed_by line.now result) 0 }
+        ensures counts { CountsStops (D.view disks.old) (D.view disks.new) (disk_err result) (armed_told line.now result) 0 }
     {
         match line {
             Line::Table(_def) => self.define(disks, place, line),
@@ -282,7 +282,7 @@ impl<S: Storage> Engine<S> {
         ensures sent { OnOk result (SendsAsked S.holds S.is_new S.asked S.net (D.view disks.old) line.now self.old self.new) }
         ensures stays { StaysServing S.asked (D.view disks.old) (D.view disks.new) self.old self.new }
         ensures refused { (refusal : Refusal) → result ≡ Ok (Some (Refused refusal)) → disks.new ≡ disks.old }
-        ensures counts { CountsStops (D.view disks.old) (D.view disks.new) (disk_err result) (armed_by line.now result) 0 }
+        ensures counts { CountsStops (D.view disks.old) (D.view disks.new) (disk_err result) (armed_told line.now result) 0 }
     {
         self.storage.stands(disks);
         let Stage::Going(scheduler) = &mut self.stage else {

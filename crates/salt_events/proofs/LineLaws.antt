@@ -9,7 +9,7 @@ use Rattle.salt_events.proofs.PartLaws.{IsWhole, either_if, number_whole, whole_
 use Rattle.salt_events.proofs.ValueLaws.{digit_range}
 use Rattle.salt_events.specs.Fronts.{behind}
 use Rattle.salt_events.specs.Items.{item_in}
-use Rattle.salt_events.specs.Lines.{GoesOn, an_event, an_item, counts, event_behind, event_in, line_in, line_of, shown_in, told_in}
+use Rattle.salt_events.specs.Lines.{GoesOn, an_event, an_item, counts, event_behind, event_in, line_in, line_taken, shown_in, told_in}
 use Rattle.salt_events.specs.Reading.{number_in}
 use Rattle.salt_model.specs.EventTexts.{ShowsNothing, event_line}
 use Rattle.salt_model.specs.Naming.{IsNaming}
@@ -19,7 +19,7 @@ use Rattle.salt_model.specs.declared.events.Event.{Event}
 use Rattle.salt_model.specs.declared.events.Why.TheVariants as why
 use Rattle.salt_model.specs.declared.shown.Item.{Item}
 use Rattle.salt_tokens.specs.Bytes.{is_digit}
-use Rattle.salt_tokens.specs.Pieces.{Run}
+use Rattle.salt_tokens.specs.Pieces.{EachPasses}
 use Rattle.salt_values.specs.declared.id.Id.{Id}
 use Rattle.std.proofs.Common.{Bool, IfSome, List, None, Option, Some, [], ap, append_assoc, arith, codes, false, length, option_map, refl, subst, true, ℕ, ◌++◌, ◌<◌, ◌==◌, ◌∙◌, ◌∷◌, ◌≡◌}
 use Rattle.std.proofs.lemmas.Bool.Decides.{nat_tests}
@@ -33,7 +33,7 @@ use Rattle.std.specs.Fmt.{decimal}
 base_begins : (schema : List TableDef) (b : Id) (x : List ℕ) → IsSizedId b → item_in schema (98 ∷ (id_text b ++ x)) ≡ None
 base_begins schema b x g = ap (λ l. item_in schema (98 ∷ l)) (append_assoc (decimal b.boot) (46 ∷ decimal b.seq) x) ∙ go (decimal b.boot) (decimal_nonempty b.boot (omega arith)) (decimal_run b.boot (omega arith))
   where
-    go : (ds : List ℕ) → 0 < length ds → Run is_digit ds → item_in schema (98 ∷ (ds ++ (46 ∷ (decimal b.seq ++ x)))) ≡ None
+    go : (ds : List ℕ) → 0 < length ds → EachPasses is_digit ds → item_in schema (98 ∷ (ds ++ (46 ∷ (decimal b.seq ++ x)))) ≡ None
     go [] some r = absurd (omega arith)
     go (d ∷ ds) some r = let k = digit_range d r.0 in let t : (97 == d) ≡ false = grind (arith, nat_tests) in rw t refl
 
@@ -87,7 +87,7 @@ line_read laws schema items line r naming (an_item i p g e) =
     rw e (rw (item_read schema naming i p g) refl)
 line_read laws schema items line r naming (counts g e) = rw e (rw (count_read items g) refl)
 line_read laws schema items line r naming (an_event x s none p e) =
-    ap (line_in schema items) e ∙ ap (line_of items (event_line schema x)) (no_item schema x s p.sizes)
+    ap (line_in schema items) e ∙ ap (line_taken items (event_line schema x)) (no_item schema x s p.sizes)
     ∙ ap (option_map {U = List Item × Option Event} (λ l. ([], Some l))) (event_told_in schema items x s none (event_told laws schema x s p))
 
 -- BACK
@@ -119,7 +119,7 @@ module _ (laws : OfStatements) (schema : List TableDef) where
       either_if (behind (codes "shown ") line) (shown_in items) (event_behind items line) (λ x. line ≡ codes "shown " ++ x) (EndsLine items line)
       (behind_back (codes "shown ") line) (λ x e. count_back items line x e) (event_behind_back items line)
 
-  line_of_back : (items : List Item) (line : List ℕ) (o : Option Item) → IfSome o (IsItem schema line) → IfSome (line_of items line o) (GoesOn schema items line)
+  line_of_back : (items : List Item) (line : List ℕ) (o : Option Item) → IfSome o (IsItem schema line) → IfSome (line_taken items line o) (GoesOn schema items line)
   line_of_back items line None h =
       map_if (told_in items line) (λ e. ([], Some e)) (EndsLine items line) (GoesOn schema items line) (told_back items line) (λ e k. k)
   line_of_back items line (Some i) h = an_item i h.printable h.sized h.text

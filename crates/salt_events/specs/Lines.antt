@@ -39,13 +39,13 @@ event_behind (i ∷ is) line = None
 abbrev pub told_in : List Item → List ℕ → Option Event
 told_in items line = either (behind (codes "shown ") line) (shown_in items) (event_behind items line)
 
-abbrev pub line_of : List Item → List ℕ → Option Item → Option (List Item × Option Event)
-line_of items line (Some i) = Some (items ++ i ∷ [], None)
-line_of items line None = option_map (λ e. ([], Some e)) (told_in items line)
+abbrev pub line_taken : List Item → List ℕ → Option Item → Option (List Item × Option Event)
+line_taken items line (Some i) = Some (items ++ i ∷ [], None)
+line_taken items line None = option_map (λ e. ([], Some e)) (told_in items line)
 
 -- the items that are then still to be counted, and the event if the line ends one
 abbrev pub line_in : List TableDef → List Item → List ℕ → Option (List Item × Option Event)
-line_in schema items line = line_of items line (item_in schema line)
+line_in schema items line = line_taken items line (item_in schema line)
 
 -- the line goes on with a story, behind items that are still to be counted
 pub data GoesOn (schema : List TableDef) (items : List Item) (line : List ℕ) : List Item × Option Event → Type 0 where

@@ -4,7 +4,7 @@ ghost use Rattle.std.specs.Prelude.{◌≡◌, ◌≤◌, None, Some, MatchOptio
 ghost use Rattle.std.specs.Str.Parse.{digits_value};
 ghost use Rattle.salt_events.specs.Fronts.{behind, behind_digits, digits_in, id_at, if_sized, number_at, numeral};
 ghost use Rattle.salt_tokens.specs.Bytes.{is_digit};
-ghost use Rattle.salt_tokens.specs.Pieces.{Run};
+ghost use Rattle.salt_tokens.specs.Pieces.{EachPasses};
 
 use salt_values::Id;
 
@@ -45,7 +45,7 @@ fn digit_count(bytes: &[u8]) -> usize
 
 /// The number that the digits write, where it has 64 bits.
 fn value(digits: &[u8]) -> Option<u64>
-    requires { Run is_digit digits.now }
+    requires { EachPasses is_digit digits.now }
     ensures { result ≡ if_sized (digits_value 10 digits.now) }
 {
     let mut n: u64 = 0;
@@ -57,7 +57,7 @@ fn value(digits: &[u8]) -> Option<u64>
 
 /// The number that the digits are printed of.
 fn numeral(digits: &[u8]) -> Option<u64>
-    requires { Run is_digit digits.now }
+    requires { EachPasses is_digit digits.now }
     ensures { result ≡ numeral digits.now }
 {
     match digits {

@@ -4,7 +4,7 @@ use Rattle.salt_ast.specs.declared.trees.TableDef.{TableDef}
 use Rattle.salt_bytes.specs.Coordinator.{NumberedText}
 use Rattle.law_definitions.specs.Texts.{IsTextOf, definition_in, program_in, table_in}
 use Rattle.salt_decisions.specs.Said.{text_of}
-use Rattle.salt_stands.specs.Fitting.{is_refused, programs_of, tables_of}
+use Rattle.salt_stands.specs.Fitting.{is_refused, programs_defined, tables_defined}
 use Rattle.salt_found.proofs.Refusals.{program_refused, table_refused}
 use Rattle.salt_found.specs.Definitions.{AreOf, AreOfSome, Defines, FailsToDefine, IsJudged, IsProgramIn, IsTableIn, define_text, defined_by_texts, is_of_table, reading}
 use Rattle.salt_found.specs.declared.error.RecoverErr.TheVariants.{Memory, NotSalt}
@@ -12,7 +12,7 @@ use Rattle.salt_found.specs.declared.error.RecoverErr.{RecoverErr}
 use Rattle.salt_model.specs.Kept.{Definition, OfProgram, OfTable, program_of_definition, table_of_definition}
 use Rattle.salt_program.specs.Refusals.{program_refusal}
 use Rattle.salt_schema.specs.Refusals.{table_refusal}
-use Rattle.salt_stands.specs.Coordinator.{define, defined_by}
+use Rattle.salt_stands.specs.Coordinator.{define, definitions_read}
 use Rattle.salt_stands.specs.Reading.{Reading}
 use Rattle.std.proofs.Common.{Err, List, None, Ok, Option, Result, Some, [], ap, cond, drop, false, get_or, is_ok, is_some, length, not, refl, subst, sym, true, ℕ, ◌+◌, ◌++◌, ◌<◌, ◌≡◌, ◌≤◌, ◌∙◌, ◌∷◌}
 use Rattle.std.proofs.lemmas.List.{drop_all, drop_more}
@@ -21,7 +21,7 @@ use Rattle.std.specs.Prelude.{OnOk, map, option_map, ◌↔◌, option_and_then}
 use Rattle.std.specs.Bool.{then_some}
 
 -- numbers of texts say nothing of what is defined
-pub defined_by_its_texts : {D : Type 0} (r : Reading D) (o : Option (List D)) (ts : List NumberedText) → defined_by r o ts ≡ defined_by_texts r o (map text_of ts)
+pub defined_by_its_texts : {D : Type 0} (r : Reading D) (o : Option (List D)) (ts : List NumberedText) → definitions_read r o ts ≡ defined_by_texts r o (map text_of ts)
 defined_by_its_texts r o [] = refl
 defined_by_its_texts r o (t ∷ ts) = defined_by_its_texts r (define r t o) ts
 
@@ -45,12 +45,12 @@ append-none (x ∷ xs) = ap (λ l. x ∷ l) (append-none xs)
 with_table : (schema new : List TableDef) (catalogue : List ProgramDef) (ds : List Definition) (d : TableDef) → AreOf schema catalogue ds → new ≡ schema ++ d ∷ [] → AreOf new catalogue (ds ++ OfTable d ∷ [])
 with_table schema new catalogue ds d are e = record {
   tables = e ∙ ap (λ l. l ++ d ∷ []) are.tables ∙ sym (filter_map-push table_of_definition ds (OfTable d));
-  programs = are.programs ∙ sym (append-none (programs_of ds)) ∙ sym (filter_map-push program_of_definition ds (OfTable d));
+  programs = are.programs ∙ sym (append-none (programs_defined ds)) ∙ sym (filter_map-push program_of_definition ds (OfTable d));
 }
 
 with_program : (schema : List TableDef) (catalogue new : List ProgramDef) (ds : List Definition) (p : ProgramDef) → AreOf schema catalogue ds → new ≡ catalogue ++ p ∷ [] → AreOf schema new (ds ++ OfProgram p ∷ [])
 with_program schema catalogue new ds p are e = record {
-  tables = are.tables ∙ sym (append-none (tables_of ds)) ∙ sym (filter_map-push table_of_definition ds (OfProgram p));
+  tables = are.tables ∙ sym (append-none (tables_defined ds)) ∙ sym (filter_map-push table_of_definition ds (OfProgram p));
   programs = e ∙ ap (λ l. l ++ p ∷ []) are.programs ∙ sym (filter_map-push program_of_definition ds (OfProgram p));
 }
 
@@ -125,13 +125,13 @@ module _ (law : (text : List ℕ) (d : Definition) → (definition_in text ≡ S
     are = with_program schema catalogue new ds p are (more refl);
   }
     where
-      known : AreOf schema catalogue ds → is_some (program_refusal (tables_of ds) (programs_of ds) p) ≡ is_some (program_refusal schema catalogue p)
-      known are = ap (λ s. is_some (program_refusal s (programs_of ds) p)) (sym are.tables) ∙ ap (λ c. is_some (program_refusal schema c p)) (sym are.programs)
+      known : AreOf schema catalogue ds → is_some (program_refusal (tables_defined ds) (programs_defined ds) p) ≡ is_some (program_refusal schema catalogue p)
+      known are = ap (λ s. is_some (program_refusal s (programs_defined ds) p)) (sym are.tables) ∙ ap (λ c. is_some (program_refusal schema c p)) (sym are.programs)
   program_added (Err NotSalt) schema catalogue new p t are judged more =
       refused text (OfProgram p) ((law text (OfProgram p)).1 t) ds (program_refused ds p ∙ known are ∙ judged)
     where
-      known : AreOf schema catalogue ds → is_some (program_refusal (tables_of ds) (programs_of ds) p) ≡ is_some (program_refusal schema catalogue p)
-      known are = ap (λ s. is_some (program_refusal s (programs_of ds) p)) (sym are.tables) ∙ ap (λ c. is_some (program_refusal schema c p)) (sym are.programs)
+      known : AreOf schema catalogue ds → is_some (program_refusal (tables_defined ds) (programs_defined ds) p) ≡ is_some (program_refusal schema catalogue p)
+      known are = ap (λ s. is_some (program_refusal s (programs_defined ds) p)) (sym are.tables) ∙ ap (λ c. is_some (program_refusal schema c p)) (sym are.programs)
   program_added (Err Memory) schema catalogue new p t are judged more = tt
 
 -- so many of the texts are added

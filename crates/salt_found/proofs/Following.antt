@@ -9,7 +9,7 @@ use Rattle.salt_decisions.specs.Kept.{IsKept}
 use Rattle.salt_decisions.specs.Moves.{moved_by}
 use Rattle.salt_decisions.specs.Said.{move_of}
 use Rattle.salt_decisions.specs.declared.kept.Kept.{Kept}
-use Rattle.salt_stands.specs.Fitting.{is_cont_of, programs_of}
+use Rattle.salt_stands.specs.Fitting.{is_cont_of, programs_defined}
 use Rattle.salt_found.specs.Conts.{OpensConts, fits_header, fits_kept, fits_move, follow, followed, is_booted, open_conts_of}
 use Rattle.salt_found.specs.Definitions.{reading}
 use Rattle.salt_found.specs.Moves.{Follows}
@@ -100,10 +100,10 @@ module _ (ds : List Definition) (t : Told) (format : ℕ) where
       ap (λ b. is_sound_decision reading ds t format d && b) (decisions_apart xs)
       ∙ four (booted d.unit) (sound_move d.move) (list_all booted (map unit_of xs)) (list_all sound_move (map move_of xs))
 
-module _ (ps : List ProgramDef) (k : Kept) (log : CoordinatorLog) (ds : List Definition) (is : IsKept k log) (same : ps ≡ programs_of ds) where
+module _ (ps : List ProgramDef) (k : Kept) (log : CoordinatorLog) (ds : List Definition) (is : IsKept k log) (same : ps ≡ programs_defined ds) where
   fits_same : fits_kept ps k ≡ is_sound_cont reading ds log.told
   fits_same =
-      ap (λ qs. sound_under qs k.boot k.decisions) same ∙ ap (λ n. sound_under (programs_of ds) n k.decisions) is.boot ∙ ap (λ n. sound_under (programs_of ds) log.told.boot n) is.decisions
+      ap (λ qs. sound_under qs k.boot k.decisions) same ∙ ap (λ n. sound_under (programs_defined ds) n k.decisions) is.boot ∙ ap (λ n. sound_under (programs_defined ds) log.told.boot n) is.decisions
 
   booted_same : is_booted k ≡ booted ds log.told log.header.format
   booted_same = ap (λ n (id : Id). nat_le id.boot n) is.boot

@@ -12,7 +12,7 @@ use Rattle.salt_found.specs.declared.error.RecoverErr.TheVariants.{Memory, NotSa
 use Rattle.salt_found.specs.declared.error.RecoverErr.{RecoverErr}
 use Rattle.salt_found.specs.declared.recovery.Recovered.{Recovered}
 use Rattle.salt_model.specs.Kept.{Definition}
-use Rattle.salt_stands.specs.Coordinator.{Coordinator, are_sound, coordinator_of, defined_by}
+use Rattle.salt_stands.specs.Coordinator.{Coordinator, are_sound, coordinator_of, definitions_read}
 use Rattle.salt_stands.specs.CoordinatorLog.{CoordinatorLog}
 use Rattle.salt_stands.specs.OpenConts.{moved}
 use Rattle.salt_values.specs.declared.cont.Cont.{Cont}
@@ -21,7 +21,7 @@ use Rattle.std.specs.Bool.{then_some}
 use Rattle.std.specs.Prelude.{option_and_then}
 
 module _ (k : Kept) (log : CoordinatorLog) (is : IsKept k log) where
-  texts_are : defined_by reading (Some []) log.told.definitions ≡ defined_by_texts reading (Some []) k.definitions
+  texts_are : definitions_read reading (Some []) log.told.definitions ≡ defined_by_texts reading (Some []) k.definitions
   texts_are = defined_by_its_texts reading (Some []) log.told.definitions ∙ ap (defined_by_texts reading (Some [])) (sym is.definitions)
 
   abbrev with_conts : List Definition → Option (Coordinator Definition)

@@ -4,7 +4,7 @@ use Rattle.salt_ast.specs.ProgramJudgement.{ProgramFault, faulty, kept, line_fau
 use Rattle.salt_ast.specs.declared.limit.LimitName.{LimitName}
 use Rattle.salt_ast.specs.declared.programs.ProgramDef.{ProgramDef}
 use Rattle.salt_ast.specs.declared.trees.TableDef.{TableDef}
-use Rattle.salt_stands.specs.Fitting.{is_refused, programs_of, tables_of}
+use Rattle.salt_stands.specs.Fitting.{is_refused, programs_defined, tables_defined}
 use Rattle.salt_model.specs.Kept.{Definition, OfProgram, OfTable}
 use Rattle.salt_program.specs.Refusals as program
 use Rattle.salt_program.specs.declared.error.DefineErr.TheVariants as define
@@ -14,9 +14,9 @@ use Rattle.std.proofs.Common.{List, None, Option, Some, is_some, refl, ◌≡◌
 use Rattle.std.specs.Option.{option_or}
 use Rattle.std.specs.Prelude.{option_map}
 
-pub table_refused : (ds : List Definition) (d : TableDef) → is_refused ds (OfTable d) ≡ is_some (table_refusal (tables_of ds) d)
+pub table_refused : (ds : List Definition) (d : TableDef) → is_refused ds (OfTable d) ≡ is_some (table_refusal (tables_defined ds) d)
 unfolding line_fault
-table_refused ds d = by (kept_limit (tables_of ds)) (table_fault (tables_of ds) d)
+table_refused ds d = by (kept_limit (tables_defined ds)) (table_fault (tables_defined ds) d)
   where
     by : (l : Option LimitName) (f : Option Fault) →
         is_some (option_or (option_map kept l) (option_map faulty f)) ≡ is_some (option_or (option_map (λ _. error.Tables) l) (option_map fault_error f))
@@ -24,9 +24,9 @@ table_refused ds d = by (kept_limit (tables_of ds)) (table_fault (tables_of ds) 
     by None None = refl
     by None (Some f) = refl
 
-pub program_refused : (ds : List Definition) (p : ProgramDef) → is_refused ds (OfProgram p) ≡ is_some (program.program_refusal (tables_of ds) (programs_of ds) p)
+pub program_refused : (ds : List Definition) (p : ProgramDef) → is_refused ds (OfProgram p) ≡ is_some (program.program_refusal (tables_defined ds) (programs_defined ds) p)
 unfolding line_fault
-program_refused ds p = by (program_kept_limit (programs_of ds)) (program_fault (tables_of ds) (programs_of ds) p)
+program_refused ds p = by (program_kept_limit (programs_defined ds)) (program_fault (tables_defined ds) (programs_defined ds) p)
   where
     by : (l : Option LimitName) (f : Option ProgramFault) →
         is_some (option_or (option_map kept l) (option_map of_program_fault f)) ≡ is_some (option_or (option_map (λ _. define.Programs) l) (option_map program.fault_error f))

@@ -2,7 +2,7 @@
 use Rattle.salt_ast.specs.declared.programs.ProgramDef.{ProgramDef}
 use Rattle.salt_ast.specs.declared.trees.TableDef.{TableDef}
 use Rattle.law_definitions.specs.Texts.{IsTextOf, definition_in}
-use Rattle.salt_stands.specs.Fitting.{definitions_reading, programs_of, tables_of}
+use Rattle.salt_stands.specs.Fitting.{definitions_reading, programs_defined, tables_defined}
 use Rattle.salt_found.specs.declared.error.RecoverErr.TheVariants.{Memory, NotSalt}
 use Rattle.salt_found.specs.declared.error.RecoverErr.{RecoverErr}
 use Rattle.salt_model.specs.Kept.{Definition, OfProgram, OfTable}
@@ -24,8 +24,8 @@ defined_by_texts r defined (text ∷ texts) = defined_by_texts r (define_text r 
 
 -- these are the tables and programs of the definitions
 pub record AreOf (schema : List TableDef) (catalogue : List ProgramDef) (ds : List Definition) : Type 0 where
-  pub tables : schema ≡ tables_of ds
-  pub programs : catalogue ≡ programs_of ds
+  pub tables : schema ≡ tables_defined ds
+  pub programs : catalogue ≡ programs_defined ds
 
 -- there are definitions, of which these are the tables and programs
 pub record AreOfSome (schema : List TableDef) (catalogue : List ProgramDef) (defined : Option (List Definition)) : Type 0 where

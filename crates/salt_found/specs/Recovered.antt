@@ -1,5 +1,5 @@
 -- What is recovered is what the log stands for.
-use Rattle.salt_stands.specs.Fitting.{programs_of, tables_of}
+use Rattle.salt_stands.specs.Fitting.{programs_defined, tables_defined}
 use Rattle.salt_found.specs.declared.error.RecoverErr.TheVariants.{Memory, NotSalt}
 use Rattle.salt_found.specs.declared.error.RecoverErr.{RecoverErr}
 use Rattle.salt_found.specs.declared.recovery.Recovered.{Recovered}
@@ -11,8 +11,8 @@ use Rattle.std.specs.Prelude.{Err, None, Ok, Option, Result, Some, ⊤, ◌≡�
 pub record IsRecovered (r : Recovered) (coordinator : Option (Coordinator Definition)) : Type 0 where
   pub c : Coordinator Definition
   pub stands : coordinator ≡ Some c
-  pub schema : r.schema ≡ tables_of c.definitions
-  pub catalogue : r.catalogue ≡ programs_of c.definitions
+  pub schema : r.schema ≡ tables_defined c.definitions
+  pub catalogue : r.catalogue ≡ programs_defined c.definitions
   pub conts : r.conts ≡ c.conts
 
 abbrev pub Recovers : Result Recovered RecoverErr → Option (Coordinator Definition) → Type 0

@@ -1,6 +1,6 @@
 //! Where BASE programs go on.
 
-ghost use Rattle.salt_stands.specs.Fitting.{programs_of};
+ghost use Rattle.salt_stands.specs.Fitting.{programs_defined};
 ghost use Rattle.salt_decisions.specs.Kept.{IsKept};
 ghost use Rattle.salt_found.specs.Conts.{OpensConts, fits_header, fits_kept, followed, is_booted, open_conts_of};
 ghost use Rattle.salt_model.specs.Kept.{Definition};
@@ -85,7 +85,7 @@ fn follow_all(alloc: Global, catalogue: &Catalogue, kept: &Kept) -> Result<Conts
 /// boot or decision than is kept; in the header two are of one program, or the numbers of acceptance do not rise; a unit is of a
 /// later boot; or a move is no move, or goes on with or ends what is not open so.
 pub fn open_conts(alloc: Global, catalogue: &Catalogue, kept: &Kept) -> Result<Conts, ContErr>
-    ensures { (log : CoordinatorLog) (ds : List Definition) → IsKept kept.now log → catalogue.now ≡ programs_of ds → OpensConts result (open_conts_of log ds) }
+    ensures { (log : CoordinatorLog) (ds : List Definition) → IsKept kept.now log → catalogue.now ≡ programs_defined ds → OpensConts result (open_conts_of log ds) }
 {
     follow_all(alloc, catalogue, kept)
 }

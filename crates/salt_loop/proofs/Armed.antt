@@ -9,7 +9,7 @@ use Rattle.salt_driver.proofs.Counted.{come-same}
 use Rattle.salt_driver.specs.Along.{ArmsAlong, armed_along}
 use Rattle.salt_driver.specs.Counting.{CountsFall, CountsMore, CountsOpening, FallsFirst, armed_in, stopped_in, stops_of}
 use Rattle.salt_driver.specs.Opening.{halt_of}
-use Rattle.salt_driver.specs.Serving.{Grows}
+use Rattle.salt_driver.specs.Serving.{GainsEvents}
 use Rattle.salt_loop.proofs.Counts.{memory-short, no-stop}
 use Rattle.salt_loop.specs.Armed.{EndsArmed, HaltsArmed, StaysArmed}
 use Rattle.salt_loop.specs.Counted.{CountsNothing, CountsResumed}
@@ -86,7 +86,7 @@ opened-left line es first unarmed most = opened-behind line es first (drop (stop
 
 -- A LINE
 
-module _ (line : Line) (a b : View) (story told : List Event) (trace after : Trace) (grows : Grows story told) (arms : ArmsAlong line trace after grows.0) where
+module _ (line : Line) (a b : View) (story told : List Event) (trace after : Trace) (grows : GainsEvents story told) (arms : ArmsAlong line trace after grows.0) where
   line-armed : (answer : Option DiskErr) → (h : CountsMore line a b answer None story told) → (first : List (ℕ × ℕ)) → armed_by_lines first trace ≡ Some a.armed →
       armed_by_lines first after ≡ Some (a.armed ++ armed_in line h.more)
   line-armed answer h first is =
@@ -137,13 +137,13 @@ module _ (why : Why) (b c : View) (answer : Option DiskErr) (mid told : List Eve
           come_as (stops_of why + (stops_in answer + stopped_in f.behind)) (stopped_in h.more) stops c.armed (omega (arith, none, is))
           (come_on (stops_of why) (stops_in answer + stopped_in f.behind) stops b.armed c.armed came (h.stops some (stopped_in f.behind) is))
 
-  fall-armed : (line : Line) (grows : Grows mid told) → stops_in answer ≡ 0 → HaveCome (stops_of why) stops b.armed → (answer ≡ Some disk.Memory → ⊥) →
+  fall-armed : (line : Line) (grows : GainsEvents mid told) → stops_in answer ≡ 0 → HaveCome (stops_of why) stops b.armed → (answer ≡ Some disk.Memory → ⊥) →
       armed_along line grows.0 (Some stops) ≡ Some c.armed
   fall-armed line grows none came some =
       ap (λ es. armed_along line es (Some stops)) (same-more mid grows.0 h.more (sym grows.1 ∙ h.grows)) ∙ opened-behind line h.more stops c.armed h.unarmed (fall-come none came some)
 
   -- also where memory runs out there are as many as come
-  fall-left : (line : Line) (grows : Grows mid told) → HaveCome (stops_of why) stops b.armed → armed_along line grows.0 (Some stops) ≡ Some (drop (stopped_in h.more) stops)
+  fall-left : (line : Line) (grows : GainsEvents mid told) → HaveCome (stops_of why) stops b.armed → armed_along line grows.0 (Some stops) ≡ Some (drop (stopped_in h.more) stops)
   fall-left line grows came =
       ap (λ es. armed_along line es (Some stops)) (same-more mid grows.0 h.more (sym grows.1 ∙ h.grows))
       ∙ opened-left line h.more stops h.unarmed (let all = come_counted (stops_of why) stops b.armed came in let most = h.most in omega arith)
@@ -161,7 +161,7 @@ module _ (a b : View) (status : Status) (story told : List Event) (h : CountsOpe
       let left = opened-left line h.more a.armed h.unarmed h.most in
       stops-are status (drop (stopped_in h.more) a.armed) b.armed left (λ some. same-some (sym (opened-behind line h.more a.armed b.armed h.unarmed (open-come some)) ∙ left))
 
-  pub opening-ends : (trace after : Trace) (grows : Grows story told) → ArmsAlong (line_of trace) trace after grows.0 → EndsArmed status trace after a.armed b.armed
+  pub opening-ends : (trace after : Trace) (grows : GainsEvents story told) → ArmsAlong (line_of trace) trace after grows.0 → EndsArmed status trace after a.armed b.armed
   opening-ends trace after grows along = λ first is.
       subst (λ (left : Option (List (ℕ × ℕ))). Stops status left b.armed)
       (sym (along first ∙ ap (armed_along (line_of trace) grows.0) is ∙ ap (λ es. armed_along (line_of trace) es (Some a.armed)) (same-more story grows.0 h.more (sym grows.1 ∙ h.grows))))
@@ -171,7 +171,7 @@ module _ (a b : View) (status : Status) (story told : List Event) (h : CountsOpe
 done-stays : (trace after : Trace) (old new : List (ℕ × ℕ)) → EndsArmed Done trace after old new → StaysArmed trace after old new
 done-stays trace after old new ends = λ first is. let x = ends first is in x.behind ∙ ap (λ l. Some l) (sym x.are)
 
-pub opening-stays : (a b : View) (story told : List Event) → CountsOpening a b None story told → (trace after : Trace) (grows : Grows story told) → ArmsAlong (line_of trace) trace after grows.0 →
+pub opening-stays : (a b : View) (story told : List Event) → CountsOpening a b None story told → (trace after : Trace) (grows : GainsEvents story told) → ArmsAlong (line_of trace) trace after grows.0 →
     StaysArmed trace after a.armed b.armed
 opening-stays a b story told h trace after grows along = done-stays trace after a.armed b.armed (opening-ends a b Done story told h trace after grows along)
 
@@ -186,7 +186,7 @@ not-short : (why : Why) → disk_err_of (halt_of why) ≡ disk.Memory → ⊥
 not-short why.Stopped m = cc
 not-short why.Fault m = cc
 
-module _ (trace broken : Trace) (mid told : List Event) (a b c : View) (after : Trace) (grows : Grows mid told) (along : ArmsAlong (line_of broken) broken after grows.0) where
+module _ (trace broken : Trace) (mid told : List Event) (a b c : View) (after : Trace) (grows : GainsEvents mid told) (along : ArmsAlong (line_of broken) broken after grows.0) where
   -- it falls, and goes on, or ends in the opening behind that
   ends-fallen : (why : Why) → HaltsArmed (disk_err_of (halt_of why)) trace broken a.armed b.armed → (status : Status) → CountsFall why b c (answer_of status) mid told →
       EndsArmed status trace after a.armed c.armed

@@ -68,7 +68,7 @@ often-down : (start : Start) (times : ℕ) → phase (fallen_often start times) 
 often-down start zero = refl
 often-down start (suc times) = refl
 
-pub often-asked : (start : Start) (times : ℕ) → trace_words.lines_of (fallen_often start times) ≡ []
+pub often-asked : (start : Start) (times : ℕ) → trace_words.lines_asked (fallen_often start times) ≡ []
 often-asked start zero = refl
 often-asked start (suc times) = often-asked start times
 
@@ -120,9 +120,9 @@ no-line-asked : (xs : List Asked) (x : Asked) → xs ++ x ∷ [] ≡ [] → ⊥
 no-line-asked [] x e = cc
 no-line-asked (y ∷ xs) x e = cc
 
-pub unasked-before : (trace : Trace) → trace_words.lines_of trace ≡ [] → story_before_line trace ≡ []
+pub unasked-before : (trace : Trace) → trace_words.lines_asked trace ≡ [] → story_before_line trace ≡ []
 unasked-before (from k) none = refl
-unasked-before (trace asks asked) none = absurd (no-line-asked (trace_words.lines_of trace) asked none)
+unasked-before (trace asks asked) none = absurd (no-line-asked (trace_words.lines_asked trace) asked none)
 unasked-before (trace turns b) none = unasked-before trace none
 unasked-before (trace says e) none = unasked-before trace none
 
@@ -162,7 +162,7 @@ early-written (stop.NumbersSpent boot decisions) before held text g = g
 
 -- so it is a run of the script
 pub early-run : (s : Stop) → IsEarly s → (flies : Option Flight) (start : Start) (trace : Trace) (story : List Event) (script rest before held : Option (List ℕ)) → Tells start trace story →
-    trace_words.lines_of trace ≡ [] → MayLeave (leave_of (status_of s)) trace → IsFlightAt (status_of s) trace flies → Each OpensUnspent trace → GainsAtEnd s before (text_under trace story) held →
+    trace_words.lines_asked trace ≡ [] → MayLeave (leave_of (status_of s)) trace → IsFlightAt (status_of s) trace flies → Each OpensUnspent trace → GainsAtEnd s before (text_under trace story) held →
     (run : IsRun start (status_of s) flies script rest before story held) × (run.played.trace ≡ trace)
 early-run s early flies start trace story script rest before held tells unasked leaves flown unspent gained = (
   record {
@@ -190,7 +190,7 @@ early-between stop.ScriptTooLong (inr e) is = cc
 early-between s early is = cc
 
 pub early-ends : {E : Type 0} (sees : E → Option Event → State → Type 0) (lies : ℕ → Point → Type 0) (left : Option Numbers → ℕ → Point → Type 0) (fills : ToWrite → ℕ → Type 0) (flies : Option Flight) (s : Stop) → IsEarly s → (start : Start) (trace : Trace) (e : E) (story : List Event)
-    (script rest before held : Option (List ℕ)) → LeavesAt lies left fills flies (status_of s) start trace story → trace_words.lines_of trace ≡ [] → GainsAtEnd s before (text_under trace story) held →
+    (script rest before held : Option (List ℕ)) → LeavesAt lies left fills flies (status_of s) start trace story → trace_words.lines_asked trace ≡ [] → GainsAtEnd s before (text_under trace story) held →
     (first armed : List (ℕ × ℕ)) → Stops (status_of s) (armed_by_lines first trace) armed → EndsServing sees lies left fills flies start (status_of s) script rest before e story held first armed
 early-ends sees lies left fills flies s early start trace e story script rest before held x unasked gained first armed stops =
     let r = early-run s early flies start trace story script rest before held x.tells unasked x.leaves x.flies x.fits.unspent gained in
@@ -287,7 +287,7 @@ module _ {E : Type 0} (sees : E → Option Event → State → Type 0) (lies : �
     (forgets : (numbers : Numbers) (room : ℕ) (p : Point) → left (Some numbers) room p → left None room p)
     (schema : List TableDef) (serving : (p : Point) → IsSoundPoint p → sees new None p.state → schema ≡ schema_of p.state.units.kept)
     (lying : (room : ℕ) (p : Point) → IsSoundPoint p → lies room p → schema ≡ schema_of p.state.units.kept)
-    (story told : List Event) (before held : Option (List ℕ)) (start : Start) (trace : Trace) (unasked : trace_words.lines_of trace ≡ []) (a b : View) where
+    (story told : List Event) (before held : Option (List ℕ)) (start : Start) (trace : Trace) (unasked : trace_words.lines_asked trace ≡ []) (a b : View) where
   abbrev Ends : Stop → Type 0
   Ends s = (script rest : Option (List ℕ)) (first : List (ℕ × ℕ)) → armed_by_lines first trace ≡ Some a.armed →
       EndsServing sees lies left fills flies start (status_of s) script rest before new told held first b.armed

@@ -3,7 +3,7 @@ use Rattle.law_states.specs.Points.{Point}
 use Rattle.law_states.specs.States.{State}
 use Rattle.salt_ast.specs.declared.lines.Line.{Line}
 use Rattle.salt_disk.specs.Disks.{View}
-use Rattle.salt_model.specs.Trace.{Asked, Start, Trace, line_asked, lines_of}
+use Rattle.salt_model.specs.Trace.{Asked, Start, Trace, line_asked, lines_asked}
 use Rattle.salt_model.specs.declared.events.Event.{Event}
 use Rattle.salt_model.specs.declared.events.Flight.{Flight}
 use Rattle.salt_promise.specs.declared.status.Status.TheVariants.{Done}
@@ -16,7 +16,7 @@ use Rattle.salt_loop.specs.declared.stop.Stop.TheVariants as stop
 use Rattle.salt_loop.specs.declared.stop.Stop.{Stop}
 use Rattle.salt_driver.specs.Counting.{CountsMore}
 use Rattle.salt_driver.specs.Reopening.{Reopens}
-use Rattle.salt_driver.specs.Serving.{Breaks, Goes, Grows, Serves}
+use Rattle.salt_driver.specs.Serving.{Breaks, Goes, GainsEvents, Serves}
 use Rattle.salt_driver.specs.Standing.{IsIdleAt, IsSoundPoint}
 use Rattle.salt_storage.specs.Writing.{ToWrite}
 use Rattle.salt_storage.specs.Answers.{disk_err, disk_err_of}
@@ -27,10 +27,10 @@ use Rattle.salt_storage.specs.declared.found.Numbers.{Numbers}
 use Rattle.std.specs.Prelude.{Err, List, None, Ok, Option, Result, Some, [], refl, ℕ, ◌++◌, ◌∷◌, ◌≡◌, ◌⊎◌}
 use Rattle.std.specs.Result.{IfErr, OnOk}
 
-grown : (story mid told : List Event) → (a : Grows story mid) → (b : Grows mid told) → told ≡ story ++ (a.0 ++ b.0)
+grown : (story mid told : List Event) → (a : GainsEvents story mid) → (b : GainsEvents mid told) → told ≡ story ++ (a.0 ++ b.0)
 grown story mid told a b = b.1 ∙ ap (λ es. es ++ b.0) a.1 ∙ append_assoc story a.0 b.0
 
-asks-still : (text : Option (List ℕ)) (trace mid after : Trace) → lines_of after ≡ lines_of mid → AsksMore text trace mid → AsksMore text trace after
+asks-still : (text : Option (List ℕ)) (trace mid after : Trace) → lines_asked after ≡ lines_asked mid → AsksMore text trace mid → AsksMore text trace after
 asks-still text trace mid after same a = (a.0, a.1, same ∙ a.2)
 
 pub continues-by : {E : Type 0} (sees : E → Option Event → State → Type 0) (start : Start) (trace : Trace) (text : Option (List ℕ)) (asked : Asked) (story : List Event) (e : E) (told : List Event) →
@@ -54,7 +54,7 @@ breaks-by lies left fills flies halt start trace text asked story told a c asks 
   armed = line-halts (line_asked asked) a c story told trace b.after b.grows b.armed (disk_err_of halt) counts;
 }
   where
-    by : (lines_of b.after ≡ lines_of trace ++ asked ∷ []) ⊎ ((halt ≡ Memory) × (b.after ≡ trace)) → AsksMore text trace b.after ⊎ ((halt ≡ Memory) × (b.after ≡ trace))
+    by : (lines_asked b.after ≡ lines_asked trace ++ asked ∷ []) ⊎ ((halt ≡ Memory) × (b.after ≡ trace)) → AsksMore text trace b.after ⊎ ((halt ≡ Memory) × (b.after ≡ trace))
     by (inl more) = inl (asked, asks, more)
     by (inr m) = inr m
 

@@ -31,7 +31,7 @@ use Rattle.salt_loop.specs.Serving.{AsksMore, EndsTelling, GainsAtEnd, IsAt, IsS
 use Rattle.salt_loop.specs.Stopping.{IsOfLine, outcome, status_of, stop_of}
 use Rattle.salt_loop.specs.declared.stop.Stop.TheVariants as stop
 use Rattle.salt_loop.specs.declared.stop.Stop.{Stop}
-use Rattle.salt_driver.specs.Serving.{Grows}
+use Rattle.salt_driver.specs.Serving.{GainsEvents}
 use Rattle.salt_driver.specs.Standing.{IsIdleAt, IsSoundPoint}
 use Rattle.salt_storage.specs.Writing.{ToWrite}
 use Rattle.std.proofs.Common.{ap, append-nil, append_assoc, inl, inr, subst, sym, ◌∙◌}
@@ -86,7 +86,7 @@ pub record HasTaken (text : Option (List ℕ)) (before after : Option (List ℕ)
 
 -- a run that leaves there, with its lines and its text
 pub ends-at : {E : Type 0} (sees : E → Option Event → State → Type 0) (lies : ℕ → Point → Type 0) (left : Option Numbers → ℕ → Point → Type 0) (fills : ToWrite → ℕ → Type 0) (flies : Option Flight) (status : Status) (start : Start) (trace : Trace) (e : E) (story : List Event)
-    (texts : List (List ℕ)) (script rest before held : Option (List ℕ)) → LeavesAt lies left fills flies status start trace story → AskInOrder texts (trace_words.lines_of trace) →
+    (texts : List (List ℕ)) (script rest before held : Option (List ℕ)) → LeavesAt lies left fills flies status start trace story → AskInOrder texts (trace_words.lines_asked trace) →
     AreLinesOf status script rest texts → IsTold status before trace held → (first armed : List (ℕ × ℕ)) → Stops status (armed_by_lines first trace) armed →
     ServesBetween sees start status e story trace → EndsServing sees lies left fills flies start status script rest before e story held first armed
 ends-at sees lies left fills flies status start trace e story texts script rest before held x reads lines told first armed stops serves = (
@@ -116,13 +116,13 @@ module _ {E : Type 0} (old_sees : E → Option Event → State → Type 0) (star
     here : IsAt script reading_after (rest_of reading_after left_after) (serving.texts ++ taken.line ∷ [])
     here = next-place reading reading_after left (rest_of reading_after left_after) serving.texts taken.line serving.of taken.takes script serving.place
 
-    reads-here : (after : Trace) → AsksMore text serving.trace after → AskInOrder (serving.texts ++ taken.line ∷ []) (trace_words.lines_of after)
+    reads-here : (after : Trace) → AsksMore text serving.trace after → AskInOrder (serving.texts ++ taken.line ∷ []) (trace_words.lines_asked after)
     reads-here after asks =
         subst (AskInOrder (serving.texts ++ taken.line ∷ [])) (sym asks.2)
-        (ask-one serving.texts (trace_words.lines_of serving.trace) taken.line asks.0 serving.reads (taken.asks asks.0 asks.1))
+        (ask-one serving.texts (trace_words.lines_asked serving.trace) taken.line asks.0 serving.reads (taken.asks asks.0 asks.1))
 
     -- the text of a trace that has gone on by the line
-    grown : (after : Trace) → AsksMore text serving.trace after → Tells start after told → Grows story told →
+    grown : (after : Trace) → AsksMore text serving.trace after → Tells start after told → GainsEvents story told →
         (text_under after story ≡ text_under serving.trace story) × (text_under after told ≡ text_under serving.trace story ++ text_under after (drop (length story) told))
     grown after asks tells grows = grown-text start serving.trace after asks.0 story told serving.serves.fits.well serving.serves.tells tells asks.2 grows
 
@@ -166,7 +166,7 @@ module _ {E : Type 0} (old_sees : E → Option Event → State → Type 0) (star
           EndsServing sees lies gone fills flies start Memory script rest before new told held_after first armed_after
       unasked-ends x same =
           let after = x.ends.after in
-          ends-at sees lies gone fills flies Memory start after new told serving.texts script rest before held_after x.ends.ends (subst (λ t. AskInOrder serving.texts (trace_words.lines_of t)) (sym same) serving.reads)
+          ends-at sees lies gone fills flies Memory start after new told serving.texts script rest before held_after x.ends.ends (subst (λ t. AskInOrder serving.texts (trace_words.lines_asked t)) (sym same) serving.reads)
           (first-place stop.Memory tt script reading (rest_of reading left) rest serving.texts serving.place over serving.within)
           (subst (λ t. IsTold Memory before t held_after) (sym same) (subst (IsTold Memory before serving.trace) (sym x.written) (
           gains-all-from before (text_under serving.trace (story_before_line serving.trace)) (text_under serving.trace (story_of serving.trace)) held

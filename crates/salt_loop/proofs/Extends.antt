@@ -1,12 +1,12 @@
 -- A played trace is told by its lines and its story: where another one has more of both, it goes on from this one.
 use Rattle.law_states.proofs.PointsGoOn.{story-on}
-use Rattle.law_states.specs.Points.{Ask, TraceStep, Say, Turn, moved, told_by, trace_on}
+use Rattle.law_states.specs.Points.{Ask, TraceStep, Say, Turn, stepped, told_by, trace_on}
 use Rattle.salt_model.specs.Next.{next}
 use Rattle.salt_model.specs.Phases.{Phase, Serving, phase}
 use Rattle.salt_model.specs.Played.{IsPlayed}
 use Rattle.salt_model.specs.Segments.{IsComplete, May}
 use Rattle.salt_model.specs.Stops.{MayFall, MayOpen, is_device_next}
-use Rattle.salt_model.specs.Trace.{Asked, Start, Trace, from, lines_of, start_of, story_of, ◌asks◌, ◌says◌, ◌turns◌}
+use Rattle.salt_model.specs.Trace.{Asked, Start, Trace, from, lines_asked, start_of, story_of, ◌asks◌, ◌says◌, ◌turns◌}
 use Rattle.salt_model.specs.Turns.{next_turn}
 use Rattle.salt_model.specs.declared.events.Event.{Event}
 use Rattle.salt_model.specs.declared.events.Event.TheVariants.{Down, Opened}
@@ -26,7 +26,7 @@ moves_of (trace says e) = moves_of trace ++ Say e ∷ []
 
 on-both : (trace : Trace) (ms ns : List TraceStep) → trace_on trace (ms ++ ns) ≡ trace_on (trace_on trace ms) ns
 on-both trace [] ns = refl
-on-both trace (m ∷ ms) ns = on-both (moved trace m) ms ns
+on-both trace (m ∷ ms) ns = on-both (stepped trace m) ms ns
 
 by-moves : (trace : Trace) → trace ≡ trace_on (from (start_of trace)) (moves_of trace)
 by-moves (from k) = refl
@@ -48,9 +48,9 @@ nil-behind : (xs : List Asked) → xs ++ [] ≡ xs
 nil-behind [] = refl
 nil-behind (x ∷ xs) = ap (λ l. x ∷ l) (nil-behind xs)
 
-lines-on : (ms : List TraceStep) (trace : Trace) → lines_of (trace_on trace ms) ≡ lines_of trace ++ asked_in ms
-lines-on [] trace = sym (nil-behind (lines_of trace))
-lines-on (Ask asked ∷ ms) trace = lines-on ms (trace asks asked) ∙ append-one (lines_of trace) (asked_in ms) asked
+lines-on : (ms : List TraceStep) (trace : Trace) → lines_asked (trace_on trace ms) ≡ lines_asked trace ++ asked_in ms
+lines-on [] trace = sym (nil-behind (lines_asked trace))
+lines-on (Ask asked ∷ ms) trace = lines-on ms (trace asks asked) ∙ append-one (lines_asked trace) (asked_in ms) asked
 lines-on (Turn b ∷ ms) trace = lines-on ms (trace turns b)
 lines-on (Say e ∷ ms) trace = lines-on ms (trace says e)
 
@@ -145,7 +145,7 @@ goes-on trace (Say e ∷ ms) (Turn b ∷ ns) asked more p q lines story =
 
 -- the other trace is this one with more moves
 pub extends : (trace after : Trace) (asked : Asked) (more : List Event) → start_of after ≡ start_of trace → IsPlayed trace → IsPlayed after →
-    lines_of after ≡ lines_of trace ++ asked ∷ [] → story_of after ≡ story_of trace ++ more → (rest : List TraceStep) × (after ≡ trace_on trace rest)
+    lines_asked after ≡ lines_asked trace ++ asked ∷ [] → story_of after ≡ story_of trace ++ more → (rest : List TraceStep) × (after ≡ trace_on trace rest)
 extends trace after asked more start p q lines story = (g.0, there)
   where
     k : Start
@@ -164,7 +164,7 @@ extends trace after asked more start p q lines story = (g.0, there)
     other = by-moves after ∙ ap (λ s. trace_on (from s) ns) start
 
     same-lines : asked_in ns ≡ asked_in ms ++ asked ∷ []
-    same-lines = sym (lines-on ns (from k)) ∙ ap lines_of (sym other) ∙ lines ∙ ap (λ ls. ls ++ asked ∷ []) (ap lines_of one ∙ lines-on ms (from k))
+    same-lines = sym (lines-on ns (from k)) ∙ ap lines_asked (sym other) ∙ lines ∙ ap (λ ls. ls ++ asked ∷ []) (ap lines_asked one ∙ lines-on ms (from k))
 
     same-story : told_by ns ≡ told_by ms ++ more
     same-story = sym (story-on ns (from k)) ∙ ap story_of (sym other) ∙ story ∙ ap (λ es. es ++ more) (ap story_of one ∙ story-on ms (from k))
@@ -191,17 +191,17 @@ same-line (Ask a ∷ ms) trace h = absurd (not-empty a (asked_in ms) (sym h))
 same-line (Turn b ∷ ms) trace h = same-line ms (trace turns b) h
 same-line (Say e ∷ ms) trace h = same-line ms (trace says e) h
 
-before-asked : (ms : List TraceStep) (trace : Trace) (asked : Asked) → IsComplete trace → IsPlayed (trace_on trace ms) → lines_of (trace_on trace ms) ≡ lines_of trace ++ asked ∷ [] →
+before-asked : (ms : List TraceStep) (trace : Trace) (asked : Asked) → IsComplete trace → IsPlayed (trace_on trace ms) → lines_asked (trace_on trace ms) ≡ lines_asked trace ++ asked ∷ [] →
     story_before_line (trace_on trace ms) ≡ story_of trace
-before-asked [] trace asked c p lines = absurd (asked-none (lines_of trace) asked lines)
+before-asked [] trace asked c p lines = absurd (asked-none (lines_asked trace) asked lines)
 before-asked (Say e ∷ ms) trace asked c p lines = absurd (none-stands trace e c.0 c.1 (played-before ms (trace says e) p).1)
 before-asked (Turn b ∷ ms) trace asked c p lines = absurd (differ (next_turn trace) b c.2 (played-before ms (trace turns b) p).3)
 before-asked (Ask a ∷ ms) trace asked c p lines =
     same-line ms (trace asks a)
-    (none-behind (lines_of trace) (asked_in ms) a asked (sym (append-one (lines_of trace) (asked_in ms) a) ∙ sym (lines-on ms (trace asks a)) ∙ lines))
+    (none-behind (lines_asked trace) (asked_in ms) a asked (sym (append-one (lines_asked trace) (asked_in ms) a) ∙ sym (lines-on ms (trace asks a)) ∙ lines))
 
 pub before-line : (trace after : Trace) (asked : Asked) (more : List Event) → IsComplete trace → start_of after ≡ start_of trace → IsPlayed trace → IsPlayed after →
-    lines_of after ≡ lines_of trace ++ asked ∷ [] → story_of after ≡ story_of trace ++ more → story_before_line after ≡ story_of trace
+    lines_asked after ≡ lines_asked trace ++ asked ∷ [] → story_of after ≡ story_of trace ++ more → story_before_line after ≡ story_of trace
 before-line trace after asked more c start p q lines story =
     let x = extends trace after asked more start p q lines story in
-    ap story_before_line x.1 ∙ before-asked x.0 trace asked c (subst IsPlayed x.1 q) (sym (ap lines_of x.1) ∙ lines)
+    ap story_before_line x.1 ∙ before-asked x.0 trace asked c (subst IsPlayed x.1 q) (sym (ap lines_asked x.1) ∙ lines)

@@ -7,7 +7,7 @@ use Rattle.salt_disk.specs.Disks.{View}
 use Rattle.salt_promise.specs.Workload.{account_def, balance, behind, behind_eighth, behind_fiftieth, call_lines, calls, closing, deposit, load_lines, opening, turn}
 use Rattle.salt_model.specs.Arming.{armed_by_lines}
 use Rattle.salt_model.specs.Printable.{IsSpelledProgram, IsSpelledTable}
-use Rattle.salt_model.specs.Trace.{Asked, Start, Trace, Tree, lines_of}
+use Rattle.salt_model.specs.Trace.{Asked, Start, Trace, Tree, lines_asked}
 use Rattle.salt_model.specs.Words.{Every}
 use Rattle.salt_model.specs.declared.events.Event.{Event}
 use Rattle.salt_model.specs.declared.events.Flight.{Flight}
@@ -151,7 +151,7 @@ early-load-lines stop.WriteFault of n lines none = absurd of
 early-load-lines stop.ScriptTooLong of n lines none = absurd of
 
 loads-at : (lies : ℕ → Point → Type 0) (left : Option Numbers → ℕ → Point → Type 0) (fills : ToWrite → ℕ → Type 0) (flies : Option Flight) (ends : Status) (start : Start) (trace : Trace) (story : List Event) (n done : ℕ) →
-    LeavesAt lies left fills flies ends start trace story → AreLoadLines ends n (lines_of trace) → ((ends ≡ status.Memory → ⊥) → length (lines_of trace) ≡ done) →
+    LeavesAt lies left fills flies ends start trace story → AreLoadLines ends n (lines_asked trace) → ((ends ≡ status.Memory → ⊥) → length (lines_asked trace) ≡ done) →
     (first armed : List (ℕ × ℕ)) → Stops ends (armed_by_lines first trace) armed → EndsLoading lies left fills flies start ends n done story first armed
 loads-at lies left fills flies ends start trace story n done x lines count first armed stops =
     (record { trace = trace; tells = x.tells; lines = lines; count = count; leaves = x.leaves; flies = x.flies; unspent = x.fits.unspent }, x.ends, stops)
@@ -171,20 +171,20 @@ module _ {E : Type 0} (old_sees : E → Option Event → State → Type 0) (star
     pub short-loading : (done : ℕ) → EndsLoading lies left fills flies start status.Memory n done story first armed
     short-loading done =
         loads-at lies left fills flies status.Memory start loading.trace story n done (short-leaves old_sees lies left fills flies old idle flown leaves start loading.trace story loading.serves)
-        (front-lines n i (lines_of loading.trace) loading.lines) (λ some. absurd (some refl)) first armed (stops-are status.Memory armed armed loading.arms (λ some. refl))
+        (front-lines n i (lines_asked loading.trace) loading.lines) (λ some. absurd (some refl)) first armed (stops-are status.Memory armed armed loading.arms (λ some. refl))
 
     -- all lines are done
     pub all-loaded : length (load_lines n) ≤ i → (done : ℕ) → done ≡ length (load_lines n) → EndsLoading lies left fills flies start status.Done n done story first armed
     all-loaded past done all =
         let whole = take_all i (load_lines n) past in
-        let here : lines_of loading.trace ≡ map Tree (load_lines n) = loading.lines ∙ ap (map Tree) whole in
+        let here : lines_asked loading.trace ≡ map Tree (load_lines n) = loading.lines ∙ ap (map Tree) whole in
         loads-at lies left fills flies status.Done start loading.trace story n done (done-leaves old_sees lies left fills flies old idle flown leaves start loading.trace story loading.serves)
         here
         (λ some. ap length (here ∙ sym (ap (map Tree) (take_all (length (load_lines n)) (load_lines n) (omega arith)))) ∙ length-asked (load_lines n) (length (load_lines n)) (omega arith) ∙ sym all)
         first armed (stops-are status.Done armed armed loading.arms (λ some. refl))
 
   module _ (line : Line) (within : i < length (load_lines n)) (is : Some line ≡ slice_get (load_lines n) i) where
-    asked-here : (after : Trace) → lines_of after ≡ lines_of loading.trace ++ Tree line ∷ [] → lines_of after ≡ map Tree (take (i + 1) (load_lines n))
+    asked-here : (after : Trace) → lines_asked after ≡ lines_asked loading.trace ++ Tree line ∷ [] → lines_asked after ≡ map Tree (take (i + 1) (load_lines n))
     asked-here after lines = lines ∙ ap (λ ls. ls ++ Tree line ∷ []) loading.lines ∙ sym (asked-more n i line within is)
 
     pub line-loaded : {F : Type 0} (sees : F → Option Event → State → Type 0) (new : F) (told : List Event) (armed_after : List (ℕ × ℕ)) → (g : Goes sees start loading.trace (Tree line) story new told) →
@@ -197,23 +197,23 @@ module _ {E : Type 0} (old_sees : E → Option Event → State → Type 0) (star
           IsLoading sees start n (i + 1) new told first armed_after
       loaded-behind sees new some r stays = record { trace = r.after; arms = stays first loading.arms; serves = r.serves; lines = r.lines ∙ by b.asks }
         where
-          by : (lines_of b.after ≡ lines_of loading.trace ++ Tree line ∷ []) ⊎ ((halt ≡ Memory) × (b.after ≡ loading.trace)) → lines_of b.after ≡ map Tree (take (i + 1) (load_lines n))
+          by : (lines_asked b.after ≡ lines_asked loading.trace ++ Tree line ∷ []) ⊎ ((halt ≡ Memory) × (b.after ≡ loading.trace)) → lines_asked b.after ≡ map Tree (take (i + 1) (load_lines n))
           by (inl more) = asked-here b.after more
           by (inr m) = absurd (some m.0)
 
       pub ends-loading : (lies : ℕ → Point → Type 0) (left : Option Numbers → ℕ → Point → Type 0) (fills : ToWrite → ℕ → Type 0) (flies : Option Flight) (s : Stop) → IsLaterStop s → (x : EndsBehind lies left fills flies halt s start b.after mid told) →
           EndsArmed (status_of s) loading.trace x.after armed armed_after → EndsLoading lies left fills flies start (status_of s) n (i + 1) told first armed_after
       ends-loading lies left fills flies s later x stops =
-          loads-at lies left fills flies (status_of s) start x.after told n (i + 1) x.ends (lines-behind s later n (lines_of x.after) (subst (λ ls. IsFrontOf ls (asked_by_load n)) (sym x.lines) (by b.asks)))
+          loads-at lies left fills flies (status_of s) start x.after told n (i + 1) x.ends (lines-behind s later n (lines_asked x.after) (subst (λ ls. IsFrontOf ls (asked_by_load n)) (sym x.lines) (by b.asks)))
           (λ some. ap length x.lines ∙ many some b.asks) first armed_after (stops first loading.arms)
         where
-          many : (status_of s ≡ status.Memory → ⊥) → (lines_of b.after ≡ lines_of loading.trace ++ Tree line ∷ []) ⊎ ((halt ≡ Memory) × (b.after ≡ loading.trace)) → length (lines_of b.after) ≡ i + 1
+          many : (status_of s ≡ status.Memory → ⊥) → (lines_asked b.after ≡ lines_asked loading.trace ++ Tree line ∷ []) ⊎ ((halt ≡ Memory) × (b.after ≡ loading.trace)) → length (lines_asked b.after) ≡ i + 1
           many some (inl more) = ap length (asked-here b.after more) ∙ length-asked (load_lines n) (i + 1) (omega (arith, within))
           many some (inr m) = absurd (some (ap status_of (x.short m.0).0))
 
-          by : (lines_of b.after ≡ lines_of loading.trace ++ Tree line ∷ []) ⊎ ((halt ≡ Memory) × (b.after ≡ loading.trace)) → IsFrontOf (lines_of b.after) (asked_by_load n)
-          by (inl more) = front-lines n (i + 1) (lines_of b.after) (asked-here b.after more)
-          by (inr m) = front-lines n i (lines_of b.after) (ap lines_of m.1 ∙ loading.lines)
+          by : (lines_asked b.after ≡ lines_asked loading.trace ++ Tree line ∷ []) ⊎ ((halt ≡ Memory) × (b.after ≡ loading.trace)) → IsFrontOf (lines_asked b.after) (asked_by_load n)
+          by (inl more) = front-lines n (i + 1) (lines_asked b.after) (asked-here b.after more)
+          by (inr m) = front-lines n i (lines_asked b.after) (ap lines_asked m.1 ∙ loading.lines)
 
 -- the opening
 
@@ -221,17 +221,17 @@ take-none : (xs : List Line) → take 0 xs ≡ []
 take-none [] = refl
 take-none (x ∷ xs) = refl
 
-pub loading-begun : {E : Type 0} (sees : E → Option Event → State → Type 0) (n : ℕ) (start : Start) (trace : Trace) (e : E) (story told : List Event) (a b : View) → lines_of trace ≡ [] →
+pub loading-begun : {E : Type 0} (sees : E → Option Event → State → Type 0) (n : ℕ) (start : Start) (trace : Trace) (e : E) (story told : List Event) (a b : View) → lines_asked trace ≡ [] →
     CountsOpening a b None story told → Reopens sees start trace story e told → (first : List (ℕ × ℕ)) → armed_by_lines first trace ≡ Some a.armed → IsLoading sees start n 0 e told first b.armed
 loading-begun sees n start trace e story told a b unasked counts r first is =
     record { trace = r.after; arms = opening-stays a b story told counts trace r.after r.grows r.along.armed first is; serves = r.serves; lines = r.lines ∙ unasked ∙ sym (ap (map Tree) (take-none (load_lines n))) }
 
 pub not-begun : (lies : ℕ → Point → Type 0) (left : Option Numbers → ℕ → Point → Type 0) (fills : ToWrite → ℕ → Type 0) (flies : Option Flight) (n : ℕ) (start : Start) (trace : Trace) (story told : List Event) (a b : View) (e : Stop) → IsLaterStop e →
-    lines_of trace ≡ [] → CountsOpening a b (answer_of (status_of e)) story told → EndsOpening lies left fills flies e start trace story told →
+    lines_asked trace ≡ [] → CountsOpening a b (answer_of (status_of e)) story told → EndsOpening lies left fills flies e start trace story told →
     (first : List (ℕ × ℕ)) → armed_by_lines first trace ≡ Some a.armed → EndsLoading lies left fills flies start (status_of e) n 0 told first b.armed
 not-begun lies left fills flies n start trace story told a b e later unasked counts x first is =
     let none = x.lines ∙ unasked in
-    loads-at lies left fills flies (status_of e) start x.after told n 0 x.ends (early-load-lines e (of-later e later) n (lines_of x.after) none) (λ some. ap length none)
+    loads-at lies left fills flies (status_of e) start x.after told n 0 x.ends (early-load-lines e (of-later e later) n (lines_asked x.after) none) (λ some. ap length none)
     first b.armed (opening-ends a b (status_of e) story told counts trace x.after x.grows x.along.armed first is)
 
 -- nothing was found
@@ -242,7 +242,7 @@ unfound-loaded reason n story u empty start =
     record {
       trace = fallen_often start u.0;
       tells = often-tells start story u;
-      lines = early-load-lines e (of-reason reason) n (lines_of (fallen_often start u.0)) asked;
+      lines = early-load-lines e (of-reason reason) n (lines_asked (fallen_often start u.0)) asked;
       count = λ some. ap length asked;
       leaves = unfound-leaves reason story u empty e (inl refl) start;
       flies = unfound-flies reason story u empty e (inl refl) start;

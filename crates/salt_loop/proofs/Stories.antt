@@ -5,11 +5,11 @@ use Rattle.salt_model.specs.After.{kept}
 use Rattle.salt_model.specs.EventTexts.{event_text, story_text}
 use Rattle.salt_model.specs.Kept.{WellKept, schema_of}
 use Rattle.salt_model.specs.Played.{IsPlayed, Tells}
-use Rattle.salt_model.specs.Trace.{Asked, Start, Trace, from, lines_of, start_of, story_of, ◌asks◌, ◌says◌, ◌turns◌}
+use Rattle.salt_model.specs.Trace.{Asked, Start, Trace, from, lines_asked, start_of, story_of, ◌asks◌, ◌says◌, ◌turns◌}
 use Rattle.salt_model.specs.declared.events.Event.{Event}
 use Rattle.salt_promise.specs.Doing.{IsFrontOf, story_before_line, text_under}
 use Rattle.salt_loop.proofs.Extends.{extends}
-use Rattle.salt_driver.specs.Serving.{Grows as HasGrown}
+use Rattle.salt_driver.specs.Serving.{GainsEvents as HasGrown}
 use Rattle.law_types.proofs.ShownWithin.{shown-within}
 use Rattle.law_types.proofs.Stays.{story-stays}
 use Rattle.law_types.proofs.WithinSchema.{schema-grows}
@@ -49,7 +49,7 @@ stays-on ms trace p w =
 
 -- the text of a trace that has gone on by a line: that of the story before, as it was, and that of the events added
 pub grown-text : (start : Start) (trace after : Trace) (asked : Asked) (story told : List Event) → WellKept start.kept → Tells start trace story → Tells start after told →
-    lines_of after ≡ lines_of trace ++ asked ∷ [] → HasGrown story told →
+    lines_asked after ≡ lines_asked trace ++ asked ∷ [] → HasGrown story told →
     (text_under after story ≡ text_under trace story) × (text_under after told ≡ text_under trace story ++ text_under after (drop (length story) told))
 grown-text start trace after asked story told well one other lines grows = (same, whole)
   where

@@ -6,7 +6,7 @@ use Rattle.salt_model.specs.Arming.{armed_by_lines}
 use Rattle.salt_model.specs.Ends.{MayLeave}
 use Rattle.salt_model.specs.Phases.{Fallen, downs, has_opened}
 use Rattle.salt_model.specs.Played.{Tells}
-use Rattle.salt_model.specs.Trace.{Start, Trace, lines_of}
+use Rattle.salt_model.specs.Trace.{Start, Trace, lines_asked}
 use Rattle.salt_model.specs.declared.events.Event.{Event}
 use Rattle.salt_model.specs.declared.events.Flight.{Flight}
 use Rattle.salt_promise.specs.Counting.{Stops}
@@ -18,7 +18,7 @@ use Rattle.salt_loop.specs.Stopping.{numbers_told, status_of, status_opening}
 use Rattle.salt_loop.specs.declared.stop.Stop.{Stop}
 use Rattle.salt_driver.specs.Opening.{AreSpentAt}
 use Rattle.salt_driver.specs.Along.{GoesAlong}
-use Rattle.salt_driver.specs.Serving.{Grows, IsFitting, Serves}
+use Rattle.salt_driver.specs.Serving.{GainsEvents, IsFitting, Serves}
 use Rattle.salt_driver.specs.Writing.{IsWrittenAt}
 use Rattle.salt_storage.specs.Writing.{OfBoot, ToWrite}
 use Rattle.salt_storage.specs.OpenErr.{OpenErr}
@@ -76,9 +76,9 @@ pub record LeavesAt (lies : ℕ → Point → Type 0) (left : Option Numbers →
 pub record EndsOpening (lies : ℕ → Point → Type 0) (left : Option Numbers → ℕ → Point → Type 0) (fills : ToWrite → ℕ → Type 0) (flight : Option Flight) (stop : Stop) (start : Start) (trace : Trace)
     (story told : List Event) : Type 0 where
   pub after : Trace
-  pub lines : lines_of after ≡ lines_of trace
+  pub lines : lines_asked after ≡ lines_asked trace
   pub ends : LeavesAt lies left fills flight (status_of stop) start after told
-  pub grows : Grows story told
+  pub grows : GainsEvents story told
   pub along : GoesAlong trace after grows.0
 
 -- the status is that of an opening that ends so, or the sink failed behind it

@@ -6,7 +6,7 @@ use Rattle.salt_model.specs.Arming.{armed_by_lines}
 use Rattle.salt_model.specs.Ends.{MayLeave}
 use Rattle.salt_model.specs.Everywhere.{Each}
 use Rattle.salt_model.specs.Played.{Tells}
-use Rattle.salt_model.specs.Trace.{Asked, Start, Trace, Tree, lines_of}
+use Rattle.salt_model.specs.Trace.{Asked, Start, Trace, Tree, lines_asked}
 use Rattle.salt_model.specs.declared.events.Event.{Event}
 use Rattle.salt_model.specs.declared.events.Flight.{Flight}
 use Rattle.salt_promise.specs.Counting.{Stops}
@@ -48,8 +48,8 @@ AreLoadLines ScriptTooLong calls lines = ⊥
 pub record IsPlayedLoad (start : Start) (status : Status) (told : Option Flight) (calls done : ℕ) (story : List Event) : Type 0 where
   pub trace : Trace
   pub tells : Tells start trace story
-  pub lines : AreLoadLines status calls (lines_of trace)
-  pub count : (status ≡ Memory → ⊥) → length (lines_of trace) ≡ done
+  pub lines : AreLoadLines status calls (lines_asked trace)
+  pub count : (status ≡ Memory → ⊥) → length (lines_asked trace) ≡ done
   pub leaves : MayLeave (leave_of status) trace
   pub flies : IsFlightAt status trace told
   pub unspent : Each OpensUnspent trace
@@ -64,4 +64,4 @@ pub record IsLoading {E : Type 0} (sees : E → Option Event → State → Type 
   pub trace : Trace
   pub arms : armed_by_lines first trace ≡ Some armed
   pub serves : Serves sees start e story trace
-  pub lines : lines_of trace ≡ map Tree (take done (load_lines calls))
+  pub lines : lines_asked trace ≡ map Tree (take done (load_lines calls))

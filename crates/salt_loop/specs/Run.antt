@@ -44,7 +44,7 @@ pub record IsPlayedRun (start : Start) (status : Status) (told : Option Flight) 
   pub trace : Trace
   pub texts : List (List ℕ)
   pub tells : Tells start trace story
-  pub reads : AskInOrder texts (trace_words.lines_of trace)
+  pub reads : AskInOrder texts (trace_words.lines_asked trace)
   pub lines : AreLinesOf status script left texts
   pub leaves : MayLeave (leave_of status) trace
   pub flies : IsFlightAt status trace told

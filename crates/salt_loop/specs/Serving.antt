@@ -24,7 +24,7 @@ use Rattle.salt_loop.specs.declared.stop.Stop.TheVariants.{Memory, WriteFault}
 use Rattle.salt_loop.specs.declared.stop.Stop.{Stop}
 use Rattle.law_decisions.specs.Spelled.{IsSpelledLine}
 use Rattle.salt_driver.specs.Along.{GoesAlong}
-use Rattle.salt_driver.specs.Serving.{Grows, Halts, IsDown, Serves}
+use Rattle.salt_driver.specs.Serving.{GainsEvents, Halts, IsDown, Serves}
 use Rattle.salt_storage.specs.Answers.{disk_err_of}
 use Rattle.salt_storage.specs.Writing.{ToWrite}
 use Rattle.salt_storage.specs.declared.halt.Halt.TheVariants as halting
@@ -57,7 +57,7 @@ pub record IsServing {E : Type 0} (sees : E → Option Event → State → Type 
   pub arms : armed_by_lines first trace ≡ Some armed
   pub texts : List (List ℕ)
   pub serves : Serves sees start e story trace
-  pub reads : AskInOrder texts (trace_words.lines_of trace)
+  pub reads : AskInOrder texts (trace_words.lines_asked trace)
   pub of : IsReadingOf reading left
   pub place : IsAt script reading (rest_of reading left) texts
   pub written : Gains before (text_under trace story) held
@@ -80,7 +80,7 @@ IsAskable line = IsSpelledLine line
 
 -- a trace has one line more, which asks what this text does
 abbrev pub AsksMore : Option (List ℕ) → Trace → Trace → Type 0
-AsksMore text trace after = (asked : Asked) × TextAsks text asked × (trace_words.lines_of after ≡ trace_words.lines_of trace ++ asked ∷ [])
+AsksMore text trace after = (asked : Asked) × TextAsks text asked × (trace_words.lines_asked after ≡ trace_words.lines_asked trace ++ asked ∷ [])
 
 -- A line was done: the trace goes on by its segment, or by a front of that, a fall and the opening behind it.
 pub record Continues {E : Type 0} (sees : E → Option Event → State → Type 0) (start : Start) (trace : Trace) (text : Option (List ℕ)) (story : List Event)
@@ -88,7 +88,7 @@ pub record Continues {E : Type 0} (sees : E → Option Event → State → Type 
   pub after : Trace
   pub asks : AsksMore text trace after
   pub serves : Serves sees start e told after
-  pub grows : Grows story told
+  pub grows : GainsEvents story told
   pub armed : StaysArmed trace after old new
 
 -- It is broken off in a line, or, for want of memory, before that was asked.
@@ -97,17 +97,17 @@ pub record BreaksIn (lies left : Point → Type 0) (fills : ToWrite → ℕ → 
   pub after : Trace
   pub asks : AsksMore text trace after ⊎ ((halt ≡ halting.Memory) × (after ≡ trace))
   pub halts : Halts lies left fills flight halt start told after
-  pub grows : Grows story told
+  pub grows : GainsEvents story told
   pub armed : HaltsArmed (disk_err_of halt) trace after old new
 
 -- a run that was broken off so ends, within the opening behind that or before it; for want of memory it goes no further
 pub record EndsBehind (lies : ℕ → Point → Type 0) (left : Option Numbers → ℕ → Point → Type 0) (fills : ToWrite → ℕ → Type 0) (flight : Option Flight) (halt : Halt) (stop : Stop) (start : Start)
     (trace : Trace) (story told : List Event) : Type 0 where
   pub after : Trace
-  pub lines : trace_words.lines_of after ≡ trace_words.lines_of trace
+  pub lines : trace_words.lines_asked after ≡ trace_words.lines_asked trace
   pub short : halt ≡ halting.Memory → (stop ≡ Memory) × (after ≡ trace)
   pub ends : LeavesAt lies left fills flight (status_of stop) start after told
-  pub grows : Grows story told
+  pub grows : GainsEvents story told
   pub along : GoesAlong trace after grows.0
 
 -- so a run ends in a line, or, for want of memory, before that was asked
@@ -116,7 +116,7 @@ pub record EndsIn (lies : ℕ → Point → Type 0) (left : Option Numbers → �
   pub after : Trace
   pub asks : AsksMore text trace after ⊎ ((stop ≡ Memory) × (after ≡ trace))
   pub ends : LeavesAt lies left fills flight (status_of stop) start after told
-  pub grows : Grows story told
+  pub grows : GainsEvents story told
   pub armed : EndsArmed (status_of stop) trace after old new
 
 -- the text of what a line has added, under the tables that are defined at the trace's end
@@ -150,13 +150,13 @@ pub record EndsTelling (lies : ℕ → Point → Type 0) (left : Option Numbers 
 -- a run is down, and was asked nothing yet
 pub record IsToBegin (lies : ℕ → Point → Type 0) (flight : Option Flight) (start : Start) (story : List Event) (trace : Trace) : Type 0 where
   pub down : IsDown lies flight start story trace
-  pub unasked : trace_words.lines_of trace ≡ []
+  pub unasked : trace_words.lines_asked trace ≡ []
 
 -- it has begun, and its opening is told
 pub record IsBegun {E : Type 0} (sees : E → Option Event → State → Type 0) (start : Start) (e : E) (story : List Event) (before held : Option (List ℕ)) (first armed : List (ℕ × ℕ)) : Type 0 where
   pub trace : Trace
   pub arms : armed_by_lines first trace ≡ Some armed
-  pub lines : trace_words.lines_of trace ≡ []
+  pub lines : trace_words.lines_asked trace ≡ []
   pub serves : Serves sees start e story trace
   pub written : Gains before (text_under trace story) held
 

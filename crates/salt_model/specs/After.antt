@@ -5,7 +5,7 @@ use Rattle.salt_ast.specs.declared.trees.Statement.{Statement}
 use Rattle.salt_model.specs.Kept.{Definition, Kept, OfProgram, OfTable, conts_branched, conts_committed, schema_of, vars_of_kind}
 use Rattle.salt_model.specs.Trace.{Trace, from, line_of, ◌asks◌, ◌says◌, ◌turns◌}
 use Rattle.salt_model.specs.Units.{done_of, kind_of}
-use Rattle.salt_model.specs.Statements.{Run, outcome_of, serial}
+use Rattle.salt_model.specs.Statements.{UnitRun, outcome_of, serial}
 use Rattle.salt_model.specs.Reaches.{reach}
 use Rattle.salt_model.specs.Tables.{Tables}
 use Rattle.salt_model.specs.declared.events.Answer.{Answer}
@@ -31,7 +31,7 @@ abbrev pub conts_at : Kept → ℕ → Option UnitKind → List Binding → List
 conts_at k n o vars = option_map_or (λ kind. conts_committed k n kind vars) o k.conts
 
 -- a unit that commits by decision n, with what its statements gave
-abbrev pub committed : Kept → ℕ → Option UnitKind → Run → Kept
+abbrev pub committed : Kept → ℕ → Option UnitKind → UnitRun → Kept
 committed k n kind run = record k { decisions = n; tables = run.tables; conts = conts_at k n kind run.vars }
 
 abbrev pub branched : Kept → ℕ → Option UnitKind → Kept
@@ -43,7 +43,7 @@ pub record Stage : Type 0 where
   pub kept : Kept
   pub vars : Id → List Binding
 
-abbrev pub stage_run : Stage → Id → Trace → Run
+abbrev pub stage_run : Stage → Id → Trace → UnitRun
 stage_run s u trace = serial (schema_of s.kept) s.kept.tables (s.vars u) (done_of u trace)
 
 -- what an event makes of what is kept
@@ -76,7 +76,7 @@ abbrev pub tables_after : Trace → Tables
 tables_after trace = (kept trace).tables
 
 -- doing the statements that an open unit has done, on the committed tables
-abbrev pub run_of : Id → Trace → Run
+abbrev pub run_of : Id → Trace → UnitRun
 run_of u trace = stage_run (stage trace) u trace
 
 -- what a statement of the unit would reach, and do, here

@@ -149,7 +149,7 @@ unfoldable pub outcome_of : List TableDef → Tables → List Binding → Statem
 outcome_of schema tables vars st = do_at vars st (table_for schema st) (rows_in (reach schema vars st) tables)
 
 -- what doing statements one after another gives
-pub record Run : Type 0 where
+pub record UnitRun : Type 0 where
   pub answers : List Answer
   pub tables : Tables
   pub vars : List Binding
@@ -160,7 +160,7 @@ abbrev pub has_failed : Answer → Bool
 has_failed (Failed c) = true
 has_failed a = false
 
-abbrev pub after_done : Run → Option Reach → Done → Run
+abbrev pub after_done : UnitRun → Option Reach → Done → UnitRun
 after_done r reach d = record {
   answers = r.answers ++ d.answer ∷ [];
   tables = with_changes d.changes r.tables;
@@ -169,19 +169,19 @@ after_done r reach d = record {
   reaches = r.reaches ++ option_to_list reach;
 }
 
-abbrev pub doing : List TableDef → Run → Statement → Done
+abbrev pub doing : List TableDef → UnitRun → Statement → Done
 doing schema r st = outcome_of schema r.tables r.vars st
 
-abbrev pub with_done : List TableDef → Run → Statement → Run
+abbrev pub with_done : List TableDef → UnitRun → Statement → UnitRun
 with_done schema r st = after_done r (reach schema r.vars st) (doing schema r st)
 
 -- a fold, which ends at the first failed answer
-abbrev pub run_on : List TableDef → List Statement → Run → Run
+abbrev pub run_on : List TableDef → List Statement → UnitRun → UnitRun
 run_on schema [] r = r
 run_on schema (st ∷ sts) r = if has_failed (doing schema r st).answer then with_done schema r st else run_on schema sts (with_done schema r st)
 
-abbrev pub run_from : Tables → List Binding → Run
+abbrev pub run_from : Tables → List Binding → UnitRun
 run_from tables vars = record { answers = []; tables = tables; vars = vars; changes = no_edits; reaches = [] }
 
-abbrev pub serial : List TableDef → Tables → List Binding → List Statement → Run
+abbrev pub serial : List TableDef → Tables → List Binding → List Statement → UnitRun
 serial schema tables vars sts = run_on schema sts (run_from tables vars)

@@ -50,11 +50,11 @@ story_before (trace says Opened boot n) = story_of trace
 story_before (trace says e) = story_before trace
 
 -- what its lines ask
-abbrev pub lines_of : Trace → List Asked
-lines_of (from k) = []
-lines_of (trace asks asked) = lines_of trace ++ asked ∷ []
-lines_of (trace turns b) = lines_of trace
-lines_of (trace says e) = lines_of trace
+abbrev pub lines_asked : Trace → List Asked
+lines_asked (from k) = []
+lines_asked (trace asks asked) = lines_asked trace ++ asked ∷ []
+lines_asked (trace turns b) = lines_asked trace
+lines_asked (trace says e) = lines_asked trace
 
 -- the line in whose segment the trace ends
 abbrev pub line_of : Trace → Line

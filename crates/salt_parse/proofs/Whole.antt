@@ -41,7 +41,7 @@ use Rattle.salt_parse.proofs.ProgramLaws.{program_complete, program_sound, progr
 use Rattle.salt_parse.proofs.ProgramTrees.{program_of}
 use Rattle.salt_parse.proofs.Up.{statement_up, table_up, within_up}
 use Rattle.salt_tokens.specs.Bytes.{is_printable}
-use Rattle.salt_tokens.specs.Pieces.{IsToken, Lexes, Piece, Run, blank, ended as no_more, quoted, token}
+use Rattle.salt_tokens.specs.Pieces.{IsToken, Lexes, Piece, EachPasses, blank, ended as no_more, quoted, token}
 use Rattle.salt_tokens.specs.Spelling.{keyword_of, sign_of}
 use Rattle.salt_tokens.specs.Symbols.{HasSymbols, Symbols, symbols_of, sign_symbol, symbol_by, text, word_symbol}
 use Rattle.salt_tokens.specs.declared.error.ScanErr.{ScanErr}
@@ -53,7 +53,7 @@ use Rattle.salt_tokens.specs.declared.token.TokenKind.TheVariants as kind
 
 -- ---- texts of tokens are printable
 
-run_all : (bs : List ℕ) → Run is_printable bs → list_all is_printable bs ≡ true
+run_all : (bs : List ℕ) → EachPasses is_printable bs → list_all is_printable bs ≡ true
 run_all [] r = refl
 run_all (b ∷ bs) r = rw r.0 (run_all bs r.1)
 

@@ -8,7 +8,7 @@ use Rattle.salt_bytes.specs.Spellable.{Every}
 use Rattle.salt_bytes.specs.Taking.{Take, give, if_all, only_if, take_byte, take_bytes, take_each, then_take}
 use Rattle.salt_bytes.specs.Values.{is_row_length, take_row, take_value, take_value_of}
 use Rattle.salt_disk.specs.Disks.{View}
-use Rattle.salt_codec.specs.Entries.{IsPut, IsPutTo, MayStand, prepared_of}
+use Rattle.salt_codec.specs.Entries.{CanBePut, IsPutTo, MayStand, prepared_of}
 use Rattle.salt_codec.specs.declared.prepared.PreparedUnit.{PreparedUnit}
 use Rattle.salt_eval.specs.Scans.{IsKeyed}
 use Rattle.salt_model.specs.Tables.{Tables, changed_at, make_change, no_rows, place_cmp, row_at, with_changes}
@@ -74,27 +74,27 @@ all_stand [] = tt
 all_stand (v ∷ vs) = (stands v, all_stand vs)
 
 -- A CHANGE that is read
-change_put : (nulls : Bool) (table kind : ℕ) (bytes : List ℕ) (c : Change) (rest : List ℕ) → take_change_to nulls table kind bytes ≡ Some (c, rest) → IsPut true c
+change_put : (nulls : Bool) (table kind : ℕ) (bytes : List ℕ) (c : Change) (rest : List ℕ) → take_change_to nulls table kind bytes ≡ Some (c, rest) → CanBePut true c
 change_put nulls table zero bytes c rest e =
     let t = took (λ key. give (record { table = table; key = key; row = None })) (take_value false bytes) (c, rest) e in
-    subst (IsPut true) (given_first (record { table = table; key = t.x; row = None }) c t.rest rest t.goes) (value_told bytes t.x t.rest t.was)
+    subst (CanBePut true) (given_first (record { table = table; key = t.x; row = None }) c t.rest rest t.goes) (value_told bytes t.x t.rest t.was)
 change_put nulls table (suc zero) bytes c rest e =
     let t = took (λ row. give (record { table = table; key = key_of row; row = Some row })) (take_row nulls bytes) (c, rest) e in
-    subst (IsPut true) (given_first (record { table = table; key = key_of t.x; row = Some t.x }) c t.rest rest t.goes) (row_long nulls bytes t.x t.rest t.was, refl, all_stand t.x)
+    subst (CanBePut true) (given_first (record { table = table; key = key_of t.x; row = Some t.x }) c t.rest rest t.goes) (row_long nulls bytes t.x t.rest t.was, refl, all_stand t.x)
 change_put nulls table (suc (suc n)) bytes c rest e = cc
 
-take_put : (nulls : Bool) (bytes : List ℕ) (c : Change) (rest : List ℕ) → take_change nulls bytes ≡ Some (c, rest) → IsPut true c
+take_put : (nulls : Bool) (bytes : List ℕ) (c : Change) (rest : List ℕ) → take_change nulls bytes ≡ Some (c, rest) → CanBePut true c
 take_put nulls bytes c rest e =
     let t = took (λ table. then_take take_byte (take_change_to nulls table)) (take_16 bytes) (c, rest) e in
     let k = took (take_change_to nulls t.x) (take_byte t.rest) (c, rest) t.goes in
     change_put nulls t.x k.x k.rest c rest k.goes
 
-each_put : (nulls : Bool) (n : ℕ) (bytes : List ℕ) (cs : List Change) (rest : List ℕ) → take_each (take_change nulls) n bytes ≡ Some (cs, rest) → Every (IsPut true) cs
-each_put nulls zero bytes cs rest e = subst (Every (IsPut true)) (given_first [] cs bytes rest e) tt
+each_put : (nulls : Bool) (n : ℕ) (bytes : List ℕ) (cs : List Change) (rest : List ℕ) → take_each (take_change nulls) n bytes ≡ Some (cs, rest) → Every (CanBePut true) cs
+each_put nulls zero bytes cs rest e = subst (Every (CanBePut true)) (given_first [] cs bytes rest e) tt
 each_put nulls (suc n) bytes cs rest e =
     let t = took (λ x. then_take (take_each (take_change nulls) n) (λ xs. give (x ∷ xs))) (take_change nulls bytes) (cs, rest) e in
     let k = took (λ xs. give (t.x ∷ xs)) (take_each (take_change nulls) n t.rest) (cs, rest) t.goes in
-    subst (Every (IsPut true)) (given_first (t.x ∷ k.x) cs k.rest rest k.goes) (take_put nulls bytes t.x t.rest t.was, each_put nulls n t.rest k.x k.rest k.was)
+    subst (Every (CanBePut true)) (given_first (t.x ∷ k.x) cs k.rest rest k.goes) (take_put nulls bytes t.x t.rest t.was, each_put nulls n t.rest k.x k.rest k.was)
 
 prepared_put : (nulls : Bool) (bytes : List ℕ) (x : Prepared) (rest : List ℕ) → take_prepared nulls bytes ≡ Some (x, rest) → ArePut x
 prepared_put nulls bytes x rest e =
@@ -130,7 +130,7 @@ put_keyed : (nulls : Bool) (key : Value) (row : Option (List Value)) → IsPutTo
 put_keyed nulls key None h = tt
 put_keyed nulls key (Some row) h = h.1
 
-pub all_put_keyed : (nulls : Bool) (cs : List Change) → Every (IsPut nulls) cs → Every HasKey cs
+pub all_put_keyed : (nulls : Bool) (cs : List Change) → Every (CanBePut nulls) cs → Every HasKey cs
 all_put_keyed nulls [] h = tt
 all_put_keyed nulls (c ∷ cs) h = (put_keyed nulls c.key c.row h.0, all_put_keyed nulls cs h.1)
 
@@ -143,7 +143,7 @@ put_to : (nulls : Bool) (key : Value) (row : Option (List Value)) → IsPutTo nu
 put_to nulls key None h = h
 put_to nulls key (Some row) h = (h.0, h.1, all_stand row)
 
-pub all_put : (nulls : Bool) (cs : List Change) → Every (IsPut nulls) cs → Every (IsPut true) cs
+pub all_put : (nulls : Bool) (cs : List Change) → Every (CanBePut nulls) cs → Every (CanBePut true) cs
 all_put nulls [] h = tt
 all_put nulls (c ∷ cs) h = (put_to nulls c.key c.row h.0, all_put nulls cs h.1)
 

@@ -5,7 +5,7 @@ use Rattle.salt_bytes.specs.Log.{entries_in}
 use Rattle.salt_bytes.specs.Partition.{Prepared, prepared_in, spell_prepared}
 use Rattle.salt_bytes.specs.Spellable.{Every}
 use Rattle.salt_disk.specs.Disks.{IsSettled, IsUnchanged, KeepsOthers, SameShape, View}
-use Rattle.salt_codec.specs.Entries.{IsPut, prepared_of}
+use Rattle.salt_codec.specs.Entries.{CanBePut, prepared_of}
 use Rattle.salt_codec.specs.declared.prepared.PreparedUnit.{PreparedUnit}
 use Rattle.salt_eval.proofs.InOrder.{tables_of-list}
 use Rattle.salt_eval.specs.Views.{tables_of}
@@ -102,7 +102,7 @@ module _ (d e : View) (x y : Partition) (p : ℕ) (v : PartView) (applied : List
 
   -- AFTER A UNIT IS PREPARED
   pub with_unit : (u : Id) (cs : List Change) → MayPrepare v applied u cs
-      → ((nulls : Bool) → Every (IsPut nulls) cs → are_in_order cs ≡ true → prepared_in nulls (spell_prepared (prepared u cs)) ≡ Some (prepared u cs))
+      → ((nulls : Bool) → Every (CanBePut nulls) cs → are_in_order cs ≡ true → prepared_in nulls (spell_prepared (prepared u cs)) ≡ Some (prepared u cs))
       → KeepsOthers x.log.dev d e None → y.part ≡ x.part → y.nulls ≡ x.nulls → y.rows ≡ x.rows → (kept : PreparedUnit) → y.last ≡ Some kept → prepared_of kept ≡ prepared u cs → y.log.dev ≡ x.log.dev
       → IsLog e y.log (is.entries ++ spell_prepared (prepared u cs) ∷ []) → IsPartition e y p (with_prepared_unit v (prepared u cs)) applied
   with_unit u cs may read others part nulls rows kept_unit last same device is_log =

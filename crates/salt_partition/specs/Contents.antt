@@ -4,7 +4,7 @@ use Rattle.salt_bytes.specs.Log.{entries_in}
 use Rattle.salt_bytes.specs.Partition.{PartitionHeader, Prepared, prepared_in}
 use Rattle.salt_bytes.specs.Spellable.{Every}
 use Rattle.salt_disk.specs.Disks.{View}
-use Rattle.salt_codec.specs.Entries.{IsPut, header_of, prepared_of}
+use Rattle.salt_codec.specs.Entries.{CanBePut, header_of, prepared_of}
 use Rattle.salt_codec.specs.declared.prepared.PreparedUnit.{PreparedUnit}
 use Rattle.salt_gatelog.specs.Log as gates
 use Rattle.salt_gatelog.specs.Log.{IsLog}
@@ -34,7 +34,7 @@ AreKeyed x = Every HasKey x.changes
 
 -- its changes can be put into rows
 abbrev pub ArePut : Prepared → Type 0
-ArePut x = Every (IsPut true) x.changes
+ArePut x = Every (CanBePut true) x.changes
 
 -- each page that a header names stands on side 0 or 1
 abbrev pub NamesSides : PartitionHeader → Type 0

@@ -5,7 +5,7 @@ use Rattle.salt_bytes.specs.Generations.{Counts}
 use Rattle.salt_bytes.specs.Partition.{Prepared}
 use Rattle.salt_bytes.specs.Spellable.{Every}
 use Rattle.salt_disk.specs.Disks.{IsSettled, View}
-use Rattle.salt_codec.specs.Entries.{IsPut, prepared_of}
+use Rattle.salt_codec.specs.Entries.{CanBePut, prepared_of}
 use Rattle.salt_codec.specs.declared.prepared.PreparedUnit.{PreparedUnit}
 use Rattle.salt_gatelog.specs.Log as gates
 use Rattle.salt_gatelog.specs.Log.{IsLog}
@@ -84,7 +84,7 @@ pub record MayPrepare (v : PartView) (applied : List Id) (u : Id) (cs : List Cha
   pub fresh : is_prepared_in u v.log.prepared ≡ false
   pub new : has_id u applied ≡ false
   pub ordered : are_in_order cs ≡ true
-  pub each : Every (IsPut (has_nulls v.log.header.format)) cs
+  pub each : Every (CanBePut (has_nulls v.log.header.format)) cs
 
 -- the unit was prepared last, and is not applied
 pub record IsPreparedLast (v : PartView) (applied : List Id) (u : Id) : Type 0 where

@@ -3,7 +3,7 @@
 ghost use Rattle.salt_bytes.specs.Changes.{are_in_order};
 ghost use Rattle.salt_bytes.specs.Partition.{prepared_in, spell_prepared};
 ghost use Rattle.salt_bytes.specs.Spellable.{Every};
-ghost use Rattle.salt_codec.specs.Entries.{HasRow, IsPut};
+ghost use Rattle.salt_codec.specs.Entries.{HasRow, CanBePut};
 ghost use Rattle.salt_gatelog.specs.Log.{payload_in};
 ghost use Rattle.salt_partition.specs.Partitions.{prepared};
 ghost use Rattle.std.specs.Prelude.{Bool, IfOk, OnOk, Some, length, true, ◌≡◌, ◌≤◌};
@@ -21,7 +21,7 @@ pub fn prepared_frame(alloc: Global, unit: Id, changes: &[Change]) -> Result<Vec
     requires { Every HasRow changes.now }
     ensures payload { IfOk result (λ made. payload_in made.items ≡ spell_prepared (prepared unit changes.now)) }
     ensures front { IfOk result (λ made. 8 ≤ length made.items) }
-    ensures read { OnOk result ((nulls : Bool) → Every (IsPut nulls) changes.now → are_in_order changes.now ≡ true
+    ensures read { OnOk result ((nulls : Bool) → Every (CanBePut nulls) changes.now → are_in_order changes.now ≡ true
         → prepared_in nulls (spell_prepared (prepared unit changes.now)) ≡ Some (prepared unit changes.now)) }
 {
     let room = changes.len().saturating_mul(ROOM_OF_CHANGE);

@@ -4,7 +4,7 @@ use Rattle.salt_model.specs.Kept.{Definition}
 use Rattle.salt_model.specs.declared.events.Event.TheVariants.{Down}
 use Rattle.salt_model.specs.declared.events.Event.{Event}
 use Rattle.salt_model.specs.declared.events.Why.TheVariants.{Fault, Stopped}
-use Rattle.salt_model.specs.Trace.{Trace, Tree, lines_of}
+use Rattle.salt_model.specs.Trace.{Trace, Tree, lines_asked}
 use Rattle.salt_promise.proofs.OneAnswer.{one_answer}
 use Rattle.salt_promise.specs.Completing.{AsksFirst, IsWithin, MayTell, MeetsNothing}
 use Rattle.salt_promise.specs.Counting.{Downs, FailsOnly, RiseTo}
@@ -43,7 +43,7 @@ not-too-long r (Script shape early over_net) trace e d w = go r.before.source.by
     go : (o : Option (List ℕ)) → IsWithin (Script shape early over_net) o → AreLinesIn LinesWithin o r.after.source.bytes d.texts → ⊥
     go None h g = h
     go (Some script) h g = let over = g.1 in omega arith
-not-too-long r (Load calls) trace e d w = subst (λ s. AreLoadLines (way_of s).lines (map Tree (load_lines calls)) (lines_of trace)) e d.lines
+not-too-long r (Load calls) trace e d w = subst (λ s. AreLoadLines (way_of s).lines (map Tree (load_lines calls)) (lines_asked trace)) e d.lines
 
 -- FIRST LINES of the command
 
@@ -53,7 +53,7 @@ first-lines r (Script shape early over_net) trace e d = (d.texts, d.asked, go r.
     go : (o : Option (List ℕ)) → AreLinesIn FirstLines o r.after.source.bytes d.texts → AreLinesIn FirstLines o None d.texts
     go None h = tt
     go (Some script) h = h
-first-lines r (Load calls) trace e d = subst (λ x. AreLoadLines x (map Tree (load_lines calls)) (lines_of trace)) e d.lines
+first-lines r (Load calls) trace e d = subst (λ x. AreLoadLines x (map Tree (load_lines calls)) (lines_asked trace)) e d.lines
 
 module _ (r : Run) (command : Command) (x : RunsAs r command) (m : MeetsNothing r command) where
   stands : (a : Opening Definition) (s : Status) → a ≡ Stands m.opens.found → EndsRefused a s → ⊥

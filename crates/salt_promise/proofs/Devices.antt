@@ -11,7 +11,7 @@ use Rattle.salt_stands.specs.FirstOpening.{first_part_header}
 use Rattle.salt_stands.specs.LogDevices.{IsStoreLog}
 use Rattle.salt_stands.specs.Partition.{judge_part, part_at, part_pair}
 use Rattle.salt_stands.specs.PartitionLog.{PartitionLog, partition_generation, partition_in}
-use Rattle.salt_stands.specs.Stands.{Found, found_with, judged, logs_of, with_parts}
+use Rattle.salt_stands.specs.Stands.{Found, found_with, stands_on, logs_of, with_parts}
 use Rattle.salt_stands.specs.Reading.{Reading}
 use Rattle.salt_stands.specs.Tables.{joined}
 use Rattle.salt_promise.specs.Standing.{IsReader, NamesPages, StandFor}
@@ -85,7 +85,7 @@ module _ (read : List ℕ → Option Definition) (reads : IsReader read) (bytes 
   unfolding joined
   whole = refl
 
-  stands : judged reading image one_part ≡ Ok found
+  stands : stands_on reading image one_part ≡ Ok found
   stands =
       ap (if_sound (with_parts reading (logs_of image) image one_part)) (coordinator ∙ new.coordinator)
       ∙ ap with_part (partition ∙ new.part)

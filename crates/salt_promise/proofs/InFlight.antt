@@ -158,7 +158,7 @@ played : IsPlayed trace
 unfolding computing
 played = ((((((tt, (omega arith, omega arith, inl refl)), refl), served-complete), refl), working-complete), refl)
 
-asked : AskInOrder (begins ∷ commits ∷ []) (trace_words.lines_of trace)
+asked : AskInOrder (begins ∷ commits ∷ []) (trace_words.lines_asked trace)
 asked = (begins-asks, (commits-asks, tt))
 
 flies : Flies Told trace in_flight.flight

@@ -4,13 +4,13 @@ use Rattle.salt_bytes.specs.Generations.{BothBlank, Counts, Faulty, Pair, WhichL
 use Rattle.salt_stands.specs.Fitting.{definitions_reading, kept_in}
 use Rattle.salt_model.specs.Kept.{Definition, Kept}
 use Rattle.salt_promise.specs.Standing.{AnswersTo, IsOlder, IsReader, NamesPages, StandFor}
-use Rattle.salt_stands.specs.Coordinator.{Coordinator, are_sound, coordinator_of, coordinator_pair, define, defined_by, device_of, judge_coordinator}
+use Rattle.salt_stands.specs.Coordinator.{Coordinator, are_sound, coordinator_of, coordinator_pair, define, definitions_read, device_of, judge_coordinator}
 use Rattle.salt_stands.specs.CoordinatorLog.{CoordinatorLog}
 use Rattle.salt_stands.specs.OpenConts.{moved}
 use Rattle.salt_model.specs.Tables.{Tables}
 use Rattle.salt_stands.specs.Reading.{Reading}
 use Rattle.salt_stands.specs.Stands as opening
-use Rattle.salt_stands.specs.Stands.{Found, Opening, Stands, are_spent, found_with, is_same_shape, judged, logs_of, of_coordinator, of_parts, opening_of, parts_at, with_parts}
+use Rattle.salt_stands.specs.Stands.{Found, Opening, Stands, are_spent, found_with, is_same_shape, stands_on, logs_of, of_coordinator, of_parts, opening_of, parts_at, with_parts}
 use Rattle.salt_stands.specs.Words.{if_sound, or_fault}
 use Rattle.salt_values.specs.declared.cont.Cont.{Cont}
 use Rattle.salt_place.specs.declared.placement.Shape.{Shape}
@@ -32,9 +32,9 @@ module _ (a b : List ℕ → Option Definition) (same : (text : List ℕ) → a 
   same_define t None = refl
   same_define t (Some ds) = ap (λ o. option_and_then (λ d. then_some (not ((definitions_reading a).is_refused ds d)) (ds ++ d ∷ [])) o) (same t.text)
 
-  same_defined : (ts : List NumberedText) (ds : Option (List Definition)) → defined_by (definitions_reading a) ds ts ≡ defined_by (definitions_reading b) ds ts
+  same_defined : (ts : List NumberedText) (ds : Option (List Definition)) → definitions_read (definitions_reading a) ds ts ≡ definitions_read (definitions_reading b) ds ts
   same_defined [] ds = refl
-  same_defined (t ∷ ts) ds = ap (λ o. defined_by (definitions_reading a) o ts) (same_define t ds) ∙ same_defined ts (define (definitions_reading b) t ds)
+  same_defined (t ∷ ts) ds = ap (λ o. definitions_read (definitions_reading a) o ts) (same_define t ds) ∙ same_defined ts (define (definitions_reading b) t ds)
 
   abbrev sound : CoordinatorLog → Option (List Definition) → Option (Coordinator Definition)
   sound log o = option_and_then (λ ds. option_and_then (λ cs. then_some (are_sound (definitions_reading a) log ds) (record { log = log; definitions = ds; conts = cs })) (moved log.header.format (Some log.header.conts) log.told.decided)) o
@@ -50,7 +50,7 @@ module _ (a b : List ℕ → Option Definition) (same : (text : List ℕ) → a 
   same_opening : (shape : Shape) (bytes : ℕ → List ℕ) → opening_of (definitions_reading a) bytes shape ≡ opening_of (definitions_reading b) bytes shape
   same_opening shape bytes = ap (of_coordinator (definitions_reading a) bytes shape) (same_judged (coordinator_pair (logs_of bytes)))
 
-  same_standing : (shape : Shape) (bytes : ℕ → List ℕ) → judged (definitions_reading a) bytes shape ≡ judged (definitions_reading b) bytes shape
+  same_standing : (shape : Shape) (bytes : ℕ → List ℕ) → stands_on (definitions_reading a) bytes shape ≡ stands_on (definitions_reading b) bytes shape
   same_standing shape bytes = ap (if_sound (with_parts (definitions_reading a) (logs_of bytes) bytes shape)) (same_judged (coordinator_pair (logs_of bytes)))
 
   -- and name the same pages
@@ -76,7 +76,7 @@ module _ (read : List ℕ → Option Definition) where
   reading = definitions_reading read
 
   log-of : (log : CoordinatorLog) (c : Coordinator Definition) → coordinator_of reading log ≡ Some c → c.log ≡ log
-  log-of log c e = by (defined_by reading (Some []) log.told.definitions) e
+  log-of log c e = by (definitions_read reading (Some []) log.told.definitions) e
     where
       sound : (ds : List Definition) (cs : List Cont) (t : Bool) → then_some t (record { log = log; definitions = ds; conts = cs }) ≡ Some c → c.log ≡ log
       sound ds cs true h = let same : record { log = log; definitions = ds; conts = cs } ≡ c = cc in ap (λ (x : Coordinator Definition). x.log) (sym same)

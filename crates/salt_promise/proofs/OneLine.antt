@@ -50,7 +50,7 @@ pub played : IsPlayed trace
 unfolding computing
 played = ((((tt, (omega arith, omega arith, inl refl)), refl), served-complete), refl)
 
-asked : AskInOrder ((200 ∷ []) ∷ []) (trace_words.lines_of trace)
+asked : AskInOrder ((200 ∷ []) ∷ []) (trace_words.lines_asked trace)
 asked = (has_other_byte (omega arith) refl refl, tt)
 
 lines : AreLinesIn AllLines (Some script) (Some []) ((200 ∷ []) ∷ [])

@@ -6,7 +6,7 @@ use Rattle.salt_model.specs.Lines.{AskInOrder}
 use Rattle.salt_model.specs.Next.{next}
 use Rattle.salt_model.specs.Phases.{Fallen, Serving, phase}
 use Rattle.salt_model.specs.Played.{IsPlayed}
-use Rattle.salt_model.specs.Trace.{Asked, Trace, from, line_of, lines_of, story_of, ◌asks◌, ◌says◌, ◌turns◌}
+use Rattle.salt_model.specs.Trace.{Asked, Trace, from, line_of, lines_asked, story_of, ◌asks◌, ◌says◌, ◌turns◌}
 use Rattle.salt_model.specs.Programs.{named_early}
 use Rattle.salt_model.specs.Turns.{can_go, ids_after, next_to_go, next_turn, owes_turn, still_to_go, turn_owed}
 use Rattle.salt_values.specs.declared.id.Id.{Id}
@@ -49,16 +49,16 @@ none-asked [] [] e h = refl
 none-asked [] (a ∷ asked) e h = absurd h
 none-asked (t ∷ texts) asked e h = absurd cc
 
-no-lines : (t : Trace) → MayTell empty (Script one_part false false) t → lines_of t ≡ []
-no-lines t m = none-asked m.lines.0 (lines_of t) (front-of-none m.lines.0 m.lines.2.first.0 m.lines.2.first.1) m.lines.1
+no-lines : (t : Trace) → MayTell empty (Script one_part false false) t → lines_asked t ≡ []
+no-lines t m = none-asked m.lines.0 (lines_asked t) (front-of-none m.lines.0 m.lines.2.first.0 m.lines.2.first.1) m.lines.1
 
 not-last : {A : Type 0} (xs : List A) (x : A) → xs ++ x ∷ [] ≡ [] → ⊥
 not-last [] x e = cc
 not-last (y ∷ xs) x e = cc
 
-in-no-line : (t : Trace) → lines_of t ≡ [] → line_of t ≡ Nothing
+in-no-line : (t : Trace) → lines_asked t ≡ [] → line_of t ≡ Nothing
 in-no-line (from k) e = refl
-in-no-line (t asks a) e = absurd (not-last (lines_of t) a e)
+in-no-line (t asks a) e = absurd (not-last (lines_asked t) a e)
 in-no-line (t turns b) e = in-no-line t e
 in-no-line (t says a) e = in-no-line t e
 
@@ -69,28 +69,28 @@ last-is (x ∷ y ∷ []) e h = absurd cc
 last-is (x ∷ y ∷ z ∷ xs) e h = absurd cc
 
 -- no line turns to a program
-none-to-go : (t : Trace) → lines_of t ≡ [] → still_to_go t ≡ []
+none-to-go : (t : Trace) → lines_asked t ≡ [] → still_to_go t ≡ []
 none-to-go (from k) e = refl
-none-to-go (t asks a) e = absurd (not-last (lines_of t) a e)
+none-to-go (t asks a) e = absurd (not-last (lines_asked t) a e)
 none-to-go (t turns b) e = ap (ids_after b) (none-to-go t e)
 none-to-go (t says Down why) e = refl
 none-to-go (t says a) e = none-to-go t e
 
 -- and none owes a turn
-none-owed : (t : Trace) → lines_of t ≡ [] → owes_turn t ≡ false
+none-owed : (t : Trace) → lines_asked t ≡ [] → owes_turn t ≡ false
 none-owed (from k) e = refl
-none-owed (t asks a) e = absurd (not-last (lines_of t) a e)
+none-owed (t asks a) e = absurd (not-last (lines_asked t) a e)
 none-owed (t turns b) e = ap (λ owes. owes && is_some (next_to_go t)) (none-owed t e)
 none-owed (t says Down why) e = refl
 none-owed (t says Refused r) e = refl
 none-owed (t says a) e = none-owed t e
 
-turns-to-none : (t : Trace) → lines_of t ≡ [] → next_turn t ≡ None
+turns-to-none : (t : Trace) → lines_asked t ≡ [] → next_turn t ≡ None
 turns-to-none t e =
     ap (λ o. option_or o (turn_owed t)) (ap (find (can_go t)) (none-to-go t e))
     ∙ ap (λ owes. if owes then find (can_go t) (named_early t) else None) (none-owed t e)
 
-no-turn : (t : Trace) (b : Id) → lines_of t ≡ [] → next_turn t ≡ Some b → ⊥
+no-turn : (t : Trace) (b : Id) → lines_asked t ≡ [] → next_turn t ≡ Some b → ⊥
 no-turn t b e h = let both : None ≡ Some b = sym (turns-to-none t e) ∙ h in cc
 
 -- behind its story nothing is next, and it serves
@@ -98,9 +98,9 @@ record IsServed (t : Trace) : Type 0 where
   serves : phase t ≡ Serving
   nothing : next t ≡ None
 
-served : (t : Trace) → lines_of t ≡ [] → story_of t ≡ empty.story → IsPlayed t → IsServed t
+served : (t : Trace) → lines_asked t ≡ [] → story_of t ≡ empty.story → IsPlayed t → IsServed t
 served (from k) n s p = absurd cc
-served (t asks a) n s p = absurd (not-last (lines_of t) a n)
+served (t asks a) n s p = absurd (not-last (lines_asked t) a n)
 served (t turns b) n s p = absurd (no-turn t b n p.3)
 served (t says e) n s p = subst (λ a. IsServed (t says a)) (sym (last-is (story_of t) e s)) (record { serves = refl; nothing = refl })
 

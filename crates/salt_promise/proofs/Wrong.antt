@@ -49,7 +49,7 @@ use Rattle.salt_promise.specs.Standing.{OpenAs, StandFor}
 use Rattle.salt_stands.specs.Coordinator.{coordinator_pair, device_of}
 use Rattle.salt_stands.specs.CoordinatorLog.{CoordinatorLog}
 use Rattle.salt_stands.specs.Stands as opening
-use Rattle.salt_stands.specs.Stands.{Found, Opening, Stands, judged, logs_of, nothing_found, opening_of}
+use Rattle.salt_stands.specs.Stands.{Found, Opening, Stands, stands_on, logs_of, nothing_found, opening_of}
 use Rattle.salt_stands.specs.Tables.{joined}
 use Rattle.salt_stands.specs.Unspent.{OpensUnspent}
 use Rattle.std.proofs.Common.{ap, arith, inl, inr, subst, sym, ◌∙◌}
@@ -273,7 +273,7 @@ spent_bytes = begun (header_at half) []
 abbrev spent_found : Found Definition
 spent_found = record { shape = one_part; format = 3; kept = record { boot = half; decisions = 0; definitions = []; tables = no_rows; conts = [] } }
 
-spent-stands : (read : List ℕ → Option Definition) → judged (definitions_reading read) spent_bytes one_part ≡ Ok spent_found
+spent-stands : (read : List ℕ → Option Definition) → stands_on (definitions_reading read) spent_bytes one_part ≡ Ok spent_found
 unfolding entries_in entries_up_to split_payload framed with_changes joined
 spent-stands read = refl
 
@@ -281,7 +281,7 @@ ok-one : {x y : Found Definition} → ◌≡◌ {A = Result (Found Definition) �
 ok-one h = cc
 
 -- what the bytes stand for, by any reader
-stood-for : (bytes : ℕ → List ℕ) (found : Found Definition) → ((read : List ℕ → Option Definition) → judged (definitions_reading read) bytes one_part ≡ Ok found) → (k : Kept) → StandFor one_part bytes k → kept_in found ≡ k
+stood-for : (bytes : ℕ → List ℕ) (found : Found Definition) → ((read : List ℕ → Option Definition) → stands_on (definitions_reading read) bytes one_part ≡ Ok found) → (k : Kept) → StandFor one_part bytes k → kept_in found ≡ k
 stood-for bytes found is k s = ap kept_in (ok-one (sym (is s.read) ∙ s.is)) ∙ s.keeps
 
 -- two stops fell as boot 2^63 was begun over boot 2^63 - 1
@@ -310,7 +310,7 @@ made_bytes = begun (header_at 0) (spell_entry (Boots 1) ∷ spell_entry (Decides
 abbrev made_found : Found Definition
 made_found = record { shape = one_part; format = 3; kept = record { boot = 1; decisions = 1; definitions = []; tables = no_rows; conts = [] } }
 
-made-stands : (read : List ℕ → Option Definition) → judged (definitions_reading read) made_bytes one_part ≡ Ok made_found
+made-stands : (read : List ℕ → Option Definition) → stands_on (definitions_reading read) made_bytes one_part ≡ Ok made_found
 unfolding entries_in entries_up_to split_payload framed with_changes joined
 made-stands read = refl
 

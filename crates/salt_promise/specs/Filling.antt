@@ -77,8 +77,8 @@ pub record ShareFills (d : View) (shape : Shape) (u : Id) (changes : List Change
   pub over : IsTooLong d dev (spell_prepared (record { unit = u; changes = changes_at shape p changes }))
 
 -- a decision that comes next in the log, with the bits of the partitions that it changes
-abbrev pub next_decision : Id → (mask : ℕ) → Move → CoordinatorLog → CoordinatorEntry
-next_decision u mask move log = Decides (record { number = log.told.decisions + 1; unit = u; mask = mask; move = spell_move coordinator_format move })
+abbrev pub decision_entry : Id → (mask : ℕ) → Move → CoordinatorLog → CoordinatorEntry
+decision_entry u mask move log = Decides (record { number = log.told.decisions + 1; unit = u; mask = mask; move = spell_move coordinator_format move })
 
 -- a unit's decision, with the bits of the partitions that it changes, and with its program's move: from the continuations that are open
 -- before it to those that are open behind it
@@ -87,7 +87,7 @@ pub record DecisionFills (d : View) (shape : Shape) (trace : Trace) (e : Event) 
   pub bits : (p : ℕ) → p < shape.parts → has_bit mask p ≡ not (is_empty (changes_at shape p changes))
   pub move : Move
   pub moves : make_move (kept trace).conts move ≡ Some (kept (trace says e)).conts
-  pub fills : EntryFills d (next_decision u mask move) dev
+  pub fills : EntryFills d (decision_entry u mask move) dev
 
 -- WHAT COMES NEXT
 

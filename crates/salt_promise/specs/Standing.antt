@@ -12,7 +12,7 @@ use Rattle.salt_stands.specs.CoordinatorLog.{CoordinatorLog}
 use Rattle.salt_stands.specs.Partition.{pages_device, part_at, part_pair}
 use Rattle.salt_stands.specs.PartitionLog.{PartitionLog}
 use Rattle.salt_stands.specs.Stands as opening
-use Rattle.salt_stands.specs.Stands.{Found, Opening, Stands, judged, logs_of, opening_of}
+use Rattle.salt_stands.specs.Stands.{Found, Opening, Stands, stands_on, logs_of, opening_of}
 use Rattle.salt_place.specs.declared.placement.Shape.{Shape}
 use Rattle.std.specs.Prelude.{List, Ok, Option, Some, false, ℕ, ◌<◌, ◌↔◌, ◌≡◌, ◌⊎◌}
 
@@ -56,7 +56,7 @@ pub record StandFor (shape : Shape) (bytes : ℕ → List ℕ) (k : Kept) : Type
   pub read : List ℕ → Option Definition
   pub reads : IsReader read
   pub found : Found Definition
-  pub is : judged (definitions_reading read) bytes shape ≡ Ok found
+  pub is : stands_on (definitions_reading read) bytes shape ≡ Ok found
   pub has_shape : found.shape ≡ shape
   pub newest : found.format ≡ 3
   pub no_pages : (dev : ℕ) → NamesPages read shape bytes dev → ⊥

@@ -3,7 +3,7 @@ use Rattle.salt_bytes.specs.Page.{page_place}
 use Rattle.salt_bytes.specs.Spellable.{Every}
 use Rattle.salt_checkpoint.proofs.Torn.{keeps_all, keeps_more, named_on, named_refl}
 use Rattle.salt_checkpoint.specs.Sides.{KeepsNamed, NamedSame}
-use Rattle.salt_codec.specs.Entries.{IsPut}
+use Rattle.salt_codec.specs.Entries.{CanBePut}
 use Rattle.salt_directory.proofs.Bounds.{change_most, within_more, within_on, within_same}
 use Rattle.salt_directory.specs.Bytes.{IsWithin, bytes_of_changes, bytes_of_entries}
 use Rattle.salt_disk.proofs.CallAfterCall.{cause_none, cause_on, keeps_on, same_shape}
@@ -36,12 +36,12 @@ pub record IsApplied (d0 d : View) (x0 x : RowStore) (dev : ℕ) (named : List �
 
 pub record IsApplying (d0 d : View) (x0 x : RowStore) (all left : List Change) : Type 0 where
   pub of : (dev : ℕ) (named : List ℕ) (t : Tables) → IsRowStore d0 x0 dev named t → IsApplied d0 d x0 x dev named t all left
-  pub put : Every (IsPut true) left
+  pub put : Every (CanBePut true) left
   pub device : device_of x ≡ device_of x0
   pub others : KeepsOthers (device_of x0) d0 d None
   pub cause : HasCause d0 d None
 
-pub applying_begins : (d0 : View) (x0 : RowStore) (all : List Change) → Every (IsPut true) all → IsApplying d0 d0 x0 x0 all all
+pub applying_begins : (d0 : View) (x0 : RowStore) (all : List Change) → Every (CanBePut true) all → IsApplying d0 d0 x0 x0 all all
 applying_begins d0 x0 all put = record {
   of = λ dev named t is. record {
     now = t;

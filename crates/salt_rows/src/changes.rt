@@ -5,7 +5,7 @@ ghost use Rattle.salt_bytes.specs.Page.{page_place};
 ghost use Rattle.salt_bytes.specs.Spellable.{Every};
 ghost use Rattle.salt_bytes.specs.Values.{is_row_length};
 ghost use Rattle.salt_checkpoint.specs.Sides.{KeepsNamed, NamedSame};
-ghost use Rattle.salt_codec.specs.Entries.{IsPut};
+ghost use Rattle.salt_codec.specs.Entries.{CanBePut};
 ghost use Rattle.salt_disk.specs.Disks.{FullOnly, HasCause, KeepsAll, KeepsOthers, OnlyFails};
 ghost use Rattle.salt_model.specs.Tables.{Tables, make_change, put_row, remove_at, row_at, set_row, with_changes};
 ghost use Rattle.salt_pool.specs.Frames.{frame_count};
@@ -237,7 +237,7 @@ impl RowStore {
     /// Makes one change.
     fn change<D: Disks>(&mut self, disks: &mut D, change: &Change) -> Result<(), DiskErr>
         requires stands { StandsOnPages (D.view disks.old) self.old }
-        requires put { IsPut true change.now }
+        requires put { CanBePut true change.now }
         ensures rows { (dev : ℕ) (named : List ℕ) (t : Tables) → IsRowStore (D.view disks.old) self.old dev named t
             → OnOk result (IsRowStore (D.view disks.new) self.new dev named (make_change change.now t)) }
         ensures images { (dev : ℕ) (named : List ℕ) (t : Tables) → IsRowStore (D.view disks.old) self.old dev named t → KeepsNamed named (D.view disks.old) (D.view disks.new) dev }
@@ -270,7 +270,7 @@ impl RowStore {
     /// before, but for sides that the header does not name. After an error the rows are opened again before they are used.
     pub fn apply<D: Disks>(&mut self, disks: &mut D, changes: &[Change]) -> Result<(), DiskErr>
         requires stands { StandsOnPages (D.view disks.old) self.old }
-        requires put { Every (IsPut true) changes.now }
+        requires put { Every (CanBePut true) changes.now }
         ensures rows { (dev : ℕ) (named : List ℕ) (t : Tables) → IsRowStore (D.view disks.old) self.old dev named t
             → OnOk result (IsRowStore (D.view disks.new) self.new dev named (with_changes changes.now t)) }
         ensures images { (dev : ℕ) (named : List ℕ) (t : Tables) → IsRowStore (D.view disks.old) self.old dev named t → KeepsNamed named (D.view disks.old) (D.view disks.new) dev }

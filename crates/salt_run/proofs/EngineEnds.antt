@@ -27,7 +27,7 @@ use Rattle.salt_model.specs.Arming.{armed_behind, armed_by_lines}
 use Rattle.salt_model.specs.Kept.{Kept, WellKept, nothing_kept}
 use Rattle.salt_model.specs.Lines.{AskInOrder}
 use Rattle.salt_model.specs.Played.{IsPlayed, Tells}
-use Rattle.salt_model.specs.Trace.{Start, Trace, lines_of, start_of}
+use Rattle.salt_model.specs.Trace.{Start, Trace, lines_asked, start_of}
 use Rattle.salt_model.specs.declared.events.Event.{Event}
 use Rattle.salt_model.specs.declared.events.Flight.{Flight}
 use Rattle.salt_net.specs.Turns.{Turning}
@@ -385,7 +385,7 @@ module _ (d e : View) (x : Database Devices) where
         replays = load-replays promised calls done status (database_flight x) s story start sound.well loaded.0 summed;
         sent = refl;
         armed = loaded.2;
-        drains = drained loaded.0.trace loaded.0.tells.played (sound-start loaded.0.trace loaded.0.tells) (front-lines status calls (lines_of loaded.0.trace) loaded.0.lines);
+        drains = drained loaded.0.trace loaded.0.tells.played (sound-start loaded.0.trace loaded.0.tells) (front-lines status calls (lines_asked loaded.0.trace) loaded.0.lines);
         ends = ends-there e x (shape_of (Load calls)) false asked status loaded.0.trace loaded.0.tells.played loaded.1;
       }
 

@@ -26,7 +26,7 @@ use Rattle.salt_model.specs.declared.events.End.TheVariants.{Branched, Committed
 use Rattle.salt_model.specs.declared.events.End.{End}
 use Rattle.salt_model.specs.declared.events.Event.TheVariants.{Defined, Ended}
 use Rattle.salt_model.specs.declared.events.Event.{Event}
-use Rattle.salt_promise.specs.Filling.{DecisionFills, FirstFills, NewPairFills, NextFills, coordinator_format, next_decision, partition_format}
+use Rattle.salt_promise.specs.Filling.{DecisionFills, FirstFills, NewPairFills, NextFills, coordinator_format, decision_entry, partition_format}
 use Rattle.salt_promise.specs.Filling as promise
 use Rattle.salt_run.specs.Ending.{IsFullBehind}
 use Rattle.salt_loop.specs.Ending.{MayBeWritten}
@@ -109,10 +109,10 @@ module _ (d : View) (shape : Shape) (dev : ℕ) where
         promise.ShareFills d shape u cs dev ⊎ DecisionFills d shape trace (Ended u end) u cs dev
     decision u end cs good w fills x same = elim written [ inl f ↦ inr (decides f) | inr f ↦ inl (share-fills u cs f) ]
       where
-        written : filling.EntryFills d (filling.next_decision shape u cs x.made) dev ⊎ filling.ShareFills d shape u cs dev
+        written : filling.EntryFills d (filling.decision_entry shape u cs x.made) dev ⊎ filling.ShareFills d shape u cs dev
         written = subst (λ (l : List Change). Fills d shape (OfUnit u l x.made) dev) same (subst (λ (v : ToWrite). Fills d shape v dev) x.writes fills)
 
-        decides : filling.EntryFills d (filling.next_decision shape u cs x.made) dev → DecisionFills d shape trace (Ended u end) u cs dev
+        decides : filling.EntryFills d (filling.decision_entry shape u cs x.made) dev → DecisionFills d shape trace (Ended u end) u cs dev
         decides f = record {
           mask = mask_of (shares_of shape cs);
           bits = bits-of shape cs;
@@ -120,7 +120,7 @@ module _ (d : View) (shape : Shape) (dev : ℕ) where
           moves =
               ap (λ (k : Kept). make_move k.conts x.made) keeps.state.units.kept ∙ x.moves
               ∙ ap (λ (k : Kept). Some k.conts) (sym (kept-says s trace (Ended u end) ground good keeps.state.units));
-          fills = entry-fills (next_decision u (mask_of (shares_of shape cs)) x.made) f;
+          fills = entry-fills (decision_entry u (mask_of (shares_of shape cs)) x.made) f;
         }
 
     told-next : (ph : Phase) → phase trace ≡ ph → (o : Option Event) → next trace ≡ o → IfSome (Good trace) o → (w : ToWrite) → IsWrittenBy s o w → Fills d shape w dev → NextFills d shape trace ph o dev

@@ -1,7 +1,7 @@
 -- A run over what its devices stood for is as promised.
 use Rattle.law_definitions.specs.Texts.{definition_in}
 use Rattle.salt_io.specs.Streams.{IsAtEnd}
-use Rattle.salt_model.specs.Trace.{Trace, lines_of, story_of}
+use Rattle.salt_model.specs.Trace.{Trace, lines_asked, story_of}
 use Rattle.salt_net.specs.Agreed.{IsAgreed}
 use Rattle.salt_net.specs.Nets.{state_of}
 use Rattle.salt_net.specs.declared.kinds.NetEvent.{NetEvent}
@@ -46,8 +46,8 @@ module _ (r : Run) where
   pub load-does : (calls : ℕ) (trace : Trace) → r.after.source ≡ r.before.source → Does (Load calls) r.status streams_of trace → DoesLoad r calls trace
   load-does calls trace unread h = record {
     unread = unread;
-    lines = load-lines-way r.status calls (lines_of trace) h.0;
-    written = subst (λ (t : List ℕ). IsSummary r.status t r.before.sink.bytes r.after.sink.bytes) (summary-same calls (length (lines_of trace)) (story_of trace)) h.1;
+    lines = load-lines-way r.status calls (lines_asked trace) h.0;
+    written = subst (λ (t : List ℕ). IsSummary r.status t r.before.sink.bytes r.after.sink.bytes) (summary-same calls (length (lines_asked trace)) (story_of trace)) h.1;
   }
 
   module _ (reads : IsReader definition_in) (command : Command) (parts : IsParts (shape_of command).parts) (count : 26 ≤ r.before.devices.count) (agrees : (events : List NetEvent) → IsAgreed (state_of events)) where

@@ -1,7 +1,7 @@
 -- A run replays: its trace keeps each promise, and does what its command asks.
 use Rattle.salt_model.specs.Kept.{WellKept}
 use Rattle.salt_model.specs.Played.{IsPlayed, Tells}
-use Rattle.salt_model.specs.Trace.{Start, Trace, lines_of, start_of, story_of}
+use Rattle.salt_model.specs.Trace.{Start, Trace, lines_asked, start_of, story_of}
 use Rattle.salt_model.specs.declared.events.Event.{Event}
 use Rattle.salt_model.specs.declared.events.Flight.{Flight}
 use Rattle.salt_promise.specs.Promises.{Promises}
@@ -55,7 +55,7 @@ module _ (promised : (trace : Trace) → IsPlayed trace → WellKept (start_of t
     unspent = x.unspent;
     does = (
       x.lines,
-      summed-as status (summary_text calls done story) (summary_text calls (length (lines_of x.trace)) (story_of x.trace)) s.before s.now
+      summed-as status (summary_text calls done story) (summary_text calls (length (lines_asked x.trace)) (story_of x.trace)) s.before s.now
           (λ some i. summary_text calls (sym (x.count some) i) (sym x.tells.told i)) summed,
     );
     leaves = x.leaves;

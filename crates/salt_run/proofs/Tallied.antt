@@ -9,7 +9,7 @@ use Rattle.salt_driver.specs.Counting.{CountsOpening}
 use Rattle.salt_loop.proofs.Armed.{opening-stays}
 use Rattle.salt_model.specs.Arming.{armed_behind, armed_by, armed_by_lines}
 use Rattle.salt_model.specs.Played.{Tells}
-use Rattle.salt_model.specs.Trace.{Start, Trace, from, line_of, lines_of, story_of, ◌asks◌, ◌says◌, ◌turns◌}
+use Rattle.salt_model.specs.Trace.{Start, Trace, from, line_of, lines_asked, story_of, ◌asks◌, ◌says◌, ◌turns◌}
 use Rattle.salt_model.specs.declared.events.Event.TheVariants.{Down}
 use Rattle.salt_model.specs.declared.events.Event.{Event}
 use Rattle.salt_model.specs.declared.events.Why.TheVariants as why
@@ -41,15 +41,15 @@ downs-of status first story last h = falls status last last (λ a low. low) firs
 
 -- STOPS, where no line was asked
 
-unasked-line : (trace : Trace) → lines_of trace ≡ [] → line_of trace ≡ Nothing
+unasked-line : (trace : Trace) → lines_asked trace ≡ [] → line_of trace ≡ Nothing
 unasked-line (from k) none = refl
-unasked-line (trace asks asked) none = absurd (not-nil (lines_of trace) asked none)
+unasked-line (trace asks asked) none = absurd (not-nil (lines_asked trace) asked none)
 unasked-line (trace turns b) none = unasked-line trace none
 unasked-line (trace says e) none = unasked-line trace none
 
-unasked-along : (trace : Trace) → lines_of trace ≡ [] → (first : List (ℕ × ℕ)) → armed_by_lines first trace ≡ armed_along Nothing (story_of trace) (Some first)
+unasked-along : (trace : Trace) → lines_asked trace ≡ [] → (first : List (ℕ × ℕ)) → armed_by_lines first trace ≡ armed_along Nothing (story_of trace) (Some first)
 unasked-along (from k) none first = refl
-unasked-along (trace asks asked) none first = absurd (not-nil (lines_of trace) asked none)
+unasked-along (trace asks asked) none first = absurd (not-nil (lines_asked trace) asked none)
 unasked-along (trace turns b) none first = unasked-along trace none first
 unasked-along (trace says e) none first =
     ap (option_and_then (armed_by (line_of trace) e)) (unasked-along trace none first)
@@ -70,11 +70,11 @@ behind-along es None = along-none Nothing es ∙ sym (behind-none es)
 behind-along [] (Some first) = refl
 behind-along (e ∷ es) (Some first) = behind-along es (armed_by Nothing e first)
 
-pub unasked-armed : (trace : Trace) → lines_of trace ≡ [] → (first : List (ℕ × ℕ)) → armed_by_lines first trace ≡ armed_behind (story_of trace) (Some first)
+pub unasked-armed : (trace : Trace) → lines_asked trace ≡ [] → (first : List (ℕ × ℕ)) → armed_by_lines first trace ≡ armed_behind (story_of trace) (Some first)
 unasked-armed trace none first = unasked-along trace none first ∙ behind-along (story_of trace) (Some first)
 
 -- these are left where the devices are found
-pub armed-at-first : (d mid : View) (start : Start) (trace : Trace) (story : List Event) → Tells start trace story → lines_of trace ≡ [] → CountsOpening d mid None [] story →
+pub armed-at-first : (d mid : View) (start : Start) (trace : Trace) (story : List Event) → Tells start trace story → lines_asked trace ≡ [] → CountsOpening d mid None [] story →
     armed_by_lines d.armed trace ≡ Some mid.armed
 armed-at-first d mid start trace story tells unasked counts =
     opening-stays d mid [] story counts (from start) trace (story, refl)

@@ -11,7 +11,7 @@ use Rattle.salt_model.specs.Next.{next}
 use Rattle.salt_model.specs.Phases.{Fallen, Opening, Phase, Serving, phase}
 use Rattle.salt_model.specs.Played.{IsPlayed}
 use Rattle.salt_model.specs.Rests.{DoesItsRests}
-use Rattle.salt_model.specs.Trace.{Start, Trace, from, lines_of, start_of, story_of, ◌asks◌, ◌says◌, ◌turns◌}
+use Rattle.salt_model.specs.Trace.{Start, Trace, from, lines_asked, start_of, story_of, ◌asks◌, ◌says◌, ◌turns◌}
 use Rattle.salt_model.specs.declared.events.Event.TheVariants.{Down}
 use Rattle.salt_model.specs.declared.events.Event.{Event}
 use Rattle.salt_model.specs.declared.events.Why.TheVariants as why
@@ -62,7 +62,7 @@ last-same {A} (a ∷ xs) (b ∷ ys) x y e =
     (ap (λ (z : A). z ∷ xs) first ∙ ap (λ (zs : List A). b ∷ zs) h.0, h.1)
 
 pub record IsStill (trace : Trace) : Type 0 where
-  pub unasked : lines_of trace ≡ []
+  pub unasked : lines_asked trace ≡ []
   pub kept : kept trace ≡ (start_of trace).kept
   pub down : phase trace ≡ Fallen
 

@@ -3,7 +3,7 @@ use Rattle.salt_model.specs.Ends.{AtOutput, MayLeave, flight_told, is_serving}
 use Rattle.salt_model.specs.Next.{flight}
 use Rattle.salt_model.specs.Phases.{Fallen, Serving, phase}
 use Rattle.salt_model.specs.Played.{IsPlayed}
-use Rattle.salt_model.specs.Trace.{Asked, Start, Trace, from, lines_of, story_of, ◌asks◌, ◌says◌, ◌turns◌}
+use Rattle.salt_model.specs.Trace.{Asked, Start, Trace, from, lines_asked, story_of, ◌asks◌, ◌says◌, ◌turns◌}
 use Rattle.salt_model.specs.declared.events.Event.{Event}
 use Rattle.salt_model.specs.declared.events.Flight.{Flight}
 use Rattle.salt_promise.specs.Doing.{IsFrontOf}
@@ -24,9 +24,9 @@ not-nil (y ∷ ys) x e = cc
 not-both : (trace : Trace) → phase trace ≡ Fallen → phase trace ≡ Serving → ⊥
 not-both trace f s = let both : Fallen ≡ Serving = sym f ∙ s in cc
 
-at-start : (trace : Trace) → IsPlayed trace → story_of trace ≡ [] → lines_of trace ≡ [] → (phase trace ≡ Fallen) × (flight trace ≡ None)
+at-start : (trace : Trace) → IsPlayed trace → story_of trace ≡ [] → lines_asked trace ≡ [] → (phase trace ≡ Fallen) × (flight trace ≡ None)
 at-start (from k) p s l = (refl, refl)
-at-start (trace asks asked) p s l = absurd (not-nil (lines_of trace) asked l)
+at-start (trace asks asked) p s l = absurd (not-nil (lines_asked trace) asked l)
 at-start (trace turns b) p s l = absurd (not-both trace (at-start trace p.0 s l).0 p.1)
 at-start (trace says e) p s l = absurd (not-nil (story_of trace) e s)
 
@@ -49,7 +49,7 @@ front-lines ReadFault calls lines h = absurd h
 front-lines ScriptTooLong calls lines h = absurd h
 
 module _ (trace : Trace) (played : IsPlayed trace) (calls : ℕ) where
-  pub leaves-output : (status : Status) → (status ≡ Memory → ⊥) → AreLoadLines status calls (lines_of trace) → MayLeave (leave_of status) trace → MayLeave AtOutput trace
+  pub leaves-output : (status : Status) → (status ≡ Memory → ⊥) → AreLoadLines status calls (lines_asked trace) → MayLeave (leave_of status) trace → MayLeave AtOutput trace
   leaves-output Done some l h = inl h
   leaves-output Memory some l h = absurd (some refl)
   leaves-output WriteFault some l h = h
@@ -65,7 +65,7 @@ module _ (trace : Trace) (played : IsPlayed trace) (calls : ℕ) where
   leaves-output ReadFault some l h = absurd l
   leaves-output ScriptTooLong some l h = absurd l
 
-  pub flies-output : (status : Status) (told : Option Flight) → (status ≡ Memory → ⊥) → AreLoadLines status calls (lines_of trace) → MayLeave (leave_of status) trace →
+  pub flies-output : (status : Status) (told : Option Flight) → (status ≡ Memory → ⊥) → AreLoadLines status calls (lines_asked trace) → MayLeave (leave_of status) trace →
       IsFlightAt status trace told → told ≡ flight_told (flight trace)
   flies-output Done told some l h f = f ∙ sym (ap flight_told (complete-flight trace h))
   flies-output Memory told some l h f = absurd (some refl)
@@ -87,7 +87,7 @@ abbrev pub load-unwritten : (start : Start) (status : Status) (told : Option Fli
 load-unwritten start status told calls done story some x = record {
   trace = x.trace;
   tells = x.tells;
-  lines = front-lines status calls (lines_of x.trace) x.lines;
+  lines = front-lines status calls (lines_asked x.trace) x.lines;
   count = λ other. x.count some;
   leaves = leaves-output x.trace x.tells.played calls status some x.lines x.leaves;
   flies = flies-output x.trace x.tells.played calls status told some x.lines x.leaves x.flies;

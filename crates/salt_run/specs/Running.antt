@@ -10,7 +10,7 @@ use Rattle.salt_model.specs.Everywhere.{Always, Each}
 use Rattle.salt_model.specs.Kept.{Kept, WellKept}
 use Rattle.salt_model.specs.Played.{IsPlayed, Tells}
 use Rattle.salt_model.specs.Rests.{DoesItsRests}
-use Rattle.salt_model.specs.Trace.{Asked, Start, Trace, lines_of, start_of}
+use Rattle.salt_model.specs.Trace.{Asked, Start, Trace, lines_asked, start_of}
 use Rattle.salt_model.specs.declared.events.Event.{Event}
 use Rattle.salt_model.specs.declared.events.Flight.{Flight}
 use Rattle.salt_net.specs.declared.kinds.NetEvent.{NetEvent}
@@ -37,7 +37,7 @@ use Rattle.std.specs.Prelude.{IsTrue, List, None, Option, Some, [], false, true,
 -- In each opening of a trace that is played from what may be kept, over such lines, no more statements are told than the programs that it
 -- found had left.
 abbrev pub DoTheirRests : (List Asked → Type 0) → Type 0
-DoTheirRests Lines = (trace : Trace) → IsPlayed trace → IsSoundKept (start_of trace).kept → Lines (lines_of trace) → Always DoesItsRests trace
+DoTheirRests Lines = (trace : Trace) → IsPlayed trace → IsSoundKept (start_of trace).kept → Lines (lines_asked trace) → Always DoesItsRests trace
 
 -- The story is that of a trace which is played from this start and keeps each promise; no opening goes on from spent numbers; the command's
 -- lines are done, and what is told of them is written.

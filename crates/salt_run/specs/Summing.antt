@@ -1,5 +1,5 @@
 -- What the sink gains in a run of the workload.
-use Rattle.salt_model.specs.Trace.{Trace, lines_of, story_of}
+use Rattle.salt_model.specs.Trace.{Trace, lines_asked, story_of}
 use Rattle.salt_promise.specs.Doing as promise
 use Rattle.salt_promise.specs.Ways.{way_of}
 use Rattle.salt_promise.specs.declared.status.Status.{Status}
@@ -8,7 +8,7 @@ use Rattle.std.specs.Prelude.{List, Option, length, ℕ}
 
 -- the summary of a trace: of its story and its lines, also the one in which it ends
 abbrev pub summary_of : ℕ → Trace → List ℕ
-summary_of calls trace = summary_text calls (length (lines_of trace)) (story_of trace)
+summary_of calls trace = summary_text calls (length (lines_asked trace)) (story_of trace)
 
 -- how much of it is written, as the table of statuses has it
 abbrev pub IsSummary : Status → List ℕ → Option (List ℕ) → Option (List ℕ) → Type 0

@@ -28,7 +28,7 @@ use Rattle.law_states.specs.OpenUnits.{OpenUnit, UnitState, unit_named}
 use Rattle.law_states.specs.Overlays.{Edit, edits_of}
 use Rattle.law_states.specs.States.{State}
 use Rattle.law_states.specs.Steps.{units_after}
-use Rattle.law_states.specs.Told.{commits_in, fails_in, next_decision}
+use Rattle.law_states.specs.Told.{commits_in, fails_in, next_decision_number}
 use Rattle.law_states.specs.UnitFacts.{UnitFacts, facts_in, facts_of}
 use Rattle.law_states.specs.WatchSteps.{base_by, first_by}
 use Rattle.law_states.specs.Watches.{Watch}
@@ -89,28 +89,28 @@ accepts-first (First t c n args) b (inr i) = absurd i
 accepts-first (Later c part) b i = absurd i
 
 pub commit-gives : (x new : Scheduler) (u : Id) (o : OpenUnit) (quiet : Bool) (s : State) (given : Option Event) → StandsForState x s → unit_named u s.units.units ≡ Some o →
-    given ≡ Some (Ended u (Committed (next_decision s.units))) → AreBooks new.books (units_after (Ended u (Committed (next_decision s.units))) s.units) →
-    GoesBy (facts_in s.units (Ended u (Committed (next_decision s.units)))) (Ended u (Committed (next_decision s.units))) s.watch new.watch →
+    given ≡ Some (Ended u (Committed (next_decision_number s.units))) → AreBooks new.books (units_after (Ended u (Committed (next_decision_number s.units))) s.units) →
+    GoesBy (facts_in s.units (Ended u (Committed (next_decision_number s.units)))) (Ended u (Committed (next_decision_number s.units))) s.watch new.watch →
     new.called ≡ x.called → new.follow ≡ behind_commit o.kind →
     (quiet ≡ true → program_of_kind o.kind ≡ None) → ((w : Watch) → IsWatch new.watch w → new.calm ≡ is_calm_behind x.calm quiet w.waits) →
     AnswersWith s (Some (commits_in s.units o)) new given
 commit-gives x new u o quiet s given stands named told books watch same follow acid calm =
     gives-same s (Some (commits_in s.units o)) (Some e) given new
-    (ap (λ v. Some (Ended v (Committed (next_decision s.units)))) (named-unit u s.units.units o named))
+    (ap (λ v. Some (Ended v (Committed (next_decision_number s.units)))) (named-unit u s.units.units o named))
     (gives IsWatch e s watch.0 x new given stands told (at-follow (behind_commit o.kind) e s watch.0 new follow (record {
       served = refl;
-      follows = committed u (next_decision s.units) s.units (units_after e s.units) o named;
+      follows = committed u (next_decision_number s.units) s.units (units_after e s.units) o named;
       watch = watch.1;
       watched = plain-watch o.kind new.watch watch.0 watch.2;
       books = books;
       called = called-stays IsWatch (behind_commit o.kind) s t x new stands same (λ b. refl) sub;
       calm = calm-behind e s watch.0 x.calm quiet new.calm stands.calm watch.1
-          (λ is. inl (ended-base s.units u (Committed (next_decision s.units)) o named ∙ acid is))
-          (commits-close-none (facts_in s.units e) u (next_decision s.units) s.watch watch.0 watch.1) (calm watch.0 watch.2);
+          (λ is. inl (ended-base s.units u (Committed (next_decision_number s.units)) o named ∙ acid is))
+          (commits-close-none (facts_in s.units e) u (next_decision_number s.units) s.watch watch.0 watch.1) (calm watch.0 watch.2);
     })))
   where
     e : Event
-    e = Ended u (Committed (next_decision s.units))
+    e = Ended u (Committed (next_decision_number s.units))
 
     t : State
     t = state_by e s watch.0
@@ -153,15 +153,15 @@ end-gives x new u end s given stands free told books watch names follow calm =
 -- a failure of a later part
 
 pub branch-gives : (x new : Scheduler) (u base : Id) (part : ℕ) (cause : Cause) (o : OpenUnit) (s : State) (given : Option Event) → StandsForState x s →
-    unit_named u s.units.units ≡ Some o → o.kind ≡ Later base part → given ≡ Some (Ended u (Branched (next_decision s.units) cause)) →
-    AreBooks new.books (units_after (Ended u (Branched (next_decision s.units) cause)) s.units) →
-    GoesBy (facts_in s.units (Ended u (Branched (next_decision s.units) cause))) (Ended u (Branched (next_decision s.units) cause)) s.watch new.watch →
+    unit_named u s.units.units ≡ Some o → o.kind ≡ Later base part → given ≡ Some (Ended u (Branched (next_decision_number s.units) cause)) →
+    AreBooks new.books (units_after (Ended u (Branched (next_decision_number s.units) cause)) s.units) →
+    GoesBy (facts_in s.units (Ended u (Branched (next_decision_number s.units) cause))) (Ended u (Branched (next_decision_number s.units) cause)) s.watch new.watch →
     new.called ≡ x.called → new.follow ≡ Finish base → new.calm ≡ x.calm →
-    AnswersWith s (Some (Ended u (Branched (next_decision s.units) cause))) new given
+    AnswersWith s (Some (Ended u (Branched (next_decision_number s.units) cause))) new given
 branch-gives x new u base part cause o s given stands named kind told books watch same follow calm =
     gives IsWatch e s watch.0 x new given stands told (at-follow (Finish base) e s watch.0 new follow (record {
       served = refl;
-      follows = subst (λ k. FollowsAs k) kind (branched u (next_decision s.units) cause s.units (units_after e s.units) o named);
+      follows = subst (λ k. FollowsAs k) kind (branched u (next_decision_number s.units) cause s.units (units_after e s.units) o named);
       watch = watch.1;
       watched = watch.2;
       books = books;
@@ -171,7 +171,7 @@ branch-gives x new u base part cause o s given stands named kind told books watc
     }))
   where
     e : Event
-    e = Ended u (Branched (next_decision s.units) cause)
+    e = Ended u (Branched (next_decision_number s.units) cause)
 
     FollowsAs : UnitKind → Type 0
     FollowsAs k = FollowsOn (behind_branch k) e s.units (units_after e s.units)

@@ -2,7 +2,7 @@
 use Rattle.law_states.specs.OpenUnits.{OpenUnit, unit_named}
 use Rattle.law_states.specs.Readings.{WatchReading}
 use Rattle.law_states.specs.States.{State}
-use Rattle.law_states.specs.Told.{commits_in, does_in, next_decision}
+use Rattle.law_states.specs.Told.{commits_in, does_in, next_decision_number}
 use Rattle.salt_ast.specs.declared.lines.Line.{Line}
 use Rattle.salt_books.specs.Asking.{IsAskedBy}
 use Rattle.salt_books.specs.Books.{AreLoaded}
@@ -35,13 +35,13 @@ HasWaited a owners now old new e = (s : State) (o : OpenUnit) → StandsForState
 
 -- the commit of a unit by the next decision, of this number, with this move of its program
 abbrev pub HasCommitted : Id → Move → (number : ℕ) → (old new : Scheduler) → Event → Type 0
-HasCommitted u made number old new e = (s : State) (o : OpenUnit) → number ≡ next_decision s.units → StandsForState old s → IsSoundState s → unit_named u s.units.units ≡ Some o →
-    MovesTo made s.units.kept (conts_committed s.units.kept (next_decision s.units) o.kind o.vars) → AnswersWith s (Some (commits_in s.units o)) new (Some e)
+HasCommitted u made number old new e = (s : State) (o : OpenUnit) → number ≡ next_decision_number s.units → StandsForState old s → IsSoundState s → unit_named u s.units.units ≡ Some o →
+    MovesTo made s.units.kept (conts_committed s.units.kept (next_decision_number s.units) o.kind o.vars) → AnswersWith s (Some (commits_in s.units o)) new (Some e)
 
 -- the branch of a unit of a later part
 abbrev pub HasBranched : Id → (base : Id) → Cause → Move → (number : ℕ) → (old new : Scheduler) → Event → Type 0
-HasBranched u base cause made number old new e = (s : State) (o : OpenUnit) (part : ℕ) → number ≡ next_decision s.units → StandsForState old s → IsSoundState s → unit_named u s.units.units ≡ Some o → o.kind ≡ Later base part →
-    MovesTo made s.units.kept (conts_branched s.units.kept o.kind) → AnswersWith s (Some (Ended u (Branched (next_decision s.units) cause))) new (Some e)
+HasBranched u base cause made number old new e = (s : State) (o : OpenUnit) (part : ℕ) → number ≡ next_decision_number s.units → StandsForState old s → IsSoundState s → unit_named u s.units.units ≡ Some o → o.kind ≡ Later base part →
+    MovesTo made s.units.kept (conts_branched s.units.kept o.kind) → AnswersWith s (Some (Ended u (Branched (next_decision_number s.units) cause))) new (Some e)
 
 -- BEHIND AN EVENT it is ready for what this tells
 abbrev pub ChoosesBehind : NextTold → Line → (old new : Scheduler) → Coming → Type 0

@@ -12,7 +12,7 @@ ghost use Rattle.salt_program.specs.Refusals.{parts_in};
 ghost use Rattle.salt_scheduler.specs.Serving.{is_prepared_line};
 ghost use Rattle.salt_ast.specs.ProgramTexts.{program_text};
 ghost use Rattle.salt_ast.specs.Texts.{table_text};
-ghost use Rattle.law_states.specs.Told.{act_in, calls_in, go_in, kind_called_in, line_in, next_decision};
+ghost use Rattle.law_states.specs.Told.{act_in, calls_in, go_in, kind_called_in, line_in, next_decision_number};
 ghost use Rattle.salt_model.specs.Kept.{kept_program};
 ghost use Rattle.salt_model.specs.declared.events.Event.{Event};
 
@@ -41,7 +41,7 @@ impl Scheduler {
     pub fn table_defined(&mut self, line: &Line, def: &TableDef) -> Result<Event, AllocError>
         requires allowed { IsAllowed line.now self.old }
         requires line { line.now ≡ Line.Table def.now }
-        ensures { IfOk result (λ e. DoesAllowed (λ s r. Some (Event.Defined (next_decision s.units) (table_text def.now))) line.now self.old self.new e) }
+        ensures { IfOk result (λ e. DoesAllowed (λ s r. Some (Event.Defined (next_decision_number s.units) (table_text def.now))) line.now self.old self.new e) }
     {
         let (number, text) = self.books.define_table(def)?;
         self.follow = Follow::Nothing;
@@ -53,7 +53,7 @@ impl Scheduler {
         requires allowed { IsAllowed line.now self.old }
         requires line { line.now ≡ Line.Program def.now }
         requires parts { length (parts_in def.now.body) < 2 ^ 32 }
-        ensures { IfOk result (λ e. DoesAllowed (λ s r. Some (Event.Defined (next_decision s.units) (program_text def.now))) line.now self.old self.new e) }
+        ensures { IfOk result (λ e. DoesAllowed (λ s r. Some (Event.Defined (next_decision_number s.units) (program_text def.now))) line.now self.old self.new e) }
     {
         let (number, text) = self.books.define_program(def)?;
         self.follow = Follow::Nothing;

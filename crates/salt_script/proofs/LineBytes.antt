@@ -3,7 +3,7 @@ use Rattle.salt_ast.specs.Spelling.{IsLineWithinLimits, SpellsLine}
 use Rattle.salt_ast.specs.declared.lines.Line.{Line}
 use Rattle.salt_model.specs.Lines.{is_line_byte}
 use Rattle.salt_tokens.specs.Bytes.{is_blank, is_digit, is_letter, is_printable, is_word}
-use Rattle.salt_tokens.specs.Pieces.{IsToken, Lexes, Piece, Run, blank, doubled, ended as no_more, token}
+use Rattle.salt_tokens.specs.Pieces.{IsToken, Lexes, Piece, EachPasses, blank, doubled, ended as no_more, token}
 use Rattle.salt_tokens.specs.Spelling.{sign_spelling}
 use Rattle.salt_tokens.specs.declared.sign.Sign.{Sign}
 use Rattle.salt_tokens.specs.declared.token.TokenKind.{TokenKind}
@@ -28,11 +28,11 @@ word_byte b h = grind (arith, nat_tests)
 printable_byte : (b : ℕ) → is_printable b ≡ true → is_line_byte b ≡ true
 printable_byte b h = grind (arith, nat_tests)
 
-run_bytes : (p : ℕ → Bool) → ((b : ℕ) → p b ≡ true → is_line_byte b ≡ true) → (bs : List ℕ) → Run p bs → list_all is_line_byte bs ≡ true
+run_bytes : (p : ℕ → Bool) → ((b : ℕ) → p b ≡ true → is_line_byte b ≡ true) → (bs : List ℕ) → EachPasses p bs → list_all is_line_byte bs ≡ true
 run_bytes p passes [] r = refl
 run_bytes p passes (b ∷ bs) r = rw (passes b r.0) (run_bytes p passes bs r.1)
 
-doubled_bytes : (content : List ℕ) → Run is_printable content → list_all is_line_byte (doubled content) ≡ true
+doubled_bytes : (content : List ℕ) → EachPasses is_printable content → list_all is_line_byte (doubled content) ≡ true
 doubled_bytes [] r = refl
 doubled_bytes (b ∷ bs) r = go (eqb b 39) (doubled_bytes bs r.1)
   where

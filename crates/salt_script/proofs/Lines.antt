@@ -31,7 +31,7 @@ use Rattle.salt_script.specs.Answers.{GivesOrLimit}
 use Rattle.salt_script.specs.Forms.{Begins, a_program, a_table, a_turn, all_turns, an_act, go_begins, line_begins, name_begins, no_line, show_begins}
 use Rattle.salt_script.specs.Forms.{pairs as begins_pairs, showing_bases, showing_locks}
 use Rattle.salt_script.specs.Literals.{pairs_at, pairs_passed}
-use Rattle.salt_script.specs.Spelled.{DeepAct, DeepLine, ShallowAct, ShallowLine, act_limit, line_of}
+use Rattle.salt_script.specs.Spelled.{DeepAct, DeepLine, ShallowAct, ShallowLine, act_limit, line_arming}
 use Rattle.salt_script.specs.declared.pairs.Armed.{Armed}
 use Rattle.salt_script.specs.declared.pairs.Armed.TheVariants.{Stops, Twists}
 use Rattle.salt_values.specs.declared.limits.TheConstants.{SESSION_MOST}
@@ -355,19 +355,19 @@ no_pairs _ us armed e h _ (form.of_net {ts = ws} {pairs = xs} d) =
     let same : ws ≡ us = cc e in h xs (subst (λ (z : Symbols). Several IsStop z xs) same d)
 
 abbrev pub pairs_line : Armed → Result (Result (List (ℕ × ℕ)) LimitName) ParseErr → Result Line ParseErr
-pairs_line armed (Ok (Ok xs)) = Ok (line_of armed xs)
+pairs_line armed (Ok (Ok xs)) = Ok (line_arming armed xs)
 pairs_line armed (Ok (Err l)) = Err (Limit l)
 pairs_line armed (Err e) = Err e
 
 of_pairs : {I D : Symbols → Expr → Type 0} (ts us : Symbols) (armed : Armed) (xs : List (ℕ × ℕ)) → line_begins ts ≡ begins_pairs armed us →
-    Several IsStop us xs → IsLine I D ts (line_of armed xs)
-of_pairs {I} {D} ts us armed xs e d = subst (λ (z : Symbols). IsLine I D z (line_of armed xs)) (sym (at_pairs ts us armed e)) (spelled armed)
+    Several IsStop us xs → IsLine I D ts (line_arming armed xs)
+of_pairs {I} {D} ts us armed xs e d = subst (λ (z : Symbols). IsLine I D z (line_arming armed xs)) (sym (at_pairs ts us armed e)) (spelled armed)
   where
-    spelled : (a : Armed) → IsLine I D (arming a ∷ us) (line_of a xs)
+    spelled : (a : Armed) → IsLine I D (arming a ∷ us) (line_arming a xs)
     spelled Stops = form.of_crash d
     spelled Twists = form.of_net d
 
-pairs_limit : (armed : Armed) (xs : List (ℕ × ℕ)) → line_limit (line_of armed xs) ≡ pairs_passed armed xs
+pairs_limit : (armed : Armed) (xs : List (ℕ × ℕ)) → line_limit (line_arming armed xs) ≡ pairs_passed armed xs
 unfolding line_limit
 pairs_limit Stops xs = or_none (pairs_passed Stops xs)
 pairs_limit Twists xs = or_none (pairs_passed Twists xs)
@@ -376,7 +376,7 @@ pairs_settle_at : (ts : Symbols) (u : Symbol) (us : Symbols) (armed : Armed) (r 
     line_begins ts ≡ begins_pairs armed (u ∷ us) → GivesOrLimit (pairs_passed armed) r (pairs_at (u ∷ us)) → IsLineSettled ts (pairs_line armed r)
 pairs_settle_at ts u us armed (Ok (Ok xs)) e h = (of_pairs ts (u ∷ us) armed xs e (pairs_sound u us xs h.0), pairs_limit armed xs ∙ h.1)
 pairs_settle_at ts u us armed (Ok (Err l)) e h =
-    (line_of armed h.0, of_pairs ts (u ∷ us) armed h.0 e (pairs_sound u us h.0 h.1), by_tree (pairs_limit armed h.0 ∙ h.2))
+    (line_arming armed h.0, of_pairs ts (u ∷ us) armed h.0 e (pairs_sound u us h.0 h.1), by_tree (pairs_limit armed h.0 ∙ h.2))
 pairs_settle_at ts u us armed (Err Memory) e h = tt
 pairs_settle_at ts u us armed (Err Syntax) e h =
     no_pairs ts (u ∷ us) armed e (λ xs d. (let both : Some xs ≡ None = sym (pairs_complete d) ∙ h in absurd cc))

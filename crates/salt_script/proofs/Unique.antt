@@ -19,7 +19,7 @@ use Rattle.salt_script.proofs.Lines.{pairs_complete}
 use Rattle.salt_script.specs.Forms.{ActBegins, Begins, a_call, a_program, a_statement, a_table, a_turn, a_word, act_begins, all_turns, an_act, line_begins}
 use Rattle.salt_script.specs.Forms.{no_line, pairs as begins_pairs, showing_bases, showing_locks}
 use Rattle.salt_script.specs.Literals.{pairs_at}
-use Rattle.salt_script.specs.Spelled.{DeepAct, DeepLine, call_at, line_of as armed_line}
+use Rattle.salt_script.specs.Spelled.{DeepAct, DeepLine, call_at, line_arming as armed_line}
 use Rattle.salt_tokens.specs.Symbols.{Symbols}
 use Rattle.salt_values.specs.declared.value.Value.{Value}
 

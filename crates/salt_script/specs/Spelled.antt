@@ -43,6 +43,6 @@ abbrev pub call_passed : List ℕ × List Value → Option LimitName
 call_passed call = option_or (name_passed call.0) (first_in value_passed call.1)
 
 -- the line that arms these pairs
-abbrev pub line_of : Armed → List (ℕ × ℕ) → Line
-line_of Stops pairs = Crash pairs
-line_of Twists pairs = Net pairs
+abbrev pub line_arming : Armed → List (ℕ × ℕ) → Line
+line_arming Stops pairs = Crash pairs
+line_arming Twists pairs = Net pairs

@@ -14,7 +14,7 @@ ghost use Rattle.salt_parse.specs.Settling.{ArePrintable, Settles};
 ghost use Rattle.salt_parse.specs.declared.error.ParseErr.TheVariants.{Limit, Syntax};
 ghost use Rattle.salt_script.specs.Answers.{no_line, read_err};
 ghost use Rattle.salt_script.specs.Forms.{a_turn, an_act, line_begins, pairs as begins_pairs};
-ghost use Rattle.salt_script.specs.Spelled.{DeepLine, ShallowLine, line_of};
+ghost use Rattle.salt_script.specs.Spelled.{DeepLine, ShallowLine, line_arming};
 ghost use Rattle.salt_script.specs.declared.error.ReadErr.TheVariants.{Refused};
 ghost use Rattle.salt_tokens.specs.Bytes.{is_blank};
 ghost use Rattle.salt_tokens.specs.Symbols.{Symbols, symbols_in};
@@ -86,7 +86,7 @@ fn turn_line(base: Id) -> Result<Line, ParseErr>
 
 /// The line that arms these pairs.
 fn line_of(armed: Armed, pairs: Pairs) -> Line
-    ensures { result ≡ line_of armed pairs }
+    ensures { result ≡ line_arming armed pairs }
 {
     match armed {
         Armed::Stops => Line::Crash(pairs),

@@ -5,7 +5,7 @@ use Rattle.salt_stands.proofs.Coordinators.{coordinator_is_at}
 use Rattle.salt_stands.specs.Coordinator.{Coordinator, Logs, decided_for, device_of}
 use Rattle.salt_stands.specs.Partition.{judge_part, pages_device, part_at, part_device, part_tables, rows_of_pages}
 use Rattle.salt_stands.specs.PartitionLog.{PartitionLog}
-use Rattle.salt_stands.specs.Pieces.{CoordinatorStands, PartStands, PartView, listed, tables_of}
+use Rattle.salt_stands.specs.Pieces.{CoordinatorStands, PartStands, PartView, listed, tables_at_part}
 use Rattle.salt_stands.specs.Reading.{Reading}
 use Rattle.salt_stands.specs.Stands.{found_with, stands_in, with_parts}
 use Rattle.salt_stands.specs.Words.{each_from, if_sound, or_fault}
@@ -21,7 +21,7 @@ each_listed f g p (suc n) h =
     ∙ ap (if_sound (λ xs. Ok (g p ∷ xs))) (each_listed f g (suc p) n (λ k low high. h k (omega (arith, low)) (omega (arith, high))))
 
 module _ {D : Type 0} (r : Reading D) where
-  pub part_is_at : (c : Coordinator D) (logs : Logs) (devices : ℕ → List ℕ) (p : ℕ) (v : PartView) → PartStands r c logs devices p v → part_at r c logs devices p ≡ Ok (tables_of c p v)
+  pub part_is_at : (c : Coordinator D) (logs : Logs) (devices : ℕ → List ℕ) (p : ℕ) (v : PartView) → PartStands r c logs devices p v → part_at r c logs devices p ≡ Ok (tables_at_part c p v)
   part_is_at c logs devices p v h =
       let us = decided_for p c.log.told.decided in
       ap (judge_part r c p (devices (pages_device p))) h.counts

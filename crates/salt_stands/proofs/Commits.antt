@@ -13,12 +13,12 @@ use Rattle.salt_stands.proofs.Joined.{joined_changes}
 use Rattle.salt_stands.proofs.Pairs.{pair_same}
 use Rattle.salt_stands.proofs.PlacedParts.{placed_part}
 use Rattle.salt_stands.proofs.Prepared.{decided_stands, decided_tables, prepared_stands, prepared_tables, undecided_stands, undecided_tables}
-use Rattle.salt_stands.specs.Commits.{IsDecided, IsUndecided, MayCommit, PagesSame, PartMore, PartSame, Spelled, Stood, each_tables, found_after, found_of, parts_of, share, view_after}
+use Rattle.salt_stands.specs.Commits.{IsDecided, IsUndecided, MayCommit, PagesSame, PartMore, PartSame, Spelled, Stood, each_tables, found_after, found_of, partition_count, share, view_after}
 use Rattle.salt_stands.specs.Coordinator.{Coordinator, Logs}
 use Rattle.salt_stands.specs.CoordinatorLog.{coordinator_generation, coordinator_in}
 use Rattle.salt_stands.specs.Partition.{part_at, part_device}
 use Rattle.salt_stands.specs.PartitionLog.{partition_generation, partition_in}
-use Rattle.salt_stands.specs.Pieces.{CoordinatorStands, PartStands, PartView, listed, tables_of, with_decision, with_prepared_unit}
+use Rattle.salt_stands.specs.Pieces.{CoordinatorStands, PartStands, PartView, listed, tables_at_part, with_decision, with_prepared_unit}
 use Rattle.salt_stands.specs.Placed.{changes_at}
 use Rattle.salt_stands.specs.Reading.{Reading}
 use Rattle.salt_stands.specs.Stands.{stands_in}
@@ -43,11 +43,11 @@ module _ {D : Type 0} (r : Reading D) where
 
   module _ (c : Coordinator D) (v : ℕ → PartView) (which : WhichLog) (cs : List Change) (d : Decision) (m : Move) (open' : List Cont) (decision : List ℕ) (prepared : ℕ → List ℕ)
       (may : MayCommit r c v cs d m open') (spelled : Spelled c v cs d decision prepared) (old new : Logs) (before after : ℕ → List ℕ) (h : Stood r old before which c v) (pages : PagesSame c v before after) where
-    with_entry : (p : ℕ) → p < parts_of c → PartMore old new p (v p).which (prepared p) → PartStands r c new after p (with_prepared_unit (v p) (share c d.unit cs p))
+    with_entry : (p : ℕ) → p < partition_count c → PartMore old new p (v p).which (prepared p) → PartStands r c new after p (with_prepared_unit (v p) (share c d.unit cs p))
     with_entry p low more = pages_elsewhere r c new before after p (with_prepared_unit (v p) (share c d.unit cs p))
         (prepared_stands r c old new before p (v p) (prepared p) (share c d.unit cs p) (h.part p low) more.more more.other (spelled.part p low) (may.sound p low)) (pages p low)
 
-    without_entry : (p : ℕ) → p < parts_of c → PartSame old new p → PartStands r c new after p (v p)
+    without_entry : (p : ℕ) → p < partition_count c → PartSame old new p → PartStands r c new after p (v p)
     without_entry p low same = pages_elsewhere r c new before after p (v p) (part_same c old new before p (v p) (h.part p low) same) (pages p low)
 
     -- UNDECIDED: what stood before
@@ -57,11 +57,11 @@ module _ {D : Type 0} (r : Reading D) where
         coordinator : CoordinatorStands r new which c
         coordinator = record { counts = pair_same coordinator_generation coordinator_in 0 old new u.a u.b ∙ h.coordinator.counts; is = h.coordinator.is }
 
-        each : (p : ℕ) → p < parts_of c → PartSame old new p ⊎ PartMore old new p (v p).which (prepared p) → part_at r c new after p ≡ Ok (each_tables c v p)
+        each : (p : ℕ) → p < partition_count c → PartSame old new p ⊎ PartMore old new p (v p).which (prepared p) → part_at r c new after p ≡ Ok (each_tables c v p)
         each p low (inl same) = part_is_at r c new after p (v p) (without_entry p low same)
         each p low (inr more) = part_is_at r c new after p (with_prepared_unit (v p) (share c d.unit cs p)) (with_entry p low more) ∙ ap Ok (prepared_tables r c p (v p) (share c d.unit cs p) (may.new p low))
 
-        part : (p : ℕ) → p < parts_of c → part_at r c new after p ≡ Ok (each_tables c v p)
+        part : (p : ℕ) → p < partition_count c → part_at r c new after p ≡ Ok (each_tables c v p)
         part p low = each p low (u.part p low)
 
     -- DECIDED: the store stands with the unit
@@ -71,15 +71,15 @@ module _ {D : Type 0} (r : Reading D) where
       part = λ p low. each p low (has_bit d.mask p) refl;
     }
       where
-        each : (p : ℕ) → p < parts_of c → (b : Bool) → has_bit d.mask p ≡ b → PartStands r (with_decision c d open') new after p (if b then with_prepared_unit (v p) (share c d.unit cs p) else v p)
+        each : (p : ℕ) → p < partition_count c → (b : Bool) → has_bit d.mask p ≡ b → PartStands r (with_decision c d open') new after p (if b then with_prepared_unit (v p) (share c d.unit cs p) else v p)
         each p low true bit = decided_stands r c new after p (with_prepared_unit (v p) (share c d.unit cs p)) d open' (with_entry p low (x.with_bit p low bit)) bit (prepared_last (v p).log.prepared (share c d.unit cs p))
         each p low false bit = undecided_stands r c new after p (v p) d open' (without_entry p low (x.without p low bit)) bit
 
     -- each partition's tables with the unit's changes of its places
-    tables_with : (p : ℕ) → p < parts_of c → each_tables (with_decision c d open') (view_after c v cs d) p ≡ with_changes (changes_at c.log.header.shape p cs) (each_tables c v p)
+    tables_with : (p : ℕ) → p < partition_count c → each_tables (with_decision c d open') (view_after c v cs d) p ≡ with_changes (changes_at c.log.header.shape p cs) (each_tables c v p)
     tables_with p low = by (has_bit d.mask p) refl
       where
-        by : (b : Bool) → has_bit d.mask p ≡ b → tables_of (with_decision c d open') p (if b then with_prepared_unit (v p) (share c d.unit cs p) else v p) ≡ with_changes (changes_at c.log.header.shape p cs) (each_tables c v p)
+        by : (b : Bool) → has_bit d.mask p ≡ b → tables_at_part (with_decision c d open') p (if b then with_prepared_unit (v p) (share c d.unit cs p) else v p) ≡ with_changes (changes_at c.log.header.shape p cs) (each_tables c v p)
         by true bit = decided_tables r c p (v p) (share c d.unit cs p) d open' bit refl (may.fresh p low) (may.new p low)
         by false bit = undecided_tables r c p (v p) d open' bit ∙ sym (ap (λ ds. with_changes ds (each_tables c v p)) (may.bits p low bit) ∙ no_changes (each_tables c v p))
 
@@ -88,9 +88,9 @@ module _ {D : Type 0} (r : Reading D) where
     found_decided =
         let shape = c.log.header.shape in
         let U : ℕ → Tables = each_tables (with_decision c d open') (view_after c v cs d) in
-        let all : joined (listed U 0 (parts_of c)) ≡ with_changes cs (joined (listed (each_tables c v) 0 (parts_of c))) =
-        ap joined (listed_same U (λ p. with_changes (changes_at shape p cs) (each_tables c v p)) 0 (parts_of c) (λ p low. tables_with p (omega (arith, low))))
-        ∙ joined_changes shape (each_tables c v) (parts_of c) cs (λ p low. placed_part r c old before p (v p) (h.part p low)) may.below in
+        let all : joined (listed U 0 (partition_count c)) ≡ with_changes cs (joined (listed (each_tables c v) 0 (partition_count c))) =
+        ap joined (listed_same U (λ p. with_changes (changes_at shape p cs) (each_tables c v p)) 0 (partition_count c) (λ p low. tables_with p (omega (arith, low))))
+        ∙ joined_changes shape (each_tables c v) (partition_count c) cs (λ p low. placed_part r c old before p (v p) (h.part p low)) may.below in
         λ i. record (found_of c v) { kept = record (found_of c v).kept { decisions = may.number i; tables = all i; conts = open' } }
 
     pub decided_stands_for : (asked : Shape) → IsDecided c v which old new d.mask decision prepared → stands_in r new after asked ≡ Ok (found_after c v cs d open')

@@ -7,10 +7,10 @@ use Rattle.salt_bytes.specs.Generations.{WhichLog}
 use Rattle.salt_stands.proofs.Booleans.{all_push, all_weaker, join, left, right}
 use Rattle.salt_stands.proofs.CoordinatorLogs.{coordinator_push}
 use Rattle.salt_stands.proofs.Pairs.{pair_push}
-use Rattle.salt_stands.specs.Coordinator.{Coordinator, Logs, are_sound, coordinator_at, coordinator_of, coordinator_pair, define, defined_by, device_of, is_sound_cont, is_sound_decision, judge_coordinator}
+use Rattle.salt_stands.specs.Coordinator.{Coordinator, Logs, are_sound, coordinator_at, coordinator_of, coordinator_pair, define, definitions_read, device_of, is_sound_cont, is_sound_decision, judge_coordinator}
 use Rattle.salt_stands.specs.CoordinatorLog.{CoordinatorLog, Told, coordinator_generation, coordinator_in, tell}
 use Rattle.salt_stands.specs.OpenConts.{conts_of_move, do_rise, make_move, move_on, moved}
-use Rattle.salt_stands.specs.Pieces.{CoordinatorStands, Grows, HasOneMore, IsCoordinator, IsSameAt, other_log, with_boot, with_decision, with_definition}
+use Rattle.salt_stands.specs.Pieces.{CoordinatorStands, StaysFitting, HasOneMore, IsCoordinator, IsSameAt, other_log, with_boot, with_decision, with_definition}
 use Rattle.salt_stands.specs.Reading.{Reading}
 use Rattle.salt_stands.specs.Words.{or_fault}
 use Rattle.std.proofs.Common.{List, Ok, Option, Some, [], ap, arith, false, refl, subst, sym, true, ℕ, ◌+◌, ◌++◌, ◌≡◌, ◌≤◌, ◌∙◌, ◌∷◌}
@@ -27,7 +27,7 @@ moved_push format cs [] d = refl
 moved_push format cs (e ∷ ds) d = moved_push format (move_on format e cs) ds d
 
 module _ {D : Type 0} (r : Reading D) where
-  defined_push : (o : Option (List D)) (ts : List NumberedText) (t : NumberedText) → defined_by r o (ts ++ t ∷ []) ≡ define r t (defined_by r o ts)
+  defined_push : (o : Option (List D)) (ts : List NumberedText) (t : NumberedText) → definitions_read r o (ts ++ t ∷ []) ≡ define r t (definitions_read r o ts)
   defined_push o [] t = refl
   defined_push o (s ∷ ts) t = defined_push (define r s o) ts t
 
@@ -60,13 +60,13 @@ module _ {D : Type 0} (r : Reading D) where
       (at_most_later d.unit.boot s.boot t.boot b (left (nat_le d.unit.boot s.boot) (list_all (is_sound_cont r ds s) named) e))
       (all_weaker (is_sound_cont r ds s) (is_sound_cont r ds t) (later_cont ds s t b n) named (right (nat_le d.unit.boot s.boot) (list_all (is_sound_cont r ds s) named) e))
 
-  more_cont : (ds : List D) (d : D) (t : Told) → Grows r ds d → (c : Cont) → is_sound_cont r ds t c ≡ true → is_sound_cont r (ds ++ d ∷ []) t c ≡ true
+  more_cont : (ds : List D) (d : D) (t : Told) → StaysFitting r ds d → (c : Cont) → is_sound_cont r ds t c ≡ true → is_sound_cont r (ds ++ d ∷ []) t c ≡ true
   more_cont ds d t grows c e =
       join (r.fits_cont (ds ++ d ∷ []) c) (nat_le c.base.boot t.boot && nat_le c.accepted t.decisions)
       (grows.cont c (left (r.fits_cont ds c) (nat_le c.base.boot t.boot && nat_le c.accepted t.decisions) e))
       (right (r.fits_cont ds c) (nat_le c.base.boot t.boot && nat_le c.accepted t.decisions) e)
 
-  more_decision : (ds : List D) (x : D) (t : Told) (format : ℕ) → Grows r ds x → (d : Decision) → is_sound_decision r ds t format d ≡ true → is_sound_decision r (ds ++ x ∷ []) t format d ≡ true
+  more_decision : (ds : List D) (x : D) (t : Told) (format : ℕ) → StaysFitting r ds x → (d : Decision) → is_sound_decision r ds t format d ≡ true → is_sound_decision r (ds ++ x ∷ []) t format d ≡ true
   more_decision ds x t format grows d e =
       let named = conts_of_move (move_in format d.move) in
       join (nat_le d.unit.boot t.boot) (list_all (is_sound_cont r (ds ++ x ∷ []) t) named)
@@ -138,7 +138,7 @@ module _ {D : Type 0} (r : Reading D) where
   pub definition_stands : (old new : Logs) (which : WhichLog) (c : Coordinator D) (payload : List ℕ) (t : NumberedText) (d : D)
       → CoordinatorStands r old which c → HasOneMore old new (device_of 0 which) payload → IsSameAt (device_of 0 (other_log which)) old new
       → entry_in c.log.header.shape.parts payload ≡ Some (Defines t) → t.number ≡ c.log.told.decisions + 1
-      → r.read t.text ≡ Some d → r.is_refused c.definitions d ≡ false → Grows r c.definitions d
+      → r.read t.text ≡ Some d → r.is_refused c.definitions d ≡ false → StaysFitting r c.definitions d
       → CoordinatorStands r new which (with_definition c t d)
   definition_stands old new which c payload t d h one same reads number is_text accepted grows =
       let now = (with_definition c t d).log.told in

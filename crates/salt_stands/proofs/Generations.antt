@@ -14,7 +14,7 @@ use Rattle.salt_stands.specs.CoordinatorLog.{coordinator_generation, coordinator
 use Rattle.salt_stands.specs.OpenConts.{conts_of_move}
 use Rattle.salt_stands.specs.Partition.{are_sound_rows, is_format_under, is_sound_prepared, pages_device, part_device, part_tables, rows_from, rows_of_pages}
 use Rattle.salt_stands.specs.PartitionLog.{own_log, partition_generation, partition_in, with_prepared}
-use Rattle.salt_stands.specs.Pieces.{CoordinatorStands, IsSameAt, PartStands, PartView, ReadsSamePages, checkpointed, next_header, next_part_header, other_log, tables_of, with_snapshot}
+use Rattle.salt_stands.specs.Pieces.{CoordinatorStands, IsSameAt, PartStands, PartView, ReadsSamePages, checkpointed, next_header, next_part_header, other_log, tables_at_part, with_snapshot}
 use Rattle.salt_stands.specs.Reading.{Reading}
 use Rattle.salt_stands.specs.Tables.{change_of_row}
 use Rattle.std.proofs.Common.{Bool, List, Option, Some, [], ap, arith, false, refl, sym, true, ℕ, ◌+◌, ◌++◌, ◌≡◌, ◌∙◌, ◌∷◌}
@@ -114,7 +114,7 @@ module _ {D : Type 0} (r : Reading D) where
       }
 
   pub checkpoint_tables : (c : Coordinator D) (p : ℕ) (v : PartView) (h : PartitionHeader) (rows : List Change)
-      → with_changes rows no_rows ≡ tables_of c p v → tables_of c p (checkpointed v h rows) ≡ tables_of c p v
+      → with_changes rows no_rows ≡ tables_at_part c p v → tables_at_part c p (checkpointed v h rows) ≡ tables_at_part c p v
   checkpoint_tables c p v h rows e = ap (λ cs. with_changes cs no_rows) (append-nil rows) ∙ e
 
   -- THE COORDINATOR
@@ -156,7 +156,7 @@ module _ {D : Type 0} (r : Reading D) where
       either_right true = refl
       either_right false = refl
 
-  pub snapshot_tables : (c : Coordinator D) (p : ℕ) (v : PartView) (format : ℕ) → v.log.prepared ≡ [] → tables_of (with_snapshot c format) p v ≡ tables_of c p v
+  pub snapshot_tables : (c : Coordinator D) (p : ℕ) (v : PartView) (format : ℕ) → v.log.prepared ≡ [] → tables_at_part (with_snapshot c format) p v ≡ tables_at_part c p v
   snapshot_tables c p v format none =
       ap (λ ps. with_changes (v.rows ++ Rattle.salt_stands.specs.Partition.decided_changes [] ps) no_rows) none
       ∙ sym (ap (λ ps. with_changes (v.rows ++ Rattle.salt_stands.specs.Partition.decided_changes (decided_for p c.log.told.decided) ps) no_rows) none)

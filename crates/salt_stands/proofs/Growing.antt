@@ -2,9 +2,9 @@
 use Rattle.salt_ast.specs.ProgramJudgement.{program_named}
 use Rattle.salt_ast.specs.declared.programs.ProgramDef.{ProgramDef}
 use Rattle.salt_ast.specs.declared.trees.TableDef.{TableDef}
-use Rattle.salt_stands.specs.Fitting.{definitions_reading, is_cont_of, is_key_of, is_row_of, programs_of, tables_of}
+use Rattle.salt_stands.specs.Fitting.{definitions_reading, is_cont_of, is_key_of, is_row_of, programs_defined, tables_defined}
 use Rattle.salt_model.specs.Kept.{Definition, program_of_definition, table_of_definition}
-use Rattle.salt_stands.specs.Pieces.{Grows}
+use Rattle.salt_stands.specs.Pieces.{StaysFitting}
 use Rattle.salt_tokens.specs.Spelling.{same_bytes}
 use Rattle.salt_values.specs.declared.cont.Cont.{Cont}
 use Rattle.salt_values.specs.declared.value.Value.{Value}
@@ -35,34 +35,34 @@ named-append (q ∷ ps) qs name p e = by (same_bytes name q.name) (named-append 
     by false ih h = ih h
 
 module _ (read : List ℕ → Option Definition) (ds : List Definition) (d : Definition) where
-  tables_more : tables_of (ds ++ d ∷ []) ≡ tables_of ds ++ tables_of (d ∷ [])
+  tables_more : tables_defined (ds ++ d ∷ []) ≡ tables_defined ds ++ tables_defined (d ∷ [])
   tables_more = filter_map-append table_of_definition ds (d ∷ [])
 
-  programs_more : programs_of (ds ++ d ∷ []) ≡ programs_of ds ++ programs_of (d ∷ [])
+  programs_more : programs_defined (ds ++ d ∷ []) ≡ programs_defined ds ++ programs_defined (d ∷ [])
   programs_more = filter_map-append program_of_definition ds (d ∷ [])
 
-  table_stays : (n : ℕ) (t : TableDef) → slice_get (tables_of ds) n ≡ Some t → slice_get (tables_of (ds ++ d ∷ [])) n ≡ Some t
-  table_stays n t e = ap (λ ts. slice_get ts n) tables_more ∙ at_place-append (tables_of ds) (tables_of (d ∷ [])) n t e
+  table_stays : (n : ℕ) (t : TableDef) → slice_get (tables_defined ds) n ≡ Some t → slice_get (tables_defined (ds ++ d ∷ [])) n ≡ Some t
+  table_stays n t e = ap (λ ts. slice_get ts n) tables_more ∙ at_place-append (tables_defined ds) (tables_defined (d ∷ [])) n t e
 
-  program_stays : (name : List ℕ) (p : ProgramDef) → program_named (programs_of ds) name ≡ Some p → program_named (programs_of (ds ++ d ∷ [])) name ≡ Some p
-  program_stays name p e = ap (λ ps. program_named ps name) programs_more ∙ named-append (programs_of ds) (programs_of (d ∷ [])) name p e
+  program_stays : (name : List ℕ) (p : ProgramDef) → program_named (programs_defined ds) name ≡ Some p → program_named (programs_defined (ds ++ d ∷ [])) name ≡ Some p
+  program_stays name p e = ap (λ ps. program_named ps name) programs_more ∙ named-append (programs_defined ds) (programs_defined (d ∷ [])) name p e
 
-  row_fits : (n : ℕ) (row : List Value) (o : Option TableDef) → slice_get (tables_of ds) n ≡ o → is_row_of o row ≡ true → is_row_of (slice_get (tables_of (ds ++ d ∷ [])) n) row ≡ true
+  row_fits : (n : ℕ) (row : List Value) (o : Option TableDef) → slice_get (tables_defined ds) n ≡ o → is_row_of o row ≡ true → is_row_of (slice_get (tables_defined (ds ++ d ∷ [])) n) row ≡ true
   row_fits n row None is e = absurd cc
   row_fits n row (Some t) is e = ap (λ o. is_row_of o row) (table_stays n t is) ∙ e
 
-  key_fits : (n : ℕ) (key : Value) (o : Option TableDef) → slice_get (tables_of ds) n ≡ o → is_key_of o key ≡ true → is_key_of (slice_get (tables_of (ds ++ d ∷ [])) n) key ≡ true
+  key_fits : (n : ℕ) (key : Value) (o : Option TableDef) → slice_get (tables_defined ds) n ≡ o → is_key_of o key ≡ true → is_key_of (slice_get (tables_defined (ds ++ d ∷ [])) n) key ≡ true
   key_fits n key None is e = absurd cc
   key_fits n key (Some t) is e = ap (λ o. is_key_of o key) (table_stays n t is) ∙ e
 
-  cont_fits : (c : Cont) (o : Option ProgramDef) → program_named (programs_of ds) c.program ≡ o → is_cont_of o c ≡ true → is_cont_of (program_named (programs_of (ds ++ d ∷ [])) c.program) c ≡ true
+  cont_fits : (c : Cont) (o : Option ProgramDef) → program_named (programs_defined ds) c.program ≡ o → is_cont_of o c ≡ true → is_cont_of (program_named (programs_defined (ds ++ d ∷ [])) c.program) c ≡ true
   cont_fits c None is e = absurd cc
   cont_fits c (Some p) is e = ap (λ o. is_cont_of o c) (program_stays c.program p is) ∙ e
 
-  pub grows : Grows (definitions_reading read) ds d
+  pub grows : StaysFitting (definitions_reading read) ds d
   grows = record {
-    tables = omega (arith, ap length tables_more, length-append (tables_of ds) (tables_of (d ∷ [])));
-    row = λ n row few e. row_fits n row (slice_get (tables_of ds) n) refl e;
-    key = λ n key few e. key_fits n key (slice_get (tables_of ds) n) refl e;
-    cont = λ c e. cont_fits c (program_named (programs_of ds) c.program) refl e;
+    tables = omega (arith, ap length tables_more, length-append (tables_defined ds) (tables_defined (d ∷ [])));
+    row = λ n row few e. row_fits n row (slice_get (tables_defined ds) n) refl e;
+    key = λ n key few e. key_fits n key (slice_get (tables_defined ds) n) refl e;
+    cont = λ c e. cont_fits c (program_named (programs_defined ds) c.program) refl e;
   }

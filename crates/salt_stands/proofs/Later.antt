@@ -12,7 +12,7 @@ use Rattle.salt_stands.proofs.Prepared.{sound_format, sound_log, sound_there, so
 use Rattle.salt_stands.specs.Coordinator.{Coordinator, Logs}
 use Rattle.salt_stands.specs.Partition.{are_distinct, are_sound_rows, is_sound_change, is_sound_prepared, is_sound_to, pages_device, part_of_key, rows_from, rows_of_pages}
 use Rattle.salt_stands.specs.PartitionLog.{PartitionLog}
-use Rattle.salt_stands.specs.Pieces.{Grows, PartStands, PartView, with_boot, with_definition}
+use Rattle.salt_stands.specs.Pieces.{StaysFitting, PartStands, PartView, with_boot, with_definition}
 use Rattle.salt_stands.specs.Reading.{Reading}
 use Rattle.salt_stands.specs.Tables.{change_of_row}
 use Rattle.std.proofs.Common.{Bool, List, None, Option, Some, [], ap, arith, false, refl, true, ℕ, ◌+◌, ◌++◌, ◌≡◌, ◌≤◌, ◌∙◌, ◌∷◌}
@@ -56,7 +56,7 @@ module _ {D : Type 0} (r : Reading D) where
           (at_most_later x.unit.boot c.log.told.boot (c.log.told.boot + 1) (omega arith) (left (nat_le x.unit.boot c.log.told.boot) (list_all (is_sound_change r c p) x.changes) e))
           (right (nat_le x.unit.boot c.log.told.boot) (list_all (is_sound_change r c p) x.changes) e)
 
-  pub definition_part : (c : Coordinator D) (logs : Logs) (devices : ℕ → List ℕ) (p : ℕ) (v : PartView) (t : NumberedText) (d : D) → Grows r c.definitions d → PartStands r c logs devices p v → PartStands r (with_definition c t d) logs devices p v
+  pub definition_part : (c : Coordinator D) (logs : Logs) (devices : ℕ → List ℕ) (p : ℕ) (v : PartView) (t : NumberedText) (d : D) → StaysFitting r c.definitions d → PartStands r c logs devices p v → PartStands r (with_definition c t d) logs devices p v
   definition_part c logs devices p v t d grows h = record {
     counts = h.counts;
     sound = sound_log r (with_definition c t d) p v.log (sound_format r c p v.log h.sound) (sound_there r c p v.log h.sound)

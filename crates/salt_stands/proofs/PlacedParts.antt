@@ -13,7 +13,7 @@ use Rattle.salt_stands.proofs.Prepared.{sound_units}
 use Rattle.salt_stands.specs.Coordinator.{Coordinator, Logs, decided_for}
 use Rattle.salt_stands.specs.Partition.{are_distinct, are_sound_rows, changes_if, decided_changes, is_sound_change, is_sound_prepared, is_sound_to, pages_device, part_of_key, rows_from, rows_of_pages}
 use Rattle.salt_stands.specs.PartitionLog.{PartitionLog}
-use Rattle.salt_stands.specs.Pieces.{PartStands, PartView, tables_of}
+use Rattle.salt_stands.specs.Pieces.{PartStands, PartView, tables_at_part}
 use Rattle.salt_stands.specs.Placed.{IsPlaced}
 use Rattle.salt_stands.specs.Reading.{Reading}
 use Rattle.salt_stands.specs.Tables.{change_of_row}
@@ -70,7 +70,7 @@ module _ {D : Type 0} (r : Reading D) (c : Coordinator D) (p : ℕ) where
       by None e = cc
       by (Some rs) e = chosen (map change_of_row rs) (are_sound_rows r c p (map change_of_row rs)) refl e
 
-pub placed_part : {D : Type 0} (r : Reading D) (c : Coordinator D) (logs : Logs) (devices : ℕ → List ℕ) (p : ℕ) (v : PartView) → PartStands r c logs devices p v → IsPlaced c.log.header.shape p (tables_of c p v)
+pub placed_part : {D : Type 0} (r : Reading D) (c : Coordinator D) (logs : Logs) (devices : ℕ → List ℕ) (p : ℕ) (v : PartView) → PartStands r c logs devices p v → IsPlaced c.log.header.shape p (tables_at_part c p v)
 placed_part r c logs devices p v h =
     let us = decided_for p c.log.told.decided in
     sound_placed r c p (v.rows ++ decided_changes us v.log.prepared) no_rows

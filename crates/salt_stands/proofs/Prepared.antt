@@ -12,7 +12,7 @@ use Rattle.salt_stands.proofs.PartitionLogs.{partition_push}
 use Rattle.salt_stands.specs.Coordinator.{Coordinator, Logs, decided_for, device_of}
 use Rattle.salt_stands.specs.Partition.{are_there, changes_if, decided_changes, is_format_under, is_sound_log, is_sound_prepared, part_device, part_tables}
 use Rattle.salt_stands.specs.PartitionLog.{PartitionLog, partition_generation, partition_in}
-use Rattle.salt_stands.specs.Pieces.{HasOneMore, IsSameAt, PartStands, PartView, is_prepared_in, other_log, tables_of, with_decision, with_prepared_unit}
+use Rattle.salt_stands.specs.Pieces.{HasOneMore, IsSameAt, PartStands, PartView, is_prepared_in, other_log, tables_at_part, with_decision, with_prepared_unit}
 use Rattle.salt_stands.specs.Reading.{Reading}
 use Rattle.salt_stands.specs.Words.{has_bit}
 use Rattle.salt_values.specs.declared.id.Id.{Id}
@@ -59,7 +59,7 @@ module _ {D : Type 0} (r : Reading D) where
     rows = h.rows;
   }
 
-  pub prepared_tables : (c : Coordinator D) (p : ℕ) (v : PartView) (x : Prepared) → has_id x.unit (decided_for p c.log.told.decided) ≡ false → tables_of c p (with_prepared_unit v x) ≡ tables_of c p v
+  pub prepared_tables : (c : Coordinator D) (p : ℕ) (v : PartView) (x : Prepared) → has_id x.unit (decided_for p c.log.told.decided) ≡ false → tables_at_part c p (with_prepared_unit v x) ≡ tables_at_part c p v
   prepared_tables c p v x e =
       let us = decided_for p c.log.told.decided in
       ap (λ cs. with_changes (v.rows ++ cs) no_rows) (changes_push us v.log.prepared x ∙ ap (λ b. decided_changes us v.log.prepared ++ changes_if b x.changes) e ∙ append-nil (decided_changes us v.log.prepared))
@@ -88,13 +88,13 @@ module _ {D : Type 0} (r : Reading D) where
     rows = h.rows;
   }
 
-  pub undecided_tables : (c : Coordinator D) (p : ℕ) (v : PartView) (d : Decision) (cs : List Cont) → has_bit d.mask p ≡ false → tables_of (with_decision c d cs) p v ≡ tables_of c p v
+  pub undecided_tables : (c : Coordinator D) (p : ℕ) (v : PartView) (d : Decision) (cs : List Cont) → has_bit d.mask p ≡ false → tables_at_part (with_decision c d cs) p v ≡ tables_at_part c p v
   undecided_tables c p v d cs bit = ap (λ us. part_tables us v.log v.rows) (decided_without p c.log.told.decided d bit)
 
   -- the unit was prepared last, and is told nowhere before: its changes are made
   pub decided_tables : (c : Coordinator D) (p : ℕ) (v : PartView) (x : Prepared) (d : Decision) (cs : List Cont)
       → has_bit d.mask p ≡ true → d.unit ≡ x.unit → is_prepared_in x.unit v.log.prepared ≡ false → has_id x.unit (decided_for p c.log.told.decided) ≡ false
-      → tables_of (with_decision c d cs) p (with_prepared_unit v x) ≡ with_changes x.changes (tables_of c p v)
+      → tables_at_part (with_decision c d cs) p (with_prepared_unit v x) ≡ with_changes x.changes (tables_at_part c p v)
   decided_tables c p v x d cs bit same fresh new =
       let us = decided_for p c.log.told.decided in
       let now : decided_for p (c.log.told.decided ++ d ∷ []) ≡ us ++ x.unit ∷ [] = decided_with p c.log.told.decided d bit ∙ ap (λ u. us ++ u ∷ []) same in

@@ -12,7 +12,7 @@ use Rattle.salt_bytes.specs.Partition.{Prepared, partition_header_in, prepared_i
 use Rattle.salt_stands.specs.Coordinator.{Coordinator, Logs, decided_for, device_of, is_sound_cont}
 use Rattle.salt_stands.specs.OpenConts.{conts_of_move, make_move}
 use Rattle.salt_stands.specs.Partition.{is_format_under, is_sound_prepared, pages_device, part_device, rows_of_pages}
-use Rattle.salt_stands.specs.Pieces.{CoordinatorStands, HasOneMore, IsSameAt, PartStands, PartView, ReadsSamePages, checkpointed, is_prepared_in, listed, next_part_header, other_log, tables_of, with_decision, with_prepared_unit}
+use Rattle.salt_stands.specs.Pieces.{CoordinatorStands, HasOneMore, IsSameAt, PartStands, PartView, ReadsSamePages, checkpointed, is_prepared_in, listed, next_part_header, other_log, tables_at_part, with_decision, with_prepared_unit}
 use Rattle.salt_stands.specs.Placed.{AreOfParts, changes_at}
 use Rattle.salt_stands.specs.Reading.{Reading}
 use Rattle.salt_stands.specs.Stands.{Found, found_with}
@@ -21,20 +21,20 @@ use Rattle.salt_values.specs.declared.id.Id.{Id}
 use Rattle.std.specs.List.{list_all}
 use Rattle.std.specs.Prelude.{List, Some, [], false, if◌then◌else◌, nat_le, true, ℕ, ◌+◌, ◌<◌, ◌≡◌, ◌⊎◌, ◌≤◌, ◌==◌, ◌∷◌}
 
-abbrev pub parts_of : {D : Type 0} → Coordinator D → ℕ
-parts_of c = c.log.header.shape.parts
+abbrev pub partition_count : {D : Type 0} → Coordinator D → ℕ
+partition_count c = c.log.header.shape.parts
 
 -- the coordinator and each partition stand on the devices
 pub record Stood {D : Type 0} (r : Reading D) (logs : Logs) (devices : ℕ → List ℕ) (which : WhichLog) (c : Coordinator D) (v : ℕ → PartView) : Type 0 where
   pub coordinator : CoordinatorStands r logs which c
-  pub part : (p : ℕ) → p < parts_of c → PartStands r c logs devices p (v p)
+  pub part : (p : ℕ) → p < partition_count c → PartStands r c logs devices p (v p)
 
 -- each partition's tables, and what all stand for
 abbrev pub each_tables : {D : Type 0} → Coordinator D → (ℕ → PartView) → ℕ → Tables
-each_tables c v p = tables_of c p (v p)
+each_tables c v p = tables_at_part c p (v p)
 
 abbrev pub found_of : {D : Type 0} → Coordinator D → (ℕ → PartView) → Found D
-found_of c v = found_with c (listed (each_tables c v) 0 (parts_of c))
+found_of c v = found_with c (listed (each_tables c v) 0 (partition_count c))
 
 -- the changes of a unit in partition p, as it prepares them
 abbrev pub share : {D : Type 0} → Coordinator D → Id → List Change → ℕ → Prepared
@@ -45,12 +45,12 @@ pub record MayCommit {D : Type 0} (r : Reading D) (c : Coordinator D) (v : ℕ �
   pub number : d.number ≡ c.log.told.decisions + 1
   pub boot : d.unit.boot ≤ c.log.told.boot
   -- no entry names the unit
-  pub fresh : (p : ℕ) → p < parts_of c → is_prepared_in d.unit (v p).log.prepared ≡ false
-  pub new : (p : ℕ) → p < parts_of c → has_id d.unit (decided_for p c.log.told.decided) ≡ false
+  pub fresh : (p : ℕ) → p < partition_count c → is_prepared_in d.unit (v p).log.prepared ≡ false
+  pub new : (p : ℕ) → p < partition_count c → has_id d.unit (decided_for p c.log.told.decided) ≡ false
   -- each change is of a partition, and each partition that has one has a bit
-  pub below : AreOfParts c.log.header.shape (parts_of c) cs
-  pub bits : (p : ℕ) → p < parts_of c → has_bit d.mask p ≡ false → changes_at c.log.header.shape p cs ≡ []
-  pub sound : (p : ℕ) → p < parts_of c → is_sound_prepared r c p (share c d.unit cs p) ≡ true
+  pub below : AreOfParts c.log.header.shape (partition_count c) cs
+  pub bits : (p : ℕ) → p < partition_count c → has_bit d.mask p ≡ false → changes_at c.log.header.shape p cs ≡ []
+  pub sound : (p : ℕ) → p < partition_count c → is_sound_prepared r c p (share c d.unit cs p) ≡ true
   -- the move goes on from the open continuations
   pub spells : move_in c.log.header.format d.move ≡ Some m
   pub moves : make_move c.conts m ≡ Some open_conts
@@ -58,8 +58,8 @@ pub record MayCommit {D : Type 0} (r : Reading D) (c : Coordinator D) (v : ℕ �
 
 -- what is appended
 pub record Spelled {D : Type 0} (c : Coordinator D) (v : ℕ → PartView) (cs : List Change) (d : Decision) (decision : List ℕ) (prepared : ℕ → List ℕ) : Type 0 where
-  pub coordinator : entry_in (parts_of c) decision ≡ Some (Decides d)
-  pub part : (p : ℕ) → p < parts_of c → prepared_in (has_nulls (v p).log.header.format) (prepared p) ≡ Some (share c d.unit cs p)
+  pub coordinator : entry_in (partition_count c) decision ≡ Some (Decides d)
+  pub part : (p : ℕ) → p < partition_count c → prepared_in (has_nulls (v p).log.header.format) (prepared p) ≡ Some (share c d.unit cs p)
 
 -- partition p's logs are as they were
 pub record PartSame (old new : Logs) (p : ℕ) : Type 0 where
@@ -73,20 +73,20 @@ pub record PartMore (old new : Logs) (p : ℕ) (which : WhichLog) (payload : Lis
 
 -- the pages that count are read as before
 abbrev pub PagesSame : {D : Type 0} → Coordinator D → (ℕ → PartView) → (old new : ℕ → List ℕ) → Type 0
-PagesSame c v old new = (p : ℕ) → p < parts_of c → ReadsSamePages (v p) (old (pages_device p)) (new (pages_device p))
+PagesSame c v old new = (p : ℕ) → p < partition_count c → ReadsSamePages (v p) (old (pages_device p)) (new (pages_device p))
 
 -- BEFORE THE DECISION: each partition may have the unit's entry
 pub record IsUndecided {D : Type 0} (c : Coordinator D) (v : ℕ → PartView) (old new : Logs) (prepared : ℕ → List ℕ) : Type 0 where
   pub a : IsSameAt 0 old new
   pub b : IsSameAt 1 old new
-  pub part : (p : ℕ) → p < parts_of c → PartSame old new p ⊎ PartMore old new p (v p).which (prepared p)
+  pub part : (p : ℕ) → p < partition_count c → PartSame old new p ⊎ PartMore old new p (v p).which (prepared p)
 
 -- AFTER IT: each partition with a bit has the unit's entry, and the coordinator has the decision
 pub record IsDecided {D : Type 0} (c : Coordinator D) (v : ℕ → PartView) (which : WhichLog) (old new : Logs) (mask : ℕ) (decision : List ℕ) (prepared : ℕ → List ℕ) : Type 0 where
   pub more : HasOneMore old new (device_of 0 which) decision
   pub other : IsSameAt (device_of 0 (other_log which)) old new
-  pub with_bit : (p : ℕ) → p < parts_of c → has_bit mask p ≡ true → PartMore old new p (v p).which (prepared p)
-  pub without : (p : ℕ) → p < parts_of c → has_bit mask p ≡ false → PartSame old new p
+  pub with_bit : (p : ℕ) → p < partition_count c → has_bit mask p ≡ true → PartMore old new p (v p).which (prepared p)
+  pub without : (p : ℕ) → p < partition_count c → has_bit mask p ≡ false → PartSame old new p
 
 -- each partition after it
 abbrev pub view_after : {D : Type 0} → Coordinator D → (ℕ → PartView) → List Change → Decision → ℕ → PartView
@@ -126,4 +126,4 @@ pub record IsCheckpointed {D : Type 0} (r : Reading D) (c : Coordinator D) (v : 
   pub first : nat_le 1 v.log.header.generation ≡ true
   pub fits : is_format_under c.log.header.format format ≡ true
   pub reads : rows_of_pages r c p (checkpointed v (next_part_header v format sides) rows).log (after (pages_device p)) ≡ Some rows
-  pub tables : with_changes rows no_rows ≡ tables_of c p v
+  pub tables : with_changes rows no_rows ≡ tables_at_part c p v

@@ -25,9 +25,9 @@ device_of a LogB = a + 1
 abbrev pub define : {D : Type 0} → Reading D → NumberedText → Option (List D) → Option (List D)
 define r t defined = option_and_then (λ ds. option_and_then (λ d. then_some (not (r.is_refused ds d)) (ds ++ d ∷ [])) (r.read t.text)) defined
 
-abbrev pub defined_by : {D : Type 0} → Reading D → Option (List D) → List NumberedText → Option (List D)
-defined_by r defined [] = defined
-defined_by r defined (t ∷ ts) = defined_by r (define r t defined) ts
+abbrev pub definitions_read : {D : Type 0} → Reading D → Option (List D) → List NumberedText → Option (List D)
+definitions_read r defined [] = defined
+definitions_read r defined (t ∷ ts) = definitions_read r (define r t defined) ts
 
 -- a continuation that a program of these definitions may have, of no later boot or decision than the coordinator's
 abbrev pub is_sound_cont : {D : Type 0} → Reading D → List D → Told → Cont → Bool
@@ -49,7 +49,7 @@ abbrev pub coordinator_of : {D : Type 0} → Reading D → CoordinatorLog → Op
 coordinator_of r log =
     option_and_then (λ ds. option_and_then (λ cs. then_some (are_sound r log ds) (record { log = log; definitions = ds; conts = cs }))
     (moved log.header.format (Some log.header.conts) log.told.decided))
-    (defined_by r (Some []) log.told.definitions)
+    (definitions_read r (Some []) log.told.definitions)
 
 abbrev pub coordinator_pair : Logs → Pair CoordinatorLog
 coordinator_pair logs = pair_of coordinator_generation (content_of coordinator_in (logs 0)) (content_of coordinator_in (logs 1))

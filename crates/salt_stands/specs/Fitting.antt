@@ -18,23 +18,23 @@ use Rattle.salt_values.specs.declared.value.Value.{Value}
 use Rattle.std.specs.List.{filter_map}
 use Rattle.std.specs.Prelude.{Bool, List, None, Option, Some, [], false, is_ok, is_some, length, nat_le, nat_lt, true, ℕ, ◌&&◌, ◌∷◌, ◌||◌, slice_get}
 
-abbrev pub tables_of : List Definition → List TableDef
-tables_of ds = filter_map table_of_definition ds
+abbrev pub tables_defined : List Definition → List TableDef
+tables_defined ds = filter_map table_of_definition ds
 
-abbrev pub programs_of : List Definition → List ProgramDef
-programs_of ds = filter_map program_of_definition ds
+abbrev pub programs_defined : List Definition → List ProgramDef
+programs_defined ds = filter_map program_of_definition ds
 
-abbrev pub line_of : Definition → Line
-line_of (OfTable d) = line.Table d
-line_of (OfProgram p) = line.Program p
+abbrev pub line_defining : Definition → Line
+line_defining (OfTable d) = line.Table d
+line_defining (OfProgram p) = line.Program p
 
 -- where nothing runs
 abbrev pub known_by : List Definition → Known
-known_by ds = record { schema = tables_of ds; catalogue = programs_of ds; unfinished = []; unreleased = 0 }
+known_by ds = record { schema = tables_defined ds; catalogue = programs_defined ds; unfinished = []; unreleased = 0 }
 
 -- a line with the definition would be refused by what is kept, or by its names, types or branches
 abbrev pub is_refused : List Definition → Definition → Bool
-is_refused ds d = is_some (line_fault (known_by ds) (line_of d))
+is_refused ds d = is_some (line_fault (known_by ds) (line_defining d))
 
 -- a value of the column's type, or NULL where it may hold it
 abbrev pub is_of_column : Field → Value → Bool
@@ -72,10 +72,10 @@ abbrev pub definitions_reading : (List ℕ → Option Definition) → Reading De
 definitions_reading read = record {
   read = read;
   is_refused = is_refused;
-  count_tables = λ ds. length (tables_of ds);
-  fits_row = λ ds table row. is_row_of (slice_get (tables_of ds) table) row;
-  fits_key = λ ds table key. is_key_of (slice_get (tables_of ds) table) key;
-  fits_cont = λ ds c. is_cont_of (program_named (programs_of ds) c.program) c;
+  count_tables = λ ds. length (tables_defined ds);
+  fits_row = λ ds table row. is_row_of (slice_get (tables_defined ds) table) row;
+  fits_key = λ ds table key. is_key_of (slice_get (tables_defined ds) table) key;
+  fits_cont = λ ds c. is_cont_of (program_named (programs_defined ds) c.program) c;
 }
 
 -- what is kept, of what was found

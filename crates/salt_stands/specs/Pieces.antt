@@ -8,7 +8,7 @@ use Rattle.salt_bytes.specs.Coordinator.{CoordinatorHeader, Decision, NumberedTe
 use Rattle.salt_bytes.specs.Formats.{has_nulls}
 use Rattle.salt_bytes.specs.Generations.{Counts, LogA, LogB, WhichLog, next_generation}
 use Rattle.salt_bytes.specs.Partition.{PartitionHeader, Prepared}
-use Rattle.salt_stands.specs.Coordinator.{Coordinator, Logs, coordinator_pair, decided_for, defined_by, is_sound_cont, is_sound_decision}
+use Rattle.salt_stands.specs.Coordinator.{Coordinator, Logs, coordinator_pair, decided_for, definitions_read, is_sound_cont, is_sound_decision}
 use Rattle.salt_stands.specs.CoordinatorLog.{told_by_header}
 use Rattle.salt_stands.specs.OpenConts.{do_rise, moved}
 use Rattle.salt_stands.specs.Partition.{is_sound_log, part_pair, part_tables, pages_device, rows_from, rows_of_pages, unit_prepared}
@@ -20,7 +20,7 @@ use Rattle.std.specs.Prelude.{Bool, List, Some, [], map, nat_lt, suc, true, zero
 
 -- its definitions are those of its texts, and its continuations those that its header and its moves leave open
 pub record IsCoordinator {D : Type 0} (r : Reading D) (c : Coordinator D) : Type 0 where
-  pub defined : defined_by r (Some []) c.log.told.definitions ≡ Some c.definitions
+  pub defined : definitions_read r (Some []) c.log.told.definitions ≡ Some c.definitions
   pub moves : moved c.log.header.format (Some c.log.header.conts) c.log.told.decided ≡ Some c.conts
   pub rise : do_rise c.log.header.conts ≡ true
   pub named : list_all (is_sound_cont r c.definitions c.log.told) c.log.header.conts ≡ true
@@ -37,8 +37,8 @@ pub record PartView : Type 0 where
   pub log : PartitionLog
   pub rows : List Change
 
-abbrev pub tables_of : {D : Type 0} → Coordinator D → ℕ → PartView → Tables
-tables_of c p v = part_tables (decided_for p c.log.told.decided) v.log v.rows
+abbrev pub tables_at_part : {D : Type 0} → Coordinator D → ℕ → PartView → Tables
+tables_at_part c p v = part_tables (decided_for p c.log.told.decided) v.log v.rows
 
 pub record PartStands {D : Type 0} (r : Reading D) (c : Coordinator D) (logs : Logs) (devices : ℕ → List ℕ) (p : ℕ) (v : PartView) : Type 0 where
   pub counts : part_pair p logs ≡ Counts v.which v.log
@@ -97,7 +97,7 @@ abbrev pub is_prepared_in : Id → List Prepared → Bool
 is_prepared_in u ps = has_id u (map unit_prepared ps)
 
 -- WHAT THE LAYER OF DEFINITIONS OWES: what fits still fits with one more definition
-pub record Grows {D : Type 0} (r : Reading D) (ds : List D) (d : D) : Type 0 where
+pub record StaysFitting {D : Type 0} (r : Reading D) (ds : List D) (d : D) : Type 0 where
   pub tables : r.count_tables ds ≤ r.count_tables (ds ++ d ∷ [])
   pub row : (table : ℕ) (row : List Value) → nat_lt table (r.count_tables ds) ≡ true → r.fits_row ds table row ≡ true → r.fits_row (ds ++ d ∷ []) table row ≡ true
   pub key : (table : ℕ) (key : Value) → nat_lt table (r.count_tables ds) ≡ true → r.fits_key ds table key ≡ true → r.fits_key (ds ++ d ∷ []) table key ≡ true

@@ -50,15 +50,15 @@ abbrev pub logs_of : (ℕ → List ℕ) → Logs
 logs_of devices dev = entries_in (devices dev)
 
 -- STANDS: what the devices stand for, or the first faulty one
-abbrev pub judged : {D : Type 0} → Reading D → (ℕ → List ℕ) → Shape → Result (Found D) ℕ
-judged r devices asked = stands_in r (logs_of devices) devices asked
+abbrev pub stands_on : {D : Type 0} → Reading D → (ℕ → List ℕ) → Shape → Result (Found D) ℕ
+stands_on r devices asked = stands_in r (logs_of devices) devices asked
 
 abbrev pub if_ok : {A : Type 0} → Result A ℕ → Option A
 if_ok (Ok x) = Some x
 if_ok (Err dev) = None
 
 abbrev pub stands_of : {D : Type 0} → Reading D → (ℕ → List ℕ) → Shape → Option (Found D)
-stands_of r devices asked = if_ok (judged r devices asked)
+stands_of r devices asked = if_ok (stands_on r devices asked)
 
 -- WHAT AN OPENING ANSWERS, in this order: the coordinator's fault, another shape, numbers that are spent, a partition's fault
 

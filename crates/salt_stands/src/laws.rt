@@ -9,11 +9,11 @@ ghost use Rattle.salt_net.specs.Flags.{are_nodes, has_node};
 ghost use Rattle.std.specs.Prelude.{◌≡◌, ◌≢◌, ◌⊎◌, ◌+◌, ◌++◌, ◌∷◌, ◌<◌, ◌≤◌, [], List, Ok, Some, false, not, true, ℕ};
 ghost use Rattle.salt_bytes.specs.Coordinator.{Boots, Decision, Defines, NumberedText, entry_in, header_in};
 ghost use Rattle.salt_bytes.specs.Generations.{LogA, WhichLog};
-ghost use Rattle.salt_stands.specs.Commits.{CoordinatorBlanked, CoordinatorSame, IsCheckpointed, IsDecided, IsUndecided, MayCommit, PagesSame, PartBlanked, PartSame, Spelled, Stood, found_after, found_of, parts_of, view_after, with_view};
+ghost use Rattle.salt_stands.specs.Commits.{CoordinatorBlanked, CoordinatorSame, IsCheckpointed, IsDecided, IsUndecided, MayCommit, PagesSame, PartBlanked, PartSame, Spelled, Stood, found_after, found_of, partition_count, view_after, with_view};
 ghost use Rattle.salt_stands.specs.Coordinator.{Coordinator, Logs, device_of};
 ghost use Rattle.salt_stands.specs.FirstOpening.{AreBlank, AreMade, first_coordinator, first_view};
 ghost use Rattle.salt_stands.specs.Partition.{is_format_under, pages_device};
-ghost use Rattle.salt_stands.specs.Pieces.{Grows, HasOneMore, IsSameAt, PartView, ReadsSamePages, checkpointed, next_header, next_part_header, other_log, with_boot, with_decision, with_definition, with_snapshot};
+ghost use Rattle.salt_stands.specs.Pieces.{StaysFitting, HasOneMore, IsSameAt, PartView, ReadsSamePages, checkpointed, next_header, next_part_header, other_log, with_boot, with_decision, with_definition, with_snapshot};
 ghost use Rattle.salt_stands.specs.Placed.{changes_at, nodes_in};
 ghost use Rattle.salt_stands.specs.Reading.{Reading};
 ghost use Rattle.salt_stands.specs.Stands.{nothing_found, stands_in};
@@ -44,7 +44,7 @@ pub fn decided_units_stand()
 pub fn boots_are_kept()
     ensures { (r : Reading Definition) (old new : Logs) (devices : ℕ → List ℕ) (which : WhichLog) (c : Coordinator Definition) (v : ℕ → PartView) (payload : List ℕ)
         → Stood r old devices which c v → HasOneMore old new (device_of 0 which) payload → IsSameAt (device_of 0 (other_log which)) old new
-        → entry_in (parts_of c) payload ≡ Some (Boots (c.log.told.boot + 1)) → ((p : ℕ) → p < parts_of c → PartSame old new p)
+        → entry_in (partition_count c) payload ≡ Some (Boots (c.log.told.boot + 1)) → ((p : ℕ) → p < partition_count c → PartSame old new p)
         → Stood r new devices which (with_boot c) v }
 {}
 
@@ -52,8 +52,8 @@ pub fn boots_are_kept()
 pub fn definitions_are_kept()
     ensures { (r : Reading Definition) (old new : Logs) (devices : ℕ → List ℕ) (which : WhichLog) (c : Coordinator Definition) (v : ℕ → PartView) (payload : List ℕ) (t : NumberedText) (d : Definition)
         → Stood r old devices which c v → HasOneMore old new (device_of 0 which) payload → IsSameAt (device_of 0 (other_log which)) old new
-        → entry_in (parts_of c) payload ≡ Some (Defines t) → t.number ≡ c.log.told.decisions + 1 → r.read t.text ≡ Some d → r.is_refused c.definitions d ≡ false → Grows r c.definitions d
-        → ((p : ℕ) → p < parts_of c → PartSame old new p)
+        → entry_in (partition_count c) payload ≡ Some (Defines t) → t.number ≡ c.log.told.decisions + 1 → r.read t.text ≡ Some d → r.is_refused c.definitions d ≡ false → StaysFitting r c.definitions d
+        → ((p : ℕ) → p < partition_count c → PartSame old new p)
         → Stood r new devices which (with_definition c t d) v }
 {}
 
@@ -61,16 +61,16 @@ pub fn definitions_are_kept()
 pub fn blank_logs_change_nothing()
     ensures { (r : Reading Definition) (old new : Logs) (before after : ℕ → List ℕ) (which : WhichLog) (c : Coordinator Definition) (v : ℕ → PartView)
         → Stood r old before which c v → CoordinatorSame old new ⊎ CoordinatorBlanked old new which
-        → ((p : ℕ) → p < parts_of c → PartSame old new p ⊎ PartBlanked old new p (v p).which) → PagesSame c v before after
+        → ((p : ℕ) → p < partition_count c → PartSame old new p ⊎ PartBlanked old new p (v p).which) → PagesSame c v before after
         → Stood r new after which c v }
 {}
 
 /// A checkpoint of a partition changes nothing of what stands.
 pub fn checkpoints_change_nothing()
     ensures store { (r : Reading Definition) (old new : Logs) (before after : ℕ → List ℕ) (which : WhichLog) (c : Coordinator Definition) (v : ℕ → PartView) (p : ℕ) (payload : List ℕ) (format : ℕ) (sides : List ℕ) (rows : List Change)
-        → Stood r old before which c v → CoordinatorSame old new → p < parts_of c
+        → Stood r old before which c v → CoordinatorSame old new → p < partition_count c
         → IsCheckpointed r c (v p) p old new after payload format sides rows
-        → ((q : ℕ) → q < parts_of c → q ≢ p → PartSame old new q × ReadsSamePages (v q) (before (pages_device q)) (after (pages_device q)))
+        → ((q : ℕ) → q < partition_count c → q ≢ p → PartSame old new q × ReadsSamePages (v q) (before (pages_device q)) (after (pages_device q)))
         → Stood r new after which c (with_view p (checkpointed (v p) (next_part_header (v p) format sides) rows) v) }
     ensures found { (r : Reading Definition) (old new : Logs) (after : ℕ → List ℕ) (c : Coordinator Definition) (v : ℕ → PartView) (p : ℕ) (payload : List ℕ) (format : ℕ) (sides : List ℕ) (rows : List Change)
         → IsCheckpointed r c (v p) p old new after payload format sides rows
@@ -82,9 +82,9 @@ pub fn snapshots_change_nothing()
     ensures store { (r : Reading Definition) (old new : Logs) (devices : ℕ → List ℕ) (which : WhichLog) (c : Coordinator Definition) (v : ℕ → PartView) (payload : List ℕ) (format : ℕ)
         → Stood r old devices which c v → IsSameAt (device_of 0 which) old new → new (device_of 0 (other_log which)) ≡ Some (payload ∷ [])
         → header_in payload ≡ Some (next_header c format)
-        → ((p : ℕ) → p < parts_of c → PartSame old new p × ((v p).log.prepared ≡ []) × (is_format_under format (v p).log.header.format ≡ true))
+        → ((p : ℕ) → p < partition_count c → PartSame old new p × ((v p).log.prepared ≡ []) × (is_format_under format (v p).log.header.format ≡ true))
         → Stood r new devices (other_log which) (with_snapshot c format) v }
-    ensures found { (r : Reading Definition) (c : Coordinator Definition) (v : ℕ → PartView) (format : ℕ) → ((p : ℕ) → p < parts_of c → (v p).log.prepared ≡ [])
+    ensures found { (r : Reading Definition) (c : Coordinator Definition) (v : ℕ → PartView) (format : ℕ) → ((p : ℕ) → p < partition_count c → (v p).log.prepared ≡ [])
         → found_of (with_snapshot c format) v ≡ (let before = found_of c v in record before { format = format }) }
 {}
 

@@ -6,7 +6,7 @@ use Rattle.std.proofs.lemmas.Bool.{eqb-true}
 use Rattle.std.specs.List.{prefix_len}
 use Rattle.salt_tokens.specs.declared.token.TokenKind.{TokenKind}
 use Rattle.salt_tokens.specs.declared.token.TokenKind.TheVariants.{Word, Int, Text, Sign}
-use Rattle.salt_tokens.specs.Pieces.{Piece, Run, NotNext, doubled, IsToken, Ends, Lexes, ended, blank, token}
+use Rattle.salt_tokens.specs.Pieces.{Piece, EachPasses, NotNext, doubled, IsToken, EndsToken, Lexes, ended, blank, token}
 use Rattle.salt_tokens.specs.Scanning.{◌>>=◌, more, quoted_at, sign_at, first_at, lex, Gives}
 use Rattle.salt_tokens.specs.Spans.{pieces}
 use Rattle.std.specs.Prelude.{Result, Ok, Err, IfOk}
@@ -46,16 +46,16 @@ chosen false x y z h = inr (refl, h)
 
 -- ---- a run of bytes that pass
 
-run_len : (p : ℕ → Bool) (text rest : List ℕ) → Run p text → NotNext p rest → prefix_len p (text ++ rest) ≡ length text
+run_len : (p : ℕ → Bool) (text rest : List ℕ) → EachPasses p text → NotNext p rest → prefix_len p (text ++ rest) ≡ length text
 run_len p [] [] h k = refl
 run_len p [] (b ∷ rest) h k = rw k refl
 run_len p (b ∷ text) rest h k = rw (h.0, run_len p text rest h.1 k) (omega arith)
 
-run_take : (p : ℕ → Bool) (bs : List ℕ) → Run p (take (prefix_len p bs) bs) × NotNext p (drop (prefix_len p bs) bs)
+run_take : (p : ℕ → Bool) (bs : List ℕ) → EachPasses p (take (prefix_len p bs) bs) × NotNext p (drop (prefix_len p bs) bs)
 run_take p [] = (tt, tt)
 run_take p (b ∷ bs) = go (p b) refl (run_take p bs)
   where
-    go : (t : Bool) → p b ≡ t → Run p (take (prefix_len p bs) bs) × NotNext p (drop (prefix_len p bs) bs) → Run p (take (cond t (1 + prefix_len p bs) 0) (b ∷ bs)) × NotNext p (drop (cond t (1 + prefix_len p bs) 0) (b ∷ bs))
+    go : (t : Bool) → p b ≡ t → EachPasses p (take (prefix_len p bs) bs) × NotNext p (drop (prefix_len p bs) bs) → EachPasses p (take (cond t (1 + prefix_len p bs) 0) (b ∷ bs)) × NotNext p (drop (cond t (1 + prefix_len p bs) 0) (b ∷ bs))
     go true e ih = let k : 1 + prefix_len p bs ≡ suc (prefix_len p bs) = omega arith in rw k ((e, ih.0), ih.1)
     go false e ih = (tt, e)
 
@@ -64,7 +64,7 @@ run_take p (b ∷ bs) = go (p b) refl (run_take p bs)
 is_quote : ℕ → Bool
 is_quote b = eqb b 39
 
-quoted_len : (content rest : List ℕ) → Run is_printable content → NotNext (λ b. eqb b 39) rest → quoted_at false ((doubled content ++ 39 ∷ []) ++ rest) ≡ Some (length (doubled content) + 1)
+quoted_len : (content rest : List ℕ) → EachPasses is_printable content → NotNext (λ b. eqb b 39) rest → quoted_at false ((doubled content ++ 39 ∷ []) ++ rest) ≡ Some (length (doubled content) + 1)
 unfolding quoted_at
 quoted_len [] [] h k = refl
 quoted_len [] (b ∷ rest) h k = rw k refl
@@ -76,8 +76,8 @@ quoted_len (b ∷ content) rest h k = go (eqb b 39) refl (quoted_len content res
 
 -- what stands up to the last quote; after a quote there may be nothing
 IsRest : Bool → List ℕ → Type 0
-IsRest false text = (content : List ℕ) × Run is_printable content × (text ≡ doubled content ++ 39 ∷ [])
-IsRest true text = (text ≡ []) ⊎ ((content : List ℕ) × Run is_printable content × (text ≡ 39 ∷ (doubled content ++ 39 ∷ [])))
+IsRest false text = (content : List ℕ) × EachPasses is_printable content × (text ≡ doubled content ++ 39 ∷ [])
+IsRest true text = (text ≡ []) ⊎ ((content : List ℕ) × EachPasses is_printable content × (text ≡ 39 ∷ (doubled content ++ 39 ∷ [])))
 
 abbrev IsTextOf : Bool → List ℕ → ℕ → Type 0
 IsTextOf flag bs n = IsRest flag (take n bs) × NotNext (λ b. eqb b 39) (drop n bs)
@@ -122,7 +122,7 @@ quoted_sound true (b ∷ bs) n h = go (eqb b 39) refl (λ k e. quoted_sound fals
 -- ---- the token at the front
 
 abbrev IsFirst : List ℕ → TokenKind × ℕ → Type 0
-IsFirst bs t = IsToken t.0 (take t.1 bs) × Ends t.0 (take t.1 bs) (drop t.1 bs) × (0 < t.1) × (t.1 ≤ length bs)
+IsFirst bs t = IsToken t.0 (take t.1 bs) × EndsToken t.0 (take t.1 bs) (drop t.1 bs) × (0 < t.1) × (t.1 ≤ length bs)
 
 same_first : (bs : List ℕ) (k : TokenKind) (m n : ℕ) → m ≡ n → IsFirst bs (k, m) → IsFirst bs (k, n)
 same_first bs k m n e h = subst (λ (x : ℕ). IsFirst bs (k, x)) e h
@@ -180,7 +180,7 @@ first_sound (b ∷ bs) t h =
 pub token_at_front : (bs : List ℕ) (k : TokenKind) (n : ℕ) → first_at bs ≡ Some (k, n) → IsToken k (take n bs)
 token_at_front bs k n h = (first_sound bs (k, n) h).0
 
-sign_complete : (text rest : List ℕ) → is_some (sign_of text) ≡ true → AreSignBytes text → Ends Sign text rest → first_at (text ++ rest) ≡ Some (Sign, length text)
+sign_complete : (text rest : List ℕ) → is_some (sign_of text) ≡ true → AreSignBytes text → EndsToken Sign text rest → first_at (text ++ rest) ≡ Some (Sign, length text)
 unfolding first_at
 sign_complete [] rest is h e = absurd h
 sign_complete (a ∷ []) rest is h e = rw (h.letter, h.digit, h.quote) (one rest e)
@@ -191,7 +191,7 @@ sign_complete (a ∷ []) rest is h e = rw (h.letter, h.digit, h.quote) (one rest
 sign_complete (a ∷ b ∷ []) rest is h e = rw (h.letter, h.digit, h.quote, is) refl
 sign_complete (a ∷ b ∷ c ∷ cs) rest is h e = absurd h
 
-first_complete : (k : TokenKind) (text rest : List ℕ) → IsToken k text → Ends k text rest → first_at (text ++ rest) ≡ Some (k, length text)
+first_complete : (k : TokenKind) (text rest : List ℕ) → IsToken k text → EndsToken k text rest → first_at (text ++ rest) ≡ Some (k, length text)
 unfolding first_at
 first_complete Word [] rest h e = absurd h
 first_complete Word (b ∷ text) rest h e = rw (h.0, run_len is_word text rest h.1 e) (ap (λ (n : ℕ). Some (Word, n)) (omega arith))
@@ -249,7 +249,7 @@ lex_complete ended = refl
 lex_complete (blank {b = b} {bs = bs} h d) = lex_blank b bs h ∙ lex_complete d
 lex_complete (token {rest = rest} {ps = ps} k text h e d) = go text h e (lex_complete d)
   where
-    go : (text : List ℕ) → IsToken k text → Ends k text rest → lex 0 rest ≡ Some ps → lex 0 (text ++ rest) ≡ Some (record { kind = k; text = text } ∷ ps)
+    go : (text : List ℕ) → IsToken k text → EndsToken k text rest → lex 0 rest ≡ Some ps → lex 0 (text ++ rest) ≡ Some (record { kind = k; text = text } ∷ ps)
     go [] h e ih = absurd (not_empty k h)
     go (b ∷ text) h e ih =
         lex_token b (text ++ rest) k (length (b ∷ text)) (not_blank k b text h) (first_complete k (b ∷ text) rest h e) (omega arith) (omega (arith, length-append text rest))

@@ -3,7 +3,7 @@
 ghost use Rattle.std.specs.Prelude.{◌≡◌, ◌≤◌, Err, IfOk, length, min, vec_len};
 ghost use Rattle.std.specs.Str.Parse.{digits_value};
 ghost use Rattle.salt_tokens.specs.Bytes.{is_digit};
-ghost use Rattle.salt_tokens.specs.Pieces.{IsToken, Run};
+ghost use Rattle.salt_tokens.specs.Pieces.{IsToken, EachPasses};
 ghost use Rattle.salt_tokens.specs.Symbols.{HasSymbols, Symbols, between, largest_int, symbols_in, symbol, symbol_by};
 ghost use Rattle.salt_tokens.specs.declared.error.ScanErr.TheVariants.{Syntax};
 
@@ -31,7 +31,7 @@ pub enum Lexeme<'a> {
 
 /// The number that the digits write, or 2^64 - 1 where it is larger.
 fn number(digits: &[u8]) -> u64
-    requires { Run is_digit digits.now }
+    requires { EachPasses is_digit digits.now }
     ensures { result ≡ min (digits_value 10 digits.now) largest_int }
 {
     let mut n: u64 = 0;

@@ -4,7 +4,7 @@ use Rattle.salt_audit.proofs.Clashing.{one_line}
 use Rattle.salt_audit.proofs.OneMore.{printable_more}
 use Rattle.salt_audit.specs.Retelling.{retold}
 use Rattle.salt_audit.specs.Verdicts.{found_in, sound}
-use Rattle.salt_audit.specs.Transcripts.{Begins, IsLeft, IsVerdict, SoFar, all_told, breaks, is_unformed, lines_so_far, no_text, tables_of, text_so_far}
+use Rattle.salt_audit.specs.Transcripts.{Begins, IsLeft, IsVerdict, SoFar, all_told, breaks, is_unformed, lines_so_far, no_text, tables_told, text_so_far}
 use Rattle.salt_audit.specs.declared.verdict.Law.{Law}
 use Rattle.salt_audit.specs.declared.verdict.Verdict.TheVariants.{Broken, NotText, Unformed, Yes}
 use Rattle.salt_events.specs.Lines.{GoesOn}
@@ -62,7 +62,7 @@ module _ (laws : Laws) (r : Reader) (s : SoFar) (bytes : List ℕ) (h : HasRead 
   unended rest inline e told short =
       let b = begun r s bytes rest h e in
       let left : IsLeft s.items rest = left_unless s.items rest (ap (λ (is : List Item). is_all_told is rest) (sym h.items) ∙ told) in
-      let nowhere : GoesOnNowhere (tables_of s.story) s.items rest = λ line more after t front g. none_in_front line more rest inline front in
+      let nowhere : GoesOnNowhere (tables_told s.story) s.items rest = λ line more after t front g. none_in_front line more rest inline front in
       numbered bytes (lines_so_far s) r.lines h.lines (no_text s rest b h.told.found left (longest laws bytes s rest (few r.lines s h.lines short) h.told.found b nowhere))
 
   line_left : (items : List Item) (line more : List ℕ) → IsLeft items (line ++ (10 ∷ more))
@@ -76,9 +76,9 @@ module _ (laws : Laws) (r : Reader) (s : SoFar) (bytes : List ℕ) (h : HasRead 
   no_line t line more g short inline e =
       let rest = line ++ (10 ∷ more) in
       let b = begun r s bytes rest h e in
-      let nowhere : GoesOnNowhere (tables_of s.story) s.items rest = λ other behind after told front goes.
+      let nowhere : GoesOnNowhere (tables_told s.story) s.items rest = λ other behind after told front goes.
       g.nowhere after told
-      (subst (λ (l : List ℕ). GoesOn (tables_of s.story) s.items l (after, told)) (sym (one_line line other more behind inline front.inline front.text).0) goes) in
+      (subst (λ (l : List ℕ). GoesOn (tables_told s.story) s.items l (after, told)) (sym (one_line line other more behind inline front.inline front.text).0) goes) in
       let last = longest laws bytes s rest (few t.lines s g.lines short) h.told.found b nowhere in
       record {
         is = numbered bytes (lines_so_far s) t.lines g.lines (no_text s rest b h.told.found (line_left s.items line more) last);
@@ -92,7 +92,7 @@ module _ (laws : Laws) (r : Reader) (s : SoFar) (bytes : List ℕ) (h : HasRead 
 -- AN EVENT THAT IS AMISS
 
 -- behind what is read
-begun_more : (r : Reader) (s : SoFar) (event : Event) (line bytes more : List ℕ) → HasRead r s → IsPrintable (tables_of s.story) event →
+begun_more : (r : Reader) (s : SoFar) (event : Event) (line bytes more : List ℕ) → HasRead r s → IsPrintable (tables_told s.story) event →
     text_so_far (record { story = s.story ++ event ∷ []; items = [] }) ≡ text_so_far s ++ (line ++ 10 ∷ []) → bytes ≡ text_so_far s ++ (line ++ (10 ∷ more)) →
     Begins bytes (record { story = s.story ++ event ∷ []; items = [] }) more
 begun_more r s event line bytes more h printable text e =

@@ -5,7 +5,7 @@ use Rattle.salt_audit.proofs.Clashing.{AreLines, LinesAreWhole, are_lines, clash
 use Rattle.salt_audit.proofs.OneVerdict.{printable_app, sound_front}
 use Rattle.salt_audit.specs.Retelling.{retold, told, told_on}
 use Rattle.salt_audit.specs.Stories.{IsFrontOf}
-use Rattle.salt_audit.specs.Transcripts.{ArePrintableOn, Begins, IsLongest, IsShowable, SoFar, tables_of, text_on}
+use Rattle.salt_audit.specs.Transcripts.{ArePrintableOn, Begins, IsLongest, IsShowable, SoFar, tables_told, text_on}
 use Rattle.salt_audit.specs.Verdicts.{found_in, sound}
 use Rattle.salt_events.specs.Lines.{an_event, an_item, counts}
 use Rattle.salt_model.specs.After.{kept}
@@ -172,21 +172,21 @@ so story items = record { story = story; items = items }
 
 -- behind a story, where one goes on with it
 behind : (bytes : List ℕ) (a : List Event) (is js : List Item) (c : List Event) (r s : List ℕ) → Begins bytes (so a is) r → Begins bytes (so (a ++ c) js) s →
-    flat_map (item_text (tables_of a)) is ++ r ≡ text_on (retold a) c ++ (flat_map (item_text (tables_of (a ++ c))) js ++ s)
+    flat_map (item_text (tables_told a)) is ++ r ≡ text_on (retold a) c ++ (flat_map (item_text (tables_told (a ++ c))) js ++ s)
 behind bytes a is js c r s g h =
-    let left = append_assoc (text_on (retold []) a) (flat_map (item_text (tables_of a)) is) r in
-    let right = append_assoc (text_on (retold []) (a ++ c)) (flat_map (item_text (tables_of (a ++ c))) js) s
-    ∙ ap (λ (l : List ℕ). l ++ (flat_map (item_text (tables_of (a ++ c))) js ++ s)) (text_app (retold []) a c)
-    ∙ append_assoc (text_on (retold []) a) (text_on (retold a) c) (flat_map (item_text (tables_of (a ++ c))) js ++ s) in
+    let left = append_assoc (text_on (retold []) a) (flat_map (item_text (tables_told a)) is) r in
+    let right = append_assoc (text_on (retold []) (a ++ c)) (flat_map (item_text (tables_told (a ++ c))) js) s
+    ∙ ap (λ (l : List ℕ). l ++ (flat_map (item_text (tables_told (a ++ c))) js ++ s)) (text_app (retold []) a c)
+    ∙ append_assoc (text_on (retold []) a) (text_on (retold a) c) (flat_map (item_text (tables_told (a ++ c))) js ++ s) in
     append_cancel_left (text_on (retold []) a) _ _ (sym left ∙ (sym g.text ∙ h.text) ∙ right)
 
 -- behind the same story
 beside : (bytes : List ℕ) (a : List Event) (is js : List Item) (r s : List ℕ) → Begins bytes (so a is) r → Begins bytes (so a js) s →
-    flat_map (item_text (tables_of a)) is ++ r ≡ flat_map (item_text (tables_of a)) js ++ s
+    flat_map (item_text (tables_told a)) is ++ r ≡ flat_map (item_text (tables_told a)) js ++ s
 beside bytes a is js r s g h =
     append_cancel_left (text_on (retold []) a) _ _
-    (sym (append_assoc (text_on (retold []) a) (flat_map (item_text (tables_of a)) is) r) ∙ (sym g.text ∙ h.text)
-    ∙ append_assoc (text_on (retold []) a) (flat_map (item_text (tables_of a)) js) s)
+    (sym (append_assoc (text_on (retold []) a) (flat_map (item_text (tables_told a)) is) r) ∙ (sym g.text ∙ h.text)
+    ∙ append_assoc (text_on (retold []) a) (flat_map (item_text (tables_told a)) js) s)
 
 -- what two stories in one text say
 abbrev pub StoriesAgree : Type 0
@@ -195,7 +195,7 @@ StoriesAgree =
     text_on (retold []) as_ ++ p ≡ text_on (retold []) bs ++ q → IsFrontOf as_ bs ⊎ IsFrontOf bs as_
 
 abbrev pub SoundAreNamed : Type 0
-SoundAreNamed = (story : List Event) → found_in story ≡ sound → IsNaming (tables_of story)
+SoundAreNamed = (story : List Event) → found_in story ≡ sound → IsNaming (tables_told story)
 
 -- what the laws say
 pub record Laws : Type 0 where
@@ -204,45 +204,45 @@ pub record Laws : Type 0 where
   pub named : SoundAreNamed
 
 module _ (laws : Laws) (bytes : List ℕ) (a : List Event) (is : List Item) (sized : IsSized (length is)) (rest : List ℕ) (sure : found_in a ≡ sound)
-    (g : Begins bytes (so a is) rest) (nowhere : GoesOnNowhere (tables_of a) is rest) where
-  lines_are : (js : List Item) → Every (IsShowable (tables_of a)) js → AreLines (tables_of a) js
-  lines_are js h = are_lines laws.whole (tables_of a) (laws.named a sure) js h
+    (g : Begins bytes (so a is) rest) (nowhere : GoesOnNowhere (tables_told a) is rest) where
+  lines_are : (js : List Item) → Every (IsShowable (tables_told a)) js → AreLines (tables_told a) js
+  lines_are js h = are_lines laws.whole (tables_told a) (laws.named a sure) js h
 
   same_story : (js : List Item) (less : List ℕ) → Begins bytes (so a js) less → length rest ≤ length less
   same_story js less h =
-      items_stuck (tables_of a) is rest nowhere is js less (lines_are is g.items) (lines_are js h.items) h.items (beside bytes a is js rest less g h)
+      items_stuck (tables_told a) is rest nowhere is js less (lines_are is g.items) (lines_are js h.items) h.items (beside bytes a is js rest less g h)
 
   -- a story that goes on with this one
   further : (c : Event) (cs : List Event) (js : List Item) (less : List ℕ) → Begins bytes (so (a ++ c ∷ cs) js) less → ⊥
   further c cs js less h =
-      let schema = tables_of a in
-      let z = text_on (told (retold a) c) cs ++ (flat_map (item_text (tables_of (a ++ c ∷ cs))) js ++ less) in
+      let schema = tables_told a in
+      let z = text_on (told (retold a) c) cs ++ (flat_map (item_text (tables_told (a ++ c ∷ cs))) js ++ less) in
       let p = (printable_app (retold []) a (c ∷ cs) h.events).1.0 in
       let text : flat_map (item_text schema) is ++ rest ≡ event_text schema c ++ z =
-      behind bytes a is js (c ∷ cs) rest less g h ∙ append_assoc (event_text schema c) (text_on (told (retold a) c) cs) (flat_map (item_text (tables_of (a ++ c ∷ cs))) js ++ less) in
+      behind bytes a is js (c ∷ cs) rest less g h ∙ append_assoc (event_text schema c) (text_on (told (retold a) c) cs) (flat_map (item_text (tables_told (a ++ c ∷ cs))) js ++ less) in
       event_stuck schema is rest nowhere laws.whole (laws.named a sure) g.items c z p sized text
 
 -- a story that this one goes on with
 nearer : (laws : Laws) (bytes : List ℕ) (b : List Event) (c : Event) (cs : List Event) (is js : List Item) (rest less : List ℕ) → found_in b ≡ sound →
     Begins bytes (so (b ++ c ∷ cs) is) rest → Begins bytes (so b js) less → length rest < length less
 nearer laws bytes b c cs is js rest less sure g h =
-    let schema = tables_of b in
-    let z = text_on (told (retold b) c) cs ++ (flat_map (item_text (tables_of (b ++ c ∷ cs))) is ++ rest) in
+    let schema = tables_told b in
+    let z = text_on (told (retold b) c) cs ++ (flat_map (item_text (tables_told (b ++ c ∷ cs))) is ++ rest) in
     let p = (printable_app (retold []) b (c ∷ cs) g.events).1.0 in
     let text : flat_map (item_text schema) js ++ less ≡ event_text schema c ++ z =
-    behind bytes b js is (c ∷ cs) less rest h g ∙ append_assoc (event_text schema c) (text_on (told (retold b) c) cs) (flat_map (item_text (tables_of (b ++ c ∷ cs))) is ++ rest) in
-    let first = length-append (text_on (told (retold b) c) cs) (flat_map (item_text (tables_of (b ++ c ∷ cs))) is ++ rest) in
-    let second = length-append (flat_map (item_text (tables_of (b ++ c ∷ cs))) is) rest in
+    behind bytes b js is (c ∷ cs) less rest h g ∙ append_assoc (event_text schema c) (text_on (told (retold b) c) cs) (flat_map (item_text (tables_told (b ++ c ∷ cs))) is ++ rest) in
+    let first = length-append (text_on (told (retold b) c) cs) (flat_map (item_text (tables_told (b ++ c ∷ cs))) is ++ rest) in
+    let second = length-append (flat_map (item_text (tables_told (b ++ c ∷ cs))) is) rest in
     let named = laws.named b sure in
     unless (length rest) (length less)
     (λ (no_more : length less ≤ length rest). clash laws.whole schema named js c less z h.items p text (omega (arith, first, second, no_more)))
 
 pub longest : (laws : Laws) (bytes : List ℕ) (s : SoFar) (rest : List ℕ) → IsSized (length s.items) → found_in s.story ≡ sound → Begins bytes s rest →
-    GoesOnNowhere (tables_of s.story) s.items rest → IsLongest bytes rest
+    GoesOnNowhere (tables_told s.story) s.items rest → IsLongest bytes rest
 longest laws bytes s rest sized sure g nowhere t less h =
-    by (laws.agree s.story t.story (flat_map (item_text (tables_of s.story)) s.items ++ rest) (flat_map (item_text (tables_of t.story)) t.items ++ less) g.events h.events sure
-    (sym (append_assoc (text_on (retold []) s.story) (flat_map (item_text (tables_of s.story)) s.items) rest) ∙ (sym g.text ∙ h.text)
-    ∙ append_assoc (text_on (retold []) t.story) (flat_map (item_text (tables_of t.story)) t.items) less))
+    by (laws.agree s.story t.story (flat_map (item_text (tables_told s.story)) s.items ++ rest) (flat_map (item_text (tables_told t.story)) t.items ++ less) g.events h.events sure
+    (sym (append_assoc (text_on (retold []) s.story) (flat_map (item_text (tables_told s.story)) s.items) rest) ∙ (sym g.text ∙ h.text)
+    ∙ append_assoc (text_on (retold []) t.story) (flat_map (item_text (tables_told t.story)) t.items) less))
   where
     at_same : s.story ≡ t.story → length rest ≤ length less
     at_same e = same_story laws bytes s.story s.items sized rest sure g nowhere t.items less (subst (λ (a : List Event). Begins bytes (so a t.items) less) (sym e) h)
@@ -260,9 +260,9 @@ longest laws bytes s rest sized sure g nowhere t less h =
 pub before_amiss : (laws : Laws) (bytes : List ℕ) (s : SoFar) (more : List ℕ) → (found_in s.story ≡ sound → ⊥) → Begins bytes s more →
     (t : SoFar) (less : List ℕ) → found_in t.story ≡ sound → Begins bytes t less → length more < length less
 before_amiss laws bytes s more amiss g t less sure h =
-    by (laws.agree t.story s.story (flat_map (item_text (tables_of t.story)) t.items ++ less) (flat_map (item_text (tables_of s.story)) s.items ++ more) h.events g.events sure
-    (sym (append_assoc (text_on (retold []) t.story) (flat_map (item_text (tables_of t.story)) t.items) less) ∙ (sym h.text ∙ g.text)
-    ∙ append_assoc (text_on (retold []) s.story) (flat_map (item_text (tables_of s.story)) s.items) more))
+    by (laws.agree t.story s.story (flat_map (item_text (tables_told t.story)) t.items ++ less) (flat_map (item_text (tables_told s.story)) s.items ++ more) h.events g.events sure
+    (sym (append_assoc (text_on (retold []) t.story) (flat_map (item_text (tables_told t.story)) t.items) less) ∙ (sym h.text ∙ g.text)
+    ∙ append_assoc (text_on (retold []) s.story) (flat_map (item_text (tables_told s.story)) s.items) more))
   where
     by : IsFrontOf t.story s.story ⊎ IsFrontOf s.story t.story → length more < length less
     by (inl ([], e)) = absurd (amiss (subst (λ (b : List Event). found_in b ≡ sound) (sym (e ∙ append-nil t.story)) sure))

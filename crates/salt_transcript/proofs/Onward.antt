@@ -4,7 +4,7 @@ use Rattle.salt_ast.specs.declared.trees.TableDef.{TableDef}
 use Rattle.salt_audit.proofs.Clashing.{item_ended}
 use Rattle.salt_audit.proofs.OneMore.{lines_more, text_more}
 use Rattle.salt_audit.specs.Retelling.{retold}
-use Rattle.salt_audit.specs.Transcripts.{IsShowable, SoFar, lines_of_event, lines_so_far, tables_of, text_on, text_so_far}
+use Rattle.salt_audit.specs.Transcripts.{IsShowable, SoFar, lines_of_event, lines_so_far, tables_told, text_on, text_so_far}
 use Rattle.salt_events.specs.Lines.{GoesOn, an_event, an_item, counts}
 use Rattle.salt_model.specs.EventTexts.{ShowsNothing, event_line, event_text, item_text}
 use Rattle.salt_model.specs.Printable.{IsPrintable, IsPrintableItem}
@@ -31,9 +31,9 @@ every_more P (j ∷ is) i h p = (h.0, every_more P is i h.1 p)
 abbrev with_item : SoFar → Item → SoFar
 with_item s i = record { story = s.story; items = s.items ++ i ∷ [] }
 
-item_read : (s : SoFar) (i : Item) → text_so_far (with_item s i) ≡ text_so_far s ++ (item_line (tables_of s.story) i ++ 10 ∷ [])
+item_read : (s : SoFar) (i : Item) → text_so_far (with_item s i) ≡ text_so_far s ++ (item_line (tables_told s.story) i ++ 10 ∷ [])
 item_read s i =
-    let schema = tables_of s.story in
+    let schema = tables_told s.story in
     let told = text_on (retold []) s.story in
     ap (λ (l : List ℕ). told ++ l) (flat_more schema s.items i ∙ ap (λ (l : List ℕ). flat_map (item_text schema) s.items ++ l) (item_ended schema i))
     ∙ sym (append_assoc told (flat_map (item_text schema) s.items) (item_line schema i ++ 10 ∷ []))
@@ -46,15 +46,15 @@ item_lines s i = let more = length-append s.items (i ∷ []) in omega (arith, mo
 abbrev pub with_event : SoFar → Event → SoFar
 with_event s e = record { story = s.story ++ e ∷ []; items = [] }
 
-pub event_read : (s : SoFar) (e : Event) → text_so_far (with_event s e) ≡ text_on (retold []) s.story ++ event_text (tables_of s.story) e
+pub event_read : (s : SoFar) (e : Event) → text_so_far (with_event s e) ≡ text_on (retold []) s.story ++ event_text (tables_told s.story) e
 event_read s e = append-nil (text_on (retold []) (s.story ++ e ∷ [])) ∙ text_more (retold []) s.story e
 
 -- one that shows nothing, behind no items
-plain_text : (s : SoFar) (e : Event) → s.items ≡ [] → text_so_far (with_event s e) ≡ text_so_far s ++ (event_line (tables_of s.story) e ++ 10 ∷ [])
+plain_text : (s : SoFar) (e : Event) → s.items ≡ [] → text_so_far (with_event s e) ≡ text_so_far s ++ (event_line (tables_told s.story) e ++ 10 ∷ [])
 plain_text s e none =
     event_read s e
-    ∙ ap (λ (l : List ℕ). l ++ event_text (tables_of s.story) e)
-    (sym (ap (λ (is : List Item). text_on (retold []) s.story ++ flat_map (item_text (tables_of s.story)) is) none ∙ append-nil (text_on (retold []) s.story)))
+    ∙ ap (λ (l : List ℕ). l ++ event_text (tables_told s.story) e)
+    (sym (ap (λ (is : List Item). text_on (retold []) s.story ++ flat_map (item_text (tables_told s.story)) is) none ∙ append-nil (text_on (retold []) s.story)))
 
 one_line : (e : Event) → ShowsNothing e → lines_of_event e ≡ 1
 one_line (event.Shown is) h = absurd h
@@ -84,7 +84,7 @@ plain_lines s e none h =
 shown_text : (s : SoFar) → text_so_far (with_event s (event.Shown s.items)) ≡ text_so_far s ++ ((codes "shown " ++ decimal (length s.items)) ++ 10 ∷ [])
 shown_text s =
     let told = text_on (retold []) s.story in
-    let items = flat_map (item_text (tables_of s.story)) s.items in
+    let items = flat_map (item_text (tables_told s.story)) s.items in
     let count = codes "shown " ++ decimal (length s.items) in
     event_read s (event.Shown s.items) ∙ ap (λ (l : List ℕ). told ++ l) (append_assoc items count (10 ∷ [])) ∙ sym (append_assoc told items (count ++ 10 ∷ []))
 
@@ -103,25 +103,25 @@ onward s after (Some e) = with_event s e
 
 -- what an event leaves
 abbrev Leaves : SoFar → List Item → Option Event → Type 0
-Leaves s after None = Every (IsShowable (tables_of s.story)) after
-Leaves s after (Some e) = (after ≡ []) × IsPrintable (tables_of s.story) e
+Leaves s after None = Every (IsShowable (tables_told s.story)) after
+Leaves s after (Some e) = (after ≡ []) × IsPrintable (tables_told s.story) e
 
 pub record Goes (s : SoFar) (line : List ℕ) (after : List Item) (told : Option Event) : Type 0 where
   pub text : text_so_far (onward s after told) ≡ text_so_far s ++ (line ++ 10 ∷ [])
   pub lines : lines_so_far (onward s after told) ≡ lines_so_far s + 1
   pub leaves : Leaves s after told
 
-goes_by : (s : SoFar) (line : List ℕ) (step : List Item × Option Event) → Every (IsShowable (tables_of s.story)) s.items →
-    GoesOn (tables_of s.story) s.items line step → Goes s line step.0 step.1
+goes_by : (s : SoFar) (line : List ℕ) (step : List Item × Option Event) → Every (IsShowable (tables_told s.story)) s.items →
+    GoesOn (tables_told s.story) s.items line step → Goes s line step.0 step.1
 goes_by s line step h (an_item i p z e) = record {
   text = item_read s i ∙ ap (λ (l : List ℕ). text_so_far s ++ (l ++ 10 ∷ [])) (sym e);
   lines = item_lines s i;
-  leaves = every_more (IsShowable (tables_of s.story)) s.items i h (p, z);
+  leaves = every_more (IsShowable (tables_told s.story)) s.items i h (p, z);
 }
 goes_by s line step h (counts z e) = record {
   text = shown_text s ∙ ap (λ (l : List ℕ). text_so_far s ++ (l ++ 10 ∷ [])) (sym e);
   lines = shown_lines s;
-  leaves = (refl, (let r = items_form (tables_of s.story) s.items h in record { form = r.0; sizes = r.1 }));
+  leaves = (refl, (let r = items_form (tables_told s.story) s.items h in record { form = r.0; sizes = r.1 }));
 }
 goes_by s line step h (an_event e shows none p is) = record {
   text = plain_text s e none ∙ ap (λ (l : List ℕ). text_so_far s ++ (l ++ 10 ∷ [])) (sym is);
@@ -129,6 +129,6 @@ goes_by s line step h (an_event e shows none p is) = record {
   leaves = (refl, p);
 }
 
-pub goes : (s : SoFar) (line : List ℕ) (after : List Item) (told : Option Event) → Every (IsShowable (tables_of s.story)) s.items →
-    GoesOn (tables_of s.story) s.items line (after, told) → Goes s line after told
+pub goes : (s : SoFar) (line : List ℕ) (after : List Item) (told : Option Event) → Every (IsShowable (tables_told s.story)) s.items →
+    GoesOn (tables_told s.story) s.items line (after, told) → Goes s line after told
 goes s line after told h g = goes_by s line (after, told) h g

@@ -2,7 +2,7 @@
 use Rattle.salt_ast.specs.declared.trees.TableDef.{TableDef}
 use Rattle.salt_audit.proofs.OneMore.{printable_more}
 use Rattle.salt_audit.specs.Retelling.{retold}
-use Rattle.salt_audit.specs.Transcripts.{SoFar, tables_of}
+use Rattle.salt_audit.specs.Transcripts.{SoFar, tables_told}
 use Rattle.salt_audit.specs.declared.verdict.Law.{Law}
 use Rattle.salt_events.specs.Lines.{GoesOn, line_in}
 use Rattle.salt_model.specs.Naming.{IsNaming}
@@ -24,11 +24,11 @@ pub record LinesAreRead : Type 0 where
 
 module _ (laws : LinesAreRead) (r : Reader) (s : SoFar) (line : List ℕ) (h : HasRead r s) where
   -- the reader's tables and items are those of what is read
-  same_line : line_in (tables_of s.story) s.items line ≡ line_in r.judge.ledger.state.schema r.items line
+  same_line : line_in (tables_told s.story) s.items line ≡ line_in r.judge.ledger.state.schema r.items line
   same_line = λ i. line_in (h.told.holds.ledger.knows.schema i) (sym h.items i) line
 
   told : (after : List Item) (o : Option Event) → line_in r.judge.ledger.state.schema r.items line ≡ Some (after, o) → Goes s line after o
-  told after o e = goes s line after o h.showable (laws.back (tables_of s.story) s.items after line o (same_line ∙ e))
+  told after o e = goes s line after o h.showable (laws.back (tables_told s.story) s.items after line o (same_line ∙ e))
 
   pub item_taken : (after : List Item) (n : ℕ) → line_in r.judge.ledger.state.schema r.items line ≡ Some (after, None) → n ≡ r.lines + 1 →
       GoesOnTo (record r { items = after; lines = n }) s line
@@ -90,6 +90,6 @@ module _ (laws : LinesAreRead) (r : Reader) (s : SoFar) (line : List ℕ) (h : H
 
   pub line_nowhere : (t : Reader) → line_in r.judge.ledger.state.schema r.items line ≡ None → t.lines ≡ r.lines → GoesNowhere t s line
   line_nowhere t none count = record {
-    nowhere = λ after o g. let no : Some (after, o) ≡ None = sym (laws.read (tables_of s.story) s.items after line o h.told.naming g) ∙ same_line ∙ none in cc;
+    nowhere = λ after o g. let no : Some (after, o) ≡ None = sym (laws.read (tables_told s.story) s.items after line o h.told.naming g) ∙ same_line ∙ none in cc;
     lines = count ∙ h.lines;
   }

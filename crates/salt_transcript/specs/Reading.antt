@@ -1,7 +1,7 @@
 -- What is known behind lines that are read, and what becomes of it by the next one.
 use Rattle.law_texts.specs.EventLines.{Inline}
 use Rattle.salt_audit.specs.Retelling.{retold}
-use Rattle.salt_audit.specs.Transcripts.{ArePrintableOn, IsShowable, SoFar, lines_so_far, tables_of, text_so_far}
+use Rattle.salt_audit.specs.Transcripts.{ArePrintableOn, IsShowable, SoFar, lines_so_far, tables_told, text_so_far}
 use Rattle.salt_audit.specs.Verdicts.{broken, found_in, sound, unformed}
 use Rattle.salt_audit.specs.declared.verdict.Law.{Law}
 use Rattle.salt_audit.specs.declared.verdict.Verdict.{Verdict}
@@ -23,7 +23,7 @@ use Rattle.std.specs.Prelude.{Bool, List, Option, [], false, length, suc, true, 
 pub record HasTold (judge : Judge) (story : List Event) : Type 0 where
   pub holds : HoldsAll judge (retold story)
   pub found : found_in story ≡ sound
-  pub naming : IsNaming (tables_of story)
+  pub naming : IsNaming (tables_told story)
 
 -- what is read so far is this
 pub record HasRead (r : Reader) (s : SoFar) : Type 0 where
@@ -32,7 +32,7 @@ pub record HasRead (r : Reader) (s : SoFar) : Type 0 where
   pub events : r.events ≡ length s.story
   pub lines : r.lines ≡ lines_so_far s
   pub printable : ArePrintableOn (retold []) s.story
-  pub showable : Every (IsShowable (tables_of s.story)) s.items
+  pub showable : Every (IsShowable (tables_told s.story)) s.items
 
 -- nothing is still to come
 abbrev pub is_all_told : List Item → List ℕ → Bool
@@ -65,7 +65,7 @@ pub record GoesOnTo (r : Reader) (s : SoFar) (line : List ℕ) : Type 0 where
 -- a line tells an event that does not fit
 pub record EndsUnformed (r : Reader) (s : SoFar) (line : List ℕ) : Type 0 where
   pub event : Event
-  pub printable : IsPrintable (tables_of s.story) event
+  pub printable : IsPrintable (tables_told s.story) event
   pub text : text_so_far (record { story = s.story ++ event ∷ []; items = [] }) ≡ text_so_far s ++ (line ++ 10 ∷ [])
   pub found : found_in (s.story ++ event ∷ []) ≡ unformed (suc (length s.story))
   pub events : r.events ≡ length s.story
@@ -73,14 +73,14 @@ pub record EndsUnformed (r : Reader) (s : SoFar) (line : List ℕ) : Type 0 wher
 -- a line tells an event that breaks a law
 pub record EndsBroken (r : Reader) (s : SoFar) (line : List ℕ) (law : Law) (u : Id) : Type 0 where
   pub event : Event
-  pub printable : IsPrintable (tables_of s.story) event
+  pub printable : IsPrintable (tables_told s.story) event
   pub text : text_so_far (record { story = s.story ++ event ∷ []; items = [] }) ≡ text_so_far s ++ (line ++ 10 ∷ [])
   pub found : found_in (s.story ++ event ∷ []) ≡ broken law u (suc (length s.story))
   pub events : r.events ≡ length s.story
 
 -- a line goes on with no story
 pub record GoesNowhere (r : Reader) (s : SoFar) (line : List ℕ) : Type 0 where
-  pub nowhere : (after : List Item) (told : Option Event) → GoesOn (tables_of s.story) s.items line (after, told) → ⊥
+  pub nowhere : (after : List Item) (told : Option Event) → GoesOn (tables_told s.story) s.items line (after, told) → ⊥
   pub lines : r.lines ≡ lines_so_far s
 
 -- this is the verdict on all bytes that begin with what is read and then the line, and the line gives it

@@ -4,7 +4,7 @@ use Rattle.law_story.proofs.Places.{row_at-set}
 use Rattle.salt_ast.specs.declared.trees.Statement.{Statement}
 use Rattle.salt_ast.specs.declared.trees.TableDef.{TableDef}
 use Rattle.salt_audit.specs.Replaying.{done_under}
-use Rattle.salt_model.specs.Statements.{Run, has_failed, run_on, serial, with_done}
+use Rattle.salt_model.specs.Statements.{UnitRun, has_failed, run_on, serial, with_done}
 use Rattle.salt_model.specs.Tables.{Edits, Tables, changed_at, make_change, no_edits, place_cmp, place_total, put_changes, row_at, with_changes}
 use Rattle.salt_model.specs.declared.events.Answer.{Answer}
 use Rattle.salt_model.specs.declared.locks.Reach.{Reach}
@@ -109,7 +109,7 @@ module _ (laws : OfEdits) (es : Tables) where
   put_same [] ds = refl
   put_same (c ∷ cs) ds = put_same cs (record { list = put place_cmp (changed_at c) c.row ds.list; sorted = is_sorted-put place_cmp place_total (changed_at c) c.row ds.list ds.sorted })
 
-  abbrev at_tables : List Answer → List Binding → Edits → List Reach → Tables → Run
+  abbrev at_tables : List Answer → List Binding → Edits → List Reach → Tables → UnitRun
   at_tables as_ vars changes reaches tables = record { answers = as_; tables = tables; vars = vars; changes = changes; reaches = reaches }
 
   outcomes_are : (schema : List TableDef) (sts : List Statement) (as_ : List Answer) (vars : List Binding) (ds : Edits) (reaches : List Reach) →

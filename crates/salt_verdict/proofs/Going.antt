@@ -12,7 +12,7 @@ use Rattle.salt_ast.specs.declared.trees.Statement.{Statement}
 use Rattle.salt_books.proofs.Found.{cont_in-find}
 use Rattle.salt_model.specs.After.{conts_at, branched, kept, run_of, tables_after, vars_of}
 use Rattle.salt_model.specs.Phases.{has_opened}
-use Rattle.salt_model.specs.Statements.{Run, serial}
+use Rattle.salt_model.specs.Statements.{UnitRun, serial}
 use Rattle.salt_model.specs.Trace.{Trace}
 use Rattle.salt_model.specs.Units.{answers_of, done_of, is_open, kind_of, open_units, units_begun}
 use Rattle.salt_model.specs.declared.events.Answer.{Answer}
@@ -103,7 +103,7 @@ module _ (l : Ledger) (trace : Trace) (h : Holds l trace) where
 
   -- an end
   rows_end : (u : Id) (e : End) → is_open trace u ≡ true → tables_after (told trace (event.Ended u e)) ≡ rows_by (event.Ended u e) l
-  rows_end u (end.Committed n) runs = ap (λ (r : Run). r.tables) (run_same u runs)
+  rows_end u (end.Committed n) runs = ap (λ (r : UnitRun). r.tables) (run_same u runs)
   rows_end u (end.Failed c) runs = h.tables
   rows_end u (end.Branched n c) runs = branch (kind_of u trace)
     where

@@ -3,7 +3,7 @@ use Rattle.law_states.specs.Overlays.{Edit, edits_of, put_all}
 use Rattle.salt_ast.specs.declared.trees.Statement.{Statement}
 use Rattle.salt_ast.specs.declared.trees.TableDef.{TableDef}
 use Rattle.salt_audit.specs.Replaying.{done_under}
-use Rattle.salt_model.specs.Statements.{Run, has_failed}
+use Rattle.salt_model.specs.Statements.{UnitRun, has_failed}
 use Rattle.salt_model.specs.Tables.{Tables}
 use Rattle.salt_model.specs.declared.events.Answer.{Answer}
 use Rattle.salt_model.specs.declared.vars.Binding.{Binding}
@@ -27,8 +27,8 @@ outcome_on schema es as_ ds vars (st ∷ sts) =
 abbrev pub outcome_now : Again → Outcome
 outcome_now again = record { answers = again.answers; vars = again.unit.vars; edits = edits_of again.unit.changes.items }
 
-abbrev pub outcome_of_run : Run → Outcome
+abbrev pub outcome_of_run : UnitRun → Outcome
 outcome_of_run run = record { answers = run.answers; vars = run.vars; edits = run.changes.list }
 
-pub record Gives (again : Again) (run : Run) : Type 0 where
+pub record Gives (again : Again) (run : UnitRun) : Type 0 where
   pub outcome : outcome_now again ≡ outcome_of_run run

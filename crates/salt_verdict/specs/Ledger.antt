@@ -5,7 +5,7 @@ use Rattle.salt_audit.specs.Laws.{is_same_answer, same_all}
 use Rattle.salt_audit.specs.Knowing.{Knows}
 use Rattle.salt_audit.specs.Replaying.{is_amiss}
 use Rattle.salt_model.specs.After.{kept, tables_after, vars_of}
-use Rattle.salt_model.specs.Statements.{Run, serial}
+use Rattle.salt_model.specs.Statements.{UnitRun, serial}
 use Rattle.salt_model.specs.Trace.{Trace}
 use Rattle.salt_model.specs.Units.{answers_of, done_of, is_open, open_units, units_begun}
 use Rattle.salt_model.specs.declared.events.Answer.{Answer}
@@ -40,7 +40,7 @@ answers_in None = []
 answers_in (Some a) = a.answers
 
 -- what a unit's statements give where they are done again
-abbrev pub run_by : Ledger → Id → Run
+abbrev pub run_by : Ledger → Id → UnitRun
 run_by l u = let act = act_in u l.acts in serial l.state.schema (tables_made l.rows) (vars_in act) (done_in act)
 
 abbrev pub replays_by : Ledger → Id → Bool

@@ -1,5 +1,5 @@
 use Rattle.law_states.specs.OpenUnits.{OpenUnit, UnitState}
-use Rattle.law_states.specs.Told.{next_decision}
+use Rattle.law_states.specs.Told.{next_decision_number}
 use Rattle.salt_model.specs.Trace.{Trace, ◌says◌}
 use Rattle.salt_model.specs.declared.events.End.TheVariants.{Branched, Committed}
 use Rattle.salt_model.specs.declared.events.End.{End}
@@ -12,9 +12,9 @@ use Rattle.law_decisions.specs.Ending.{EndsNext}
 pub returns : goal.returns
 returns c = record {
   commit = λ s trace o cs m conts next are moves goes.
-      may-commit s trace o (Committed (next_decision s)) next (around s trace o (Committed (next_decision s)) next) cs m conts are moves (committed-is s o cs conts are goes);
+      may-commit s trace o (Committed (next_decision_number s)) next (around s trace o (Committed (next_decision_number s)) next) cs m conts are moves (committed-is s o cs conts are goes);
   branch = λ s trace o cause m conts next moves goes.
-      may-branch s trace o (Branched (next_decision s) cause) next (around s trace o (Branched (next_decision s) cause) next) m conts moves (branched-is s o cause conts goes);
+      may-branch s trace o (Branched (next_decision_number s) cause) next (around s trace o (Branched (next_decision_number s) cause) next) m conts moves (branched-is s o cause conts goes);
 }
   where
     around : (s : UnitState) (trace : Trace) (o : OpenUnit) (end : End) → EndsNext s trace o end → IsAround s trace o end

@@ -3,7 +3,7 @@ use Rattle.law_definitions.specs.Texts.{definition_in}
 use Rattle.salt_commit.specs.Commits.{CommitPassesLimit, IsCommitLog, fits_its_part}
 use Rattle.salt_commit.specs.Prepares.{FullWhere}
 use Rattle.salt_commit.specs.Stores.{reading}
-use Rattle.salt_stands.specs.Fitting.{tables_of}
+use Rattle.salt_stands.specs.Fitting.{tables_defined}
 use Rattle.salt_devices.proofs.Committing.{short_move}
 use Rattle.salt_devices.proofs.Deciding.{others_stay_new, stands_to_commit, unit_holds, unit_leaves_either}
 use Rattle.salt_devices.proofs.Filled.{unit_fills}
@@ -41,7 +41,7 @@ commit-requires-clause-stands g c =
     let r = c.requires.held in
     let made = c.args.made.now in
     let reads : move_in 3 (spell_move 3 made) ≡ Some made = c.moves_are_read.ensures 3 made c.told_move.ensures in
-    let sound : (co : Coordinator Definition) → AreChangesOf (tables_of co.definitions) c.args.changes.now → list_all (fits_its_part reading co) c.args.changes.now ≡ true = λ co fits. c.typed_changes_are_sound.ensures.all definition_in co c.args.changes.now fits in
+    let sound : (co : Coordinator Definition) → AreChangesOf (tables_defined co.definitions) c.args.changes.now → list_all (fits_its_part reading co) c.args.changes.now ≡ true = λ co fits. c.typed_changes_are_sound.ensures.all definition_in co c.args.changes.now fits in
     let spells : c.deref.result.now ≡ spell_move 3 made = c.deref.ensures.value ∙ c.in_ok-spelled.ensures in
     stands_to_commit (g.D.Disks.view c.args.disks.now) r.0 c.args.store.now r.1 r.2 c.args.unit c.args.changes.now made r.3.0 r.3.1 c.requires.new reads sound c.deref.result.now spells
 
@@ -49,7 +49,7 @@ pub returns-clause-holds : goal.returns-clause-holds
 returns-clause-holds g c shape k conts h may =
     let made = c.args.made.now in
     let reads : move_in 3 (spell_move 3 made) ≡ Some made = c.moves_are_read.ensures 3 made c.told_move.ensures in
-    let sound : (co : Coordinator Definition) → AreChangesOf (tables_of co.definitions) c.args.changes.now → list_all (fits_its_part reading co) c.args.changes.now ≡ true = λ co fits. c.typed_changes_are_sound.ensures.all definition_in co c.args.changes.now fits in
+    let sound : (co : Coordinator Definition) → AreChangesOf (tables_defined co.definitions) c.args.changes.now → list_all (fits_its_part reading co) c.args.changes.now ≡ true = λ co fits. c.typed_changes_are_sound.ensures.all definition_in co c.args.changes.now fits in
     let spells : c.deref.result.now ≡ spell_move 3 made = c.deref.ensures.value ∙ c.in_ok-spelled.ensures in
     let keys = c.told_keys.ensures in
     unit_holds (g.D.Disks.view c.args.disks.now) shape c.args.store.now k h c.args.unit c.args.changes.now made conts may c.requires.new reads sound c.deref.result.now spells
@@ -60,7 +60,7 @@ returns-clause-is_new g c u other new =
     let r = c.requires.held in
     let made = c.args.made.now in
     let reads : move_in 3 (spell_move 3 made) ≡ Some made = c.moves_are_read.ensures 3 made c.told_move.ensures in
-    let sound : (co : Coordinator Definition) → AreChangesOf (tables_of co.definitions) c.args.changes.now → list_all (fits_its_part reading co) c.args.changes.now ≡ true = λ co fits. c.typed_changes_are_sound.ensures.all definition_in co c.args.changes.now fits in
+    let sound : (co : Coordinator Definition) → AreChangesOf (tables_defined co.definitions) c.args.changes.now → list_all (fits_its_part reading co) c.args.changes.now ≡ true = λ co fits. c.typed_changes_are_sound.ensures.all definition_in co c.args.changes.now fits in
     let spells : c.deref.result.now ≡ spell_move 3 made = c.deref.ensures.value ∙ c.in_ok-spelled.ensures in
     let keys = c.told_keys.ensures in
     others_stay_new (g.D.Disks.view c.args.disks.now) r.0 c.args.store.now r.1 r.2 c.args.unit c.args.changes.now made r.3.0 r.3.1 c.requires.new reads sound c.deref.result.now spells
@@ -70,7 +70,7 @@ pub returns-clause-leaves : goal.returns-clause-leaves
 returns-clause-leaves g c shape k conts h may =
     let made = c.args.made.now in
     let reads : move_in 3 (spell_move 3 made) ≡ Some made = c.moves_are_read.ensures 3 made c.told_move.ensures in
-    let sound : (co : Coordinator Definition) → AreChangesOf (tables_of co.definitions) c.args.changes.now → list_all (fits_its_part reading co) c.args.changes.now ≡ true = λ co fits. c.typed_changes_are_sound.ensures.all definition_in co c.args.changes.now fits in
+    let sound : (co : Coordinator Definition) → AreChangesOf (tables_defined co.definitions) c.args.changes.now → list_all (fits_its_part reading co) c.args.changes.now ≡ true = λ co fits. c.typed_changes_are_sound.ensures.all definition_in co c.args.changes.now fits in
     let spells : c.deref.result.now ≡ spell_move 3 made = c.deref.ensures.value ∙ c.in_ok-spelled.ensures in
     let keys = c.told_keys.ensures in
     unit_leaves_either (g.D.Disks.view c.args.disks.now) shape c.args.store.now k h c.args.unit c.args.changes.now made conts may c.requires.new reads sound c.deref.result.now spells
@@ -80,7 +80,7 @@ pub returns-in_err-number-clause-leaves : goal.returns-in_err-number-clause-leav
 returns-in_err-number-clause-leaves g c shape k conts h may =
     let made = c.args.made.now in
     let reads : move_in 3 (spell_move 3 made) ≡ Some made = c.moves_are_read.ensures 3 made c.told_move.ensures in
-    let sound : (co : Coordinator Definition) → AreChangesOf (tables_of co.definitions) c.args.changes.now → list_all (fits_its_part reading co) c.args.changes.now ≡ true = λ co fits. c.typed_changes_are_sound.ensures.all definition_in co c.args.changes.now fits in
+    let sound : (co : Coordinator Definition) → AreChangesOf (tables_defined co.definitions) c.args.changes.now → list_all (fits_its_part reading co) c.args.changes.now ≡ true = λ co fits. c.typed_changes_are_sound.ensures.all definition_in co c.args.changes.now fits in
     let spells : c.deref.result.now ≡ spell_move 3 made = c.deref.ensures.value ∙ c.in_ok-spelled.ensures in
     let keys = c.told_keys.ensures in
     unit_leaves_either (g.D.Disks.view c.args.disks.now) shape c.args.store.now k h c.args.unit c.args.changes.now made conts may c.requires.new reads sound c.deref.result.now spells

@@ -5,7 +5,7 @@ use Rattle.salt_engine.proofs.Committing.{commit-done, commit-may, commit-moves,
 use Rattle.salt_engine.proofs.Decided.{undone-before}
 use Rattle.salt_books.proofs.Shown.{have-unit}
 use Rattle.salt_engine.proofs.deciding.decide_commit.Goals as goal
-use Rattle.law_states.specs.Told.{next_decision}
+use Rattle.law_states.specs.Told.{next_decision_number}
 use Rattle.salt_model.specs.Kept.{conts_committed}
 use Rattle.salt_storage.proofs.Staying.{stays-same}
 use Rattle.std.proofs.Common.{ap, ◌∙◌}
@@ -28,7 +28,7 @@ commit-requires-clause-may g c =
       s.kept,
       b.stored.holding,
       (
-        conts_committed s.kept (next_decision s) o.kind o.vars,
+        conts_committed s.kept (next_decision_number s) o.kind o.vars,
         commit-may holds is_new x s o c.args.unit c.stands.ensures.sound named b c.decided_ends_may_be_kept.ensures.commit c.as_slice.result.now c.in_ok-made.made
             (c.as_slice.ensures.value ∙ c.in_ok-changes.ensures s o b.books named) moves,
       ),
@@ -62,7 +62,7 @@ returns-clause-committed g c = λ s o b named.
     let are = c.as_slice.ensures.value ∙ c.in_ok-changes.ensures s o b.books named in
     let may = commit-may holds is_new x s o c.args.unit c.stands.ensures.sound named b c.decided_ends_may_be_kept.ensures.commit c.as_slice.result.now c.in_ok-made.made are moves in
     commit-done holds is_new x s o c.args.unit c.stands.ensures.sound named b c.decided_ends_may_be_kept.ensures.commit c.as_slice.result.now c.in_ok-made.made are moves _ _
-    (c.in_ok-number.ensures.holds s.kept (conts_committed s.kept (next_decision s) o.kind o.vars) b.stored.holding may) c.in_ok-number.ensures.is_new
+    (c.in_ok-number.ensures.holds s.kept (conts_committed s.kept (next_decision_number s) o.kind o.vars) b.stored.holding may) c.in_ok-number.ensures.is_new
     c.in_ok-number.number (c.in_ok-number.ensures.number s.kept b.stored.holding)
 
 pub returns-in_err-changes-clause-undone : goal.returns-in_err-changes-clause-undone
@@ -82,7 +82,7 @@ returns-in_err-number-clause-undone g c =
     let are = c.as_slice.ensures.value ∙ c.in_ok-changes.ensures s o b.books named in
     let may = commit-may holds is_new x s o c.args.unit sound named b law c.as_slice.result.now c.in_ok-made.made are moves in
     commit-undone holds is_new x s o c.args.unit sound named b law c.as_slice.result.now c.in_ok-made.made are moves _ _ _
-    (c.in_err-number.ensures.leaves s.kept (conts_committed s.kept (next_decision s) o.kind o.vars) b.stored.holding may)
+    (c.in_err-number.ensures.leaves s.kept (conts_committed s.kept (next_decision_number s) o.kind o.vars) b.stored.holding may)
     (λ dev is. c.in_err-number.ensures.full dev (ap Err is)))
 
 pub returns-in_err-made-clause-committed : goal.returns-in_err-made-clause-committed

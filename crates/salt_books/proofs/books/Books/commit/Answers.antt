@@ -10,7 +10,7 @@ use Rattle.salt_books.specs.Names.{names_held}
 use Rattle.salt_books.specs.declared.held.Held.{Held}
 use Rattle.law_states.specs.Overlays.{with_edits}
 use Rattle.law_states.specs.Steps.{kept_ended}
-use Rattle.law_states.specs.Told.{next_decision}
+use Rattle.law_states.specs.Told.{next_decision_number}
 use Rattle.salt_books.specs.Known.{IsKnown}
 use Rattle.salt_model.specs.Kept.{Kept}
 use Rattle.salt_model.specs.declared.events.End.TheVariants.{Committed}
@@ -24,7 +24,7 @@ returns c = λ s o conts is h rises named moves are.
     let named-at = λ (d : Held). subst (λ (hs : List Held). (get_or hs c.place_named-at.result d).open.unit ≡ c.args.unit) c.as_slice.ensures.value (c.place_named-at.ensures.named d) in
     let held = c.remove-held.result in
     let items = c.self.inside.units.items in
-    let end = Committed (next_decision s) in
+    let end = Committed (next_decision_number s) in
     record {
       known = subst (λ (k : Kept). IsKnown c.commit.new.self k)
           ((λ i. record s.kept { decisions = is i; tables = with_edits o.changes s.kept.tables; conts = are i }) ∙ sym (ap (kept_ended s.kept end) named))

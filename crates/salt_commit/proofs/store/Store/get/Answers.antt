@@ -3,9 +3,9 @@ use Rattle.salt_commit.proofs.Reading.{row_of_all, stands_after, taken}
 use Rattle.salt_commit.proofs.store.Store.get.Goals as goal
 use Rattle.salt_commit.specs.Stores.{reading}
 use Rattle.salt_model.specs.Tables.{place, row_at}
-use Rattle.salt_stands.specs.Commits.{parts_of}
+use Rattle.salt_stands.specs.Commits.{partition_count}
 use Rattle.salt_stands.specs.Partition.{part_of_key}
-use Rattle.salt_stands.specs.Pieces.{tables_of}
+use Rattle.salt_stands.specs.Pieces.{tables_at_part}
 use Rattle.std.proofs.Common.{None, Some, ap, arith, length, refl, sym, ◌<◌, ◌≡◌, ◌∙◌}
 use Rattle.std.proofs.lemmas.Result.{err_from_is_err_and}
 
@@ -31,8 +31,8 @@ returns-clause-row g c which co v is told =
     let within : p < length x.parts.items = omega (arith, c.part_of-number.ensures.below, ap (λ s. s.parts) c.shape.ensures.value, ap (λ s. s.parts) is.decisions.holds.shape, is.size) in
     let own = taken reading d x which co v is p q within c.index_mut-part.ensures.value in
     let here : p ≡ part_of_key co.log.header.shape key = c.part_of-number.ensures.part ∙ ap (λ s. part_of_key s key) (c.shape.ensures.value ∙ is.decisions.holds.shape) in
-    let low : part_of_key co.log.header.shape key < parts_of co = omega (arith, here, within, is.size) in
-    c.in_ok-row.ensures.row p (v p) _ own ∙ ap (λ k. row_at (place c.args.table key) (tables_of co k (v k))) here ∙ sym (row_of_all reading d x which co v is told c.args.table key low)
+    let low : part_of_key co.log.header.shape key < partition_count co = omega (arith, here, within, is.size) in
+    c.in_ok-row.ensures.row p (v p) _ own ∙ ap (λ k. row_at (place c.args.table key) (tables_at_part co k (v k))) here ∙ sym (row_of_all reading d x which co v is told c.args.table key low)
 
 pub returns-clause-stands : goal.returns-clause-stands
 returns-clause-stands g c which co v is =

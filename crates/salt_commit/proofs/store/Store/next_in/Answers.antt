@@ -2,7 +2,7 @@ use Rattle.salt_commit.proofs.Ended.{none_behind}
 use Rattle.salt_commit.proofs.OnePart.{next_of_store}
 use Rattle.salt_commit.proofs.store.Store.next_in.Goals as goal
 use Rattle.salt_eval.specs.Views.{next_row}
-use Rattle.salt_stands.specs.Commits.{found_of, parts_of}
+use Rattle.salt_stands.specs.Commits.{found_of, partition_count}
 use Rattle.salt_stands.specs.Partition.{part_of_key}
 use Rattle.std.proofs.Common.{ap, arith, subst, sym, ◌<◌, ◌≡◌, ◌∙◌}
 use Rattle.std.specs.Option.{option_copied}
@@ -30,7 +30,7 @@ returns-in-Some-clause-row g c which co v is =
     let d = g.D.Disks.view c.args.disks.now in
     let p = c.in-Some.number in
     let shape = c.shape.ensures.value ∙ is.decisions.holds.shape in
-    let low : p < parts_of co = omega (arith, c.in-Some.ensures.below, ap (λ k. k.parts) shape) in
+    let low : p < partition_count co = omega (arith, c.in-Some.ensures.below, ap (λ k. k.parts) shape) in
     subst (λ o. IfOk c.next_in_part.result (λ row. row ≡ o))
     (next_of_store d x c.requires.stands which co v is c.args.table c.args.range.now (option_copied c.args.after) p low
     (λ key k below inside at. c.in-Some.ensures.alone key k (omega (arith, below, ap (λ k. k.parts) shape)) inside (ap (λ k. part_of_key k key) shape ∙ at)))

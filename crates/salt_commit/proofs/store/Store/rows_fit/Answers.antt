@@ -3,7 +3,7 @@ use Rattle.salt_commit.proofs.store.Store.rows_fit.Goals as goal
 use Rattle.salt_commit.specs.Loads.{fits_place}
 use Rattle.salt_decisions.specs.Decisions.{shape_of}
 use Rattle.salt_partition.specs.declared.partition.Partition.{Partition}
-use Rattle.salt_stands.specs.Commits.{parts_of}
+use Rattle.salt_stands.specs.Commits.{partition_count}
 use Rattle.salt_place.specs.declared.placement.Shape.{Shape}
 use Rattle.std.proofs.Common.{List, Some, ap, arith, length, refl, slice_get, sym, ◌<◌, ◌≡◌, ◌∙◌}
 use Rattle.std.proofs.lemmas.Option.{slice_get_read}
@@ -32,8 +32,8 @@ returns-then-not-branch-clause-told g c which co v is told tables =
     ap (λ (l : List Partition). slice_get l part) (sym c.deref.ensures.value) ∙ ap (slice_get c.deref.result.now) (sym c.from.ensures)
     ∙ slice_get_read c.deref.result.now (length c.deref.result.now) c.from.result q refl found.3.0 found.1 in
     let shape : c.shape-shape.result ≡ co.log.header.shape = c.shape-shape.ensures.value ∙ is.decisions.holds.shape in
-    let count : c.shape-shape.result.parts ≡ parts_of co = ap (λ (s : Shape). s.parts) shape in
-    let low : part < parts_of co = omega (arith, c.loop-part-test.true, count) in
+    let count : c.shape-shape.result.parts ≡ partition_count co = ap (λ (s : Shape). s.parts) shape in
+    let low : part < partition_count co = omega (arith, c.loop-part-test.true, count) in
     let fits = told_fits c.args.schema.now (g.D.Disks.view c.args.disks.now) x which co v is told tables part low q at in
     sym (ap (λ (s : Shape). list_all (fits_place c.args.schema.now s part) q.rows.entries) (sym shape) ∙ ap (list_all (fits_place c.args.schema.now c.shape-shape.result part)) (sym c.rows.ensures)
     ∙ sym c.in_ok-rows_fit.ensures ∙ c.if-not-branch.true) ∙ fits
@@ -43,6 +43,6 @@ returns-clause-fit g c fitting which co v is =
     let x = c.args.self.now in
     let l = c.loop-part in
     let shape : c.shape-shape.result ≡ co.log.header.shape = c.shape-shape.ensures.value ∙ is.decisions.holds.shape in
-    let count : c.shape-shape.result.parts ≡ parts_of co = ap (λ (s : Shape). s.parts) shape in
+    let count : c.shape-shape.result.parts ≡ partition_count co = ap (λ (s : Shape). s.parts) shape in
     in_place c.args.schema.now (g.D.Disks.view c.args.disks.now) x which co v is (shape_of x.decisions) is.decisions.holds.shape
     (λ p low. l.invariant p (omega (arith, low, count, c.loop-part-test.false)))

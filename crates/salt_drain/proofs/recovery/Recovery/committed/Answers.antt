@@ -2,7 +2,7 @@ use Rattle.salt_drain.proofs.recovery.Recovery.committed.Goals as goal
 use Rattle.salt_books.specs.Held.{seen}
 use Rattle.law_states.specs.OpenUnits.{OpenUnit}
 use Rattle.law_states.specs.Steps.{units_after}
-use Rattle.law_states.specs.Told.{next_decision}
+use Rattle.law_states.specs.Told.{next_decision_number}
 use Rattle.salt_model.specs.Kept.{conts_committed}
 use Rattle.salt_model.specs.declared.events.End.TheVariants.{Committed}
 use Rattle.salt_model.specs.declared.events.Event.TheVariants.{Ended}
@@ -18,7 +18,7 @@ use Rattle.std.specs.Prelude.{Some, refl}
 pub returns : goal.returns
 returns c = λ s o number stands r named moves.
     let u = c.args.unit in
-    let n = next_decision s.units in
+    let n = next_decision_number s.units in
     let e = Ended u (Committed n) in
     let held : OpenUnit = seen c.held-held.result.now in
     let follows = committed u n s.units (units_after e s.units) held (c.held-held.ensures s.units stands.books) in

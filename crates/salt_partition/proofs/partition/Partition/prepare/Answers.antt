@@ -2,7 +2,7 @@ use Rattle.salt_bytes.specs.Changes.{are_in_order}
 use Rattle.salt_bytes.specs.Partition.{prepared_in, spell_prepared}
 use Rattle.salt_bytes.specs.Spellable.{Every}
 use Rattle.salt_disk.specs.Disks.{EachImage}
-use Rattle.salt_codec.specs.Entries.{IsPut}
+use Rattle.salt_codec.specs.Entries.{CanBePut}
 use Rattle.salt_gatelog.specs.Log.{IsBeforeOrWith, IsLog, payload_in}
 use Rattle.salt_partition.proofs.Standing.{entries_stand, with_unit}
 use Rattle.salt_partition.proofs.Steps.{on_ok}
@@ -18,7 +18,7 @@ returns-clause-ok g c p v applied is may =
     let x = c.args.self.now in
     let u = c.args.unit in
     let spelled : payload_in c.in_ok-frame.frame.items ≡ spell_prepared (prepared u c.args.changes.now) = c.in_ok-frame.ensures.payload ∙ ap (λ (cs : List Change). spell_prepared (prepared u cs)) c.as_slice.ensures in
-    let reads = subst (λ (cs : List Change). (nulls : Bool) → Every (IsPut nulls) cs → are_in_order cs ≡ true → prepared_in nulls (spell_prepared (prepared u cs)) ≡ Some (prepared u cs)) c.as_slice.ensures c.in_ok-frame.ensures.read in
+    let reads = subst (λ (cs : List Change). (nulls : Bool) → Every (CanBePut nulls) cs → are_in_order cs ≡ true → prepared_in nulls (spell_prepared (prepared u cs)) ≡ Some (prepared u cs)) c.as_slice.ensures c.in_ok-frame.ensures.read in
     on_ok (λ dev. dev ≡ x.log.dev) d e c.append_frame.result (IsLog e c.append_frame.new.self (is.entries ++ payload_in c.in_ok-frame.frame.items ∷ [])) _ (c.append_frame.ensures.ok is.entries is.is_log) c.append_frame.ensures.others
     (λ is_log others. with_unit d e x _ p v applied is u c.args.changes.now may reads others refl refl refl (record { unit = u; changes = c.in_ok-changes.changes }) refl (ap (λ (cs : List Change). prepared u cs) (c.in_ok-changes.ensures ∙ c.as_slice-2.ensures)) c.append_frame.ensures.device
     (subst (λ (bytes : List ℕ). IsLog e c.append_frame.new.self (is.entries ++ bytes ∷ [])) spelled is_log))

@@ -3,7 +3,7 @@ use Rattle.std.specs.Prelude.{Some, refl}
 use Rattle.salt_model.specs.Kept.{conts_branched}
 use Rattle.salt_model.specs.Units.{program_begun}
 use Rattle.salt_model.specs.declared.events.Event.TheVariants.{Ended}
-use Rattle.law_states.specs.Told.{next_decision}
+use Rattle.law_states.specs.Told.{next_decision_number}
 use Rattle.salt_model.specs.declared.events.End.TheVariants.{Branched}
 use Rattle.salt_model.specs.declared.events.End.{End}
 use Rattle.salt_books.proofs.Named.{rising}
@@ -13,7 +13,7 @@ use Rattle.std.proofs.Common.{ap, ◌∙◌}
 
 pub returns : goal.returns
 returns c = λ s o part number stands sound named kind made.
-    let end : End = Branched (next_decision s.units) c.args.cause in
+    let end : End = Branched (next_decision_number s.units) c.args.cause in
     branch-gives c.args.self.now _ c.args.unit c.args.base part c.args.cause o s _ stands named kind
     (λ i. Some (Ended c.args.unit (Branched (number i) c.args.cause)))
     (c.in_ok-branch.ensures s.units o (conts_branched s.units.kept o.kind) c.args.cause number stands.books (rising s sound) named made refl)
