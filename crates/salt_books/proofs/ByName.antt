@@ -1,11 +1,10 @@
 -- Units in the order of their names: where one stands, and what becomes of the order.
 use Rattle.law_states.proofs.Ascending.{older-strict}
-use Rattle.law_states.specs.Rising.{Rising}
+use Rattle.law_states.specs.Rising.{AreInOrder, Rising}
 use Rattle.law_story.proofs.Ids.{is_same_id-true}
 use Rattle.law_story.proofs.Lists.{either}
 use Rattle.salt_books.proofs.LookUps.{none-found}
 use Rattle.salt_books.proofs.Ordered.{in-order, rising-of}
-use Rattle.salt_books.specs.Bases.{AreInOrder}
 use Rattle.salt_books.specs.Names.{IsPlaceOf, has_name, names_held}
 use Rattle.salt_books.specs.declared.held.Held.{Held}
 use Rattle.salt_model.specs.Words.{Every}

@@ -1,9 +1,9 @@
 -- Continuations in the order of their programs: where one stands, and what is left where it is replaced or taken out.
 use Rattle.law_states.proofs.Ascending.{older-strict}
-use Rattle.law_states.specs.Rising.{Rising}
+use Rattle.law_states.specs.Rising.{AreInOrder, Rising}
 use Rattle.law_story.proofs.Ids.{is_same_id-sym, is_same_id-true}
 use Rattle.law_story.proofs.Lists.{either}
-use Rattle.salt_books.specs.Bases.{AreInOrder, bases_in}
+use Rattle.salt_books.specs.Bases.{bases_in}
 use Rattle.salt_model.specs.Kept.{cont_in}
 use Rattle.salt_model.specs.Words.{Every}
 use Rattle.salt_stands.specs.OpenConts.{replace_cont, without_cont}

@@ -44,7 +44,7 @@ pub struct Books {
 
 impl Model for Books {
     ghost use Rattle.salt_ast.specs.contracts.trees.Expr as expr;
-    ghost use Rattle.salt_books.specs.Bases.{AreInOrder};
+    ghost use Rattle.law_states.specs.Rising.{AreInOrder};
     ghost use Rattle.salt_books.specs.Held.{seen};
     ghost use Rattle.salt_books.specs.Names.{names_held};
     ghost use Rattle.salt_books.specs.Shown.{ShownBooks};

@@ -48,7 +48,8 @@ pub struct Known {
 }
 
 impl Model for Known {
-    ghost use Rattle.salt_books.specs.Bases.{AreInOrder, bases_in};
+    ghost use Rattle.law_states.specs.Rising.{AreInOrder};
+    ghost use Rattle.salt_books.specs.Bases.{bases_in};
     ghost use Rattle.salt_ast.specs.contracts.trees.Expr as expr;
     ghost use Rattle.salt_books.specs.Shown.{ShownKnown};
     ghost use Rattle.salt_cont.specs.Catalogues.{AllLeadOn};

@@ -1,6 +1,6 @@
 //! Where the open unit of a name stands.
 
-ghost use Rattle.salt_books.specs.Bases.{AreInOrder};
+ghost use Rattle.law_states.specs.Rising.{AreInOrder};
 ghost use Rattle.salt_books.specs.Names.{IsPlaceOf, has_name, names_held};
 ghost use Rattle.salt_books.specs.declared.held.Held.{Held};
 ghost use Rattle.salt_values.specs.Id.{is_older};

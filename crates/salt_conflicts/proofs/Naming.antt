@@ -1,12 +1,11 @@
 -- Names in order: where one stands among them, and what is left where it goes.
 use Rattle.law_states.proofs.Ascending.{Older, every-in, older-strict, order-of-ascending}
 use Rattle.law_states.specs.Members.{Ascends, In}
-use Rattle.law_states.specs.Rising.{Rising}
+use Rattle.law_states.specs.Rising.{AreInOrder, Rising}
 use Rattle.law_story.proofs.Ids.{is_same_id-refl, is_same_id-true}
 use Rattle.law_story.proofs.Lists.{either, has-in, in-cases, in-has, in-left, in-right}
 use Rattle.salt_conflicts.proofs.Finishing.{in-order-already}
 use Rattle.salt_conflicts.proofs.Told.{filter-all}
-use Rattle.salt_conflicts.specs.Names.{AreInOrder}
 use Rattle.salt_model.specs.Words.{Every}
 use Rattle.salt_values.specs.Id.{has_id, insert_id, is_older, is_same_id, without}
 use Rattle.salt_values.specs.declared.id.Id.{Id}

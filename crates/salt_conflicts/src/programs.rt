@@ -1,7 +1,6 @@
 //! The accepted programs that are not released.
 
-ghost use Rattle.law_states.specs.Rising.{Rising};
-ghost use Rattle.salt_conflicts.specs.Names.{AreInOrder};
+ghost use Rattle.law_states.specs.Rising.{AreInOrder, Rising};
 ghost use Rattle.salt_values.specs.Id.{has_id, in_order, insert_id, is_older, without};
 ghost use Rattle.salt_values.specs.declared.id.Id.{Id};
 ghost use Rattle.std.specs.List.Sorted.{IsPartitionPoint};

@@ -3,7 +3,7 @@ use Rattle.salt_books.proofs.LookUps.{there}
 use Rattle.salt_books.proofs.OneHeld.{changed, held-named}
 use Rattle.salt_books.proofs.Shown.{books-shown}
 use Rattle.salt_books.proofs.books.Books.act.Goals as goal
-use Rattle.salt_books.specs.Bases.{AreInOrder}
+use Rattle.law_states.specs.Rising.{AreInOrder}
 use Rattle.salt_books.specs.Books.{AreLoaded, units_in}
 use Rattle.salt_books.specs.Held.{seen}
 use Rattle.salt_books.specs.Names.{names_held}

@@ -4,7 +4,7 @@ use Rattle.salt_books.proofs.LookUps.{there}
 use Rattle.salt_books.proofs.OneHeld.{left}
 use Rattle.salt_books.proofs.Shown.{books-shown}
 use Rattle.salt_books.proofs.books.Books.end.Goals as goal
-use Rattle.salt_books.specs.Bases.{AreInOrder}
+use Rattle.law_states.specs.Rising.{AreInOrder}
 use Rattle.salt_books.specs.Books.{units_in}
 use Rattle.salt_books.specs.Held.{seen}
 use Rattle.salt_books.specs.Names.{names_held}

@@ -1,7 +1,7 @@
 use Rattle.salt_books.proofs.LookUps.{find-seen}
 use Rattle.salt_books.proofs.Shown.{books-shown}
 use Rattle.salt_books.proofs.books.Books.unit_named.Goals as goal
-use Rattle.salt_books.specs.Bases.{AreInOrder}
+use Rattle.law_states.specs.Rising.{AreInOrder}
 use Rattle.salt_books.specs.Held.{seen}
 use Rattle.salt_books.specs.Names.{names_held}
 use Rattle.salt_books.specs.declared.held.Held.{Held}

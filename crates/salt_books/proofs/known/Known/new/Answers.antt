@@ -1,6 +1,7 @@
 use Rattle.salt_books.proofs.Ordered.{in-order, rising-none}
 use Rattle.salt_books.proofs.known.Known.new.Goals as goal
-use Rattle.salt_books.specs.Bases.{AreInOrder, bases_in}
+use Rattle.law_states.specs.Rising.{AreInOrder}
+use Rattle.salt_books.specs.Bases.{bases_in}
 use Rattle.salt_values.specs.declared.cont.Cont.{Cont}
 use Rattle.std.proofs.Common.{List, subst, sym}
 
