@@ -12,7 +12,8 @@ use Rattle.salt_engine.proofs.Decided.{stored-behind}
 use Rattle.salt_engine.proofs.Performed.{serves-by}
 use Rattle.salt_engine.specs.Deciding.{Undone}
 use Rattle.salt_engine.specs.Flights.{IsInFlight, definition_of, text_of}
-use Rattle.salt_engine.specs.Performing.{AsksLine, BreaksOff, Performs, WasBroken, is_definition}
+use Rattle.salt_model.specs.Refusals.{defines}
+use Rattle.salt_engine.specs.Performing.{AsksLine, BreaksOff, Performs, WasBroken}
 use Rattle.salt_engine.specs.Stored.{Stored}
 use Rattle.salt_engine.specs.declared.flights.InFlight.TheVariants as asked
 use Rattle.salt_engine.specs.declared.flights.InFlight.{InFlight}
@@ -92,14 +93,14 @@ module _ (holds : Kept → Type 0) (is_new : Id → Type 0) (stoppable : Bool) (
         flies = (record { line = h.allowed.serves.line; allowed = right; few = few-parts p h.served }, refl, refl);
       }
 
-  pub defines : (line : Line) (f : InFlight) → AsksLine holds is_new stoppable line x s → definition_of line ≡ Some f → Defines line f s
-  defines (line_of.Table d) f h is =
+  pub line-defines : (line : Line) (f : InFlight) → AsksLine holds is_new stoppable line x s → definition_of line ≡ Some f → Defines line f s
+  line-defines (line_of.Table d) f h is =
       let same : asked.Table d (table_text d) ≡ f = cc in
       subst (λ (a : InFlight). Defines (line_of.Table d) a s) same (table-defines d h)
-  defines (line_of.Program p) f h is =
+  line-defines (line_of.Program p) f h is =
       let same : asked.Program p (program_text p) ≡ f = cc in
       subst (λ (a : InFlight). Defines (line_of.Program p) a s) same (program-defines p h)
-  defines line f h is = cc
+  line-defines line f h is = cc
 
 module _ (holds : Kept → Type 0) (is_new : Id → Type 0) (stoppable : Bool) (line : Line) (x : Scheduler) (s : State) (h : AsksLine holds is_new stoppable line x s)
     (f : InFlight) (d : Defines line f s) where
@@ -170,7 +171,7 @@ module _ (line : Line) (x y : Scheduler) (e : Event) where
   program-allows p is allows s r stands h =
       subst (λ (m : Option Event). scheduling.AnswersWith s m y (Some e)) (sym (ap (line_in s.units (clash_by s) (items_by s r)) is)) (allows s r stands h)
 
-pub no-definition : (line : Line) → ((d : TableDef) → line ≡ line_of.Table d → ⊥) → ((p : ProgramDef) → line ≡ line_of.Program p → ⊥) → is_definition line ≡ true → ⊥
+pub no-definition : (line : Line) → ((d : TableDef) → line ≡ line_of.Table d → ⊥) → ((p : ProgramDef) → line ≡ line_of.Program p → ⊥) → defines line ≡ true → ⊥
 no-definition (line_of.Table d) no_table no_program is = no_table d refl
 no-definition (line_of.Program p) no_table no_program is = no_program p refl
 no-definition line no_table no_program is = cc

@@ -13,7 +13,8 @@ use Rattle.salt_books.specs.declared.books.Books.{Books}
 use Rattle.salt_engine.proofs.Decided.{named-own, named-unit}
 use Rattle.salt_engine.specs.Deciding.{IsBefore, branches_in}
 use Rattle.salt_engine.specs.Netted.{LiesNet, SeesNet, net_after}
-use Rattle.salt_engine.specs.Performing.{is_definition, is_prepared}
+use Rattle.salt_model.specs.Refusals.{defines}
+use Rattle.salt_engine.specs.Performing.{is_prepared}
 use Rattle.salt_driver.specs.Standing.{BreaksAt, HaltsAt}
 use Rattle.law_states.specs.Points.{Ask, Moves, Point, Say, TraceStep, Turn}
 use Rattle.salt_model.specs.Kept.{Kept}
@@ -95,7 +96,7 @@ pub meant-sent : (setup : Setup) (old new : Option Turning) (c : Coming) (e : Ev
 meant-sent setup old new c e s is sent = subst (λ (m : Option Event). new ≡ net_after setup m s.units old) (sym is) sent
 
 -- a definition sends nothing
-pub definition-sent : (setup : Setup) (line : Line) (s : State) (clash : Clashes) (items : Items) (net : Option Turning) → is_definition line ≡ true → net ≡ net_after setup (line_in s.units clash items line) s.units net
+pub definition-sent : (setup : Setup) (line : Line) (s : State) (clash : Clashes) (items : Items) (net : Option Turning) → defines line ≡ true → net ≡ net_after setup (line_in s.units clash items line) s.units net
 definition-sent setup (Table d) s clash items net h = sym (map-same (λ t. t) net (λ t. refl))
 definition-sent setup (Program p) s clash items net h = sym (map-same (λ t. t) net (λ t. refl))
 definition-sent setup line s clash items net h = cc

@@ -1,5 +1,5 @@
 -- What is to come is performed, over the half in memory that has chosen it; or it is broken off.
-use Rattle.salt_ast.specs.declared.lines.Line.TheVariants.{Crash, Nothing, Program, Table}
+use Rattle.salt_ast.specs.declared.lines.Line.TheVariants.{Crash, Nothing}
 use Rattle.salt_ast.specs.declared.lines.Line.{Line}
 use Rattle.salt_books.specs.Books.{AreBooks}
 use Rattle.salt_books.specs.Coming.{event_meant}
@@ -108,11 +108,6 @@ TurnsIn holds is_new line base stage s = GoesWith (λ (x : Scheduler). Turns hol
 abbrev pub IsServed : Line → Type 0
 IsServed (Crash pairs) = Every (λ (p : ℕ × ℕ). p.1 ≤ 4) pairs
 IsServed line = IsSpelledLine line
-
-abbrev pub is_definition : Line → Bool
-is_definition (Table d) = true
-is_definition (Program p) = true
-is_definition line = false
 
 -- a line has been asked that is not refused, and its first event comes next
 pub record AsksLine (holds : Kept → Type 0) (is_new : Id → Type 0) (stoppable : Bool) (line : Line) (x : Scheduler) (s : State) : Type 0 where

@@ -2,7 +2,8 @@
 
 ghost use Rattle.salt_ast.specs.declared.lines.Line.TheVariants as line_of;
 ghost use Rattle.salt_engine.specs.Flights.{definition_of};
-ghost use Rattle.salt_engine.specs.Performing.{Rejects, is_definition};
+ghost use Rattle.salt_model.specs.Refusals.{defines};
+ghost use Rattle.salt_engine.specs.Performing.{Rejects};
 ghost use Rattle.salt_engine.specs.Deciding.{StaysStored};
 ghost use Rattle.salt_scheduler.specs.Refusals.{HasFewParts};
 ghost use Rattle.salt_scheduler.specs.Serving.{is_prepared_line};
@@ -39,7 +40,7 @@ use std::alloc::{AllocError, Global};
 
 /// What a line asks of the storage that defines something.
 fn definition_of(alloc: Global, line: &Line) -> Result<InFlight, AllocError>
-    requires { is_definition line.now ≡ true }
+    requires { defines line.now ≡ true }
     ensures { IfOk result (λ asked. definition_of line.now ≡ Some asked) }
 {
     match line {
@@ -57,7 +58,7 @@ fn definition_of(alloc: Global, line: &Line) -> Result<InFlight, AllocError>
 
 /// What a line defines has been decided: it is defined.
 fn defined(scheduler: &mut Scheduler, line: &Line) -> Result<Event, AllocError>
-    requires definition { is_definition line.now ≡ true }
+    requires definition { defines line.now ≡ true }
     requires allowed { IsAllowed line.now scheduler.old }
     requires parts { HasFewParts line.now }
     ensures { IfOk result (λ e. DoesAllowed (λ s r. line_in s.units (clash_by s) (items_by s r) line.now) line.now scheduler.old scheduler.new e) }
@@ -125,7 +126,7 @@ impl<S: Storage> Engine<S> {
     ) -> Result<Option<Event>, Halt>
         requires callable { TakesEachKey (F.pre place.now.place) }
         requires answers { GivesPlaceOf (F.post place.now.place) }
-        requires definition { is_definition line.now ≡ true }
+        requires definition { defines line.now ≡ true }
         requires none { self.old.in_flight ≡ None }
         requires ready { (s : State) × AsksLineOver S.holds S.is_new (D.view disks.old) self.old line.now s }
         ensures comes { BeginsOut S.holds S.is_new S.leaves S.fills (D.view disks.old) (D.view disks.new) line.now self.old self.new result }

@@ -3,7 +3,7 @@ use Rattle.law_definitions.specs.Texts.{definition_in}
 use Rattle.salt_engine.proofs.Counted.{cause-lost, counts-broken, same-cause}
 use Rattle.salt_engine.proofs.InStage.{behind-lost, broken-there, never-else, stands-there}
 use Rattle.salt_engine.proofs.LineAsked.{few-of}
-use Rattle.salt_engine.proofs.LineDefines.{defined-breaks, defined-lost, defined-performs, defined-unarmed, defines, reads-there}
+use Rattle.salt_engine.proofs.LineDefines.{defined-breaks, defined-lost, defined-performs, defined-unarmed, line-defines, reads-there}
 use Rattle.salt_engine.proofs.Netted.{definition-sent}
 use Rattle.law_states.specs.Readings.{clash_by, items_by}
 use Rattle.salt_engine.proofs.Outcome.{comes-broken, comes-lost, not-ok, stays-same}
@@ -20,7 +20,7 @@ pub define-requires-clause-may : goal.define-requires-clause-may
 define-requires-clause-may g c =
     let s = c.requires.ready.0 in
     let h = stands-there _ _ c.in-Going.scheduler c.in-Going.is c.requires.ready.1 in
-    let d = defines _ _ _ c.in-Going.scheduler s c.definitions_may_be_kept.ensures.table c.definitions_may_be_kept.ensures.program c.stands.ensures.sound c.args.line.now c.in_ok-asked.asked h c.in_ok-asked.ensures in
+    let d = line-defines _ _ _ c.in-Going.scheduler s c.definitions_may_be_kept.ensures.table c.definitions_may_be_kept.ensures.program c.stands.ensures.sound c.args.line.now c.in_ok-asked.asked h c.in_ok-asked.ensures in
     (s.units.kept, h.stored.holding, (d.definition, ap definition_in c.text.ensures ∙ d.may.reads, d.may.may))
 
 pub defined-requires-clause-definition : goal.defined-requires-clause-definition
@@ -35,7 +35,7 @@ defined-requires-clause-parts g c = few-of c.args.line.now (stands-there _ _ c.i
 pub returns-in_ok-event-in-Ok-clause-comes : goal.returns-in_ok-event-in-Ok-clause-comes
 returns-in_ok-event-in-Ok-clause-comes g c = λ s r k.
     let h = stands-there _ _ c.in-Going.scheduler c.in-Going.is k in
-    let d = defines _ _ _ c.in-Going.scheduler s c.definitions_may_be_kept.ensures.table c.definitions_may_be_kept.ensures.program c.stands.ensures.sound c.args.line.now c.in_ok-asked.asked h c.in_ok-asked.ensures in
+    let d = line-defines _ _ _ c.in-Going.scheduler s c.definitions_may_be_kept.ensures.table c.definitions_may_be_kept.ensures.program c.stands.ensures.sound c.args.line.now c.in_ok-asked.asked h c.in_ok-asked.ensures in
     defined-performs _ _ _ c.args.line.now c.in-Going.scheduler s h c.in_ok-asked.asked d _ _ c.defined.new.scheduler c.in_ok-event-in-Ok.event r
     (c.in-Ok.ensures.holds s.units.kept d.definition h.stored.holding (ap definition_in c.text.ensures ∙ d.may.reads) d.may.may) c.in-Ok.ensures.is_new
     (c.in_ok-event-in-Ok.ensures s r h.stands h.allowed)
@@ -48,13 +48,13 @@ returns-in_ok-event-in-Ok-clause-counts g c =
     let s = c.requires.ready.0 in
     let h = stands-there _ _ c.in-Going.scheduler c.in-Going.is c.requires.ready.1 in
     let r = reads-there _ _ _ c.args.line.now c.in-Going.scheduler s h in
-    let d = defines _ _ _ c.in-Going.scheduler s c.definitions_may_be_kept.ensures.table c.definitions_may_be_kept.ensures.program c.stands.ensures.sound c.args.line.now c.in_ok-asked.asked h c.in_ok-asked.ensures in
+    let d = line-defines _ _ _ c.in-Going.scheduler s c.definitions_may_be_kept.ensures.table c.definitions_may_be_kept.ensures.program c.stands.ensures.sound c.args.line.now c.in_ok-asked.asked h c.in_ok-asked.ensures in
     counts-cause _ _ _ _ (defined-unarmed _ _ _ c.args.line.now c.in-Going.scheduler s h c.in_ok-asked.asked d c.defined.new.scheduler c.in_ok-event-in-Ok.event r (c.in_ok-event-in-Ok.ensures s r h.stands h.allowed)) c.in-Ok.ensures.cause
 
 pub returns-in_err-event-in-Ok-clause-comes : goal.returns-in_err-event-in-Ok-clause-comes
 returns-in_err-event-in-Ok-clause-comes g c = λ s r k.
     let h = stands-there _ _ c.in-Going.scheduler c.in-Going.is k in
-    let d = defines _ _ _ c.in-Going.scheduler s c.definitions_may_be_kept.ensures.table c.definitions_may_be_kept.ensures.program c.stands.ensures.sound c.args.line.now c.in_ok-asked.asked h c.in_ok-asked.ensures in
+    let d = line-defines _ _ _ c.in-Going.scheduler s c.definitions_may_be_kept.ensures.table c.definitions_may_be_kept.ensures.program c.stands.ensures.sound c.args.line.now c.in_ok-asked.asked h c.in_ok-asked.ensures in
     comes-broken _ _ _ _ _ _ _ s _ c.from_residual-in_err-event-in-Ok.result c.from_residual-in_err-event-in-Ok.ensures.1
     (defined-lost _ _ _ c.args.line.now c.in-Going.scheduler s h c.in_ok-asked.asked d _ _ _ r (behind-lost c.from_residual-in_err-event-in-Ok.result _ c.from_residual-in_err-event-in-Ok.ensures.1)
     (c.stands-in-Ok.ensures.stays _ (c.in-Ok.ensures.holds s.units.kept d.definition h.stored.holding (ap definition_in c.text.ensures ∙ d.may.reads) d.may.may)))
@@ -69,7 +69,7 @@ returns-in_err-event-in-Ok-clause-counts g c =
 pub returns-in-Err-clause-comes : goal.returns-in-Err-clause-comes
 returns-in-Err-clause-comes g c = λ s r k.
     let h = stands-there _ _ c.in-Going.scheduler c.in-Going.is k in
-    let d = defines _ _ _ c.in-Going.scheduler s c.definitions_may_be_kept.ensures.table c.definitions_may_be_kept.ensures.program c.stands.ensures.sound c.args.line.now c.in_ok-asked.asked h c.in_ok-asked.ensures in
+    let d = line-defines _ _ _ c.in-Going.scheduler s c.definitions_may_be_kept.ensures.table c.definitions_may_be_kept.ensures.program c.stands.ensures.sound c.args.line.now c.in_ok-asked.asked h c.in_ok-asked.ensures in
     defined-breaks _ _ _ c.args.line.now c.in-Going.scheduler s h c.in_ok-asked.asked d _ _ _ r c.in-Err.halt (books_of c.in-Going.scheduler) refl
     (c.in-Err.ensures.leaves s.units.kept d.definition h.stored.holding (ap definition_in c.text.ensures ∙ d.may.reads) d.may.may)
     (λ dev is. subst (λ (t : List ℕ). g.S.Storage.fills (g.D.Disks.view c.define.new.disks) c.define.new.self (OfDefinition t) dev) c.text.ensures (c.in-Err.ensures.full dev (ap Err is)))
