@@ -5,7 +5,7 @@ use Rattle.salt_values.specs.Text.{is_text}
 use Rattle.salt_values.specs.declared.value.Value.TheVariants.{Int, Null, Text}
 use Rattle.salt_values.specs.declared.value.Value.{Value}
 use Rattle.std.specs.Int.{cast_signed, cast_unsigned, w64}
-use Rattle.std.specs.Prelude.{Bool, List, None, [], length, nat_le, suc, zero, ℕ, ◌&&◌, ◌∷◌}
+use Rattle.std.specs.Prelude.{Bool, List, None, Option, Some, [], length, nat_le, suc, true, zero, ℕ, ⊤, ◌&&◌, ◌∷◌, ◌≡◌}
 use Rattle.std.specs.List.{flat_map}
 
 -- byte 0 is Null; byte 1 and eight bytes are a number; byte 2, a length and the bytes are a text
@@ -34,6 +34,11 @@ take_values nulls = then_take take_byte (take_each (take_value nulls))
 -- a row has 1 to 16 values
 abbrev pub is_row_length : ℕ → Bool
 is_row_length n = nat_le 1 n && nat_le n 16
+
+-- a row that is given has so many
+abbrev pub HasRowTo : Option (List Value) → Type 0
+HasRowTo None = ⊤
+HasRowTo (Some row) = is_row_length (length row) ≡ true
 
 abbrev pub take_row : Bool → Take (List Value)
 take_row nulls = then_take take_byte (λ n. only_if (is_row_length n) (take_each (take_value nulls) n))

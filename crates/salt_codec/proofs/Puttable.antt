@@ -3,7 +3,8 @@ use Rattle.salt_bytes.proofs.Logs.{reads_prepared}
 use Rattle.salt_bytes.specs.Changes.{are_in_order}
 use Rattle.salt_bytes.specs.Partition.{Prepared, prepared_in, spell_prepared}
 use Rattle.salt_bytes.specs.Spellable.{AreSpellableValues, Every, IsSpellableChange, IsSpellableId, IsSpellableTo, IsSpellableValue}
-use Rattle.salt_codec.specs.Entries.{HasRow, HasRowTo, CanBePut, IsPutTo, IsTold, IsToldTo, MayStand}
+use Rattle.salt_bytes.specs.Values.{HasRowTo}
+use Rattle.salt_codec.specs.Entries.{HasRow, CanBePut, IsPutTo, IsTold, IsToldTo, MayStand}
 use Rattle.salt_values.specs.Value.{IsValue, is_null}
 use Rattle.salt_values.specs.declared.change.Change.{Change}
 use Rattle.salt_values.specs.declared.value.Value.TheVariants.{Int, Null, Text}

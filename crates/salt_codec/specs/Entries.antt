@@ -3,7 +3,7 @@ use Rattle.salt_bytes.specs.Numbers.{take_32}
 use Rattle.salt_bytes.specs.Partition.{PartitionHeader, Prepared, is_side}
 use Rattle.salt_bytes.specs.Spellable.{Every}
 use Rattle.salt_bytes.specs.Taking.{Take, give, only_if, take_byte, take_bytes, then_take}
-use Rattle.salt_bytes.specs.Values.{is_row_length}
+use Rattle.salt_bytes.specs.Values.{HasRowTo, is_row_length}
 use Rattle.salt_codec.specs.declared.header.Header.{Header}
 use Rattle.salt_codec.specs.declared.prepared.PreparedUnit.{PreparedUnit}
 use Rattle.salt_values.specs.Value.{IsValue, is_null, key_of}
@@ -36,11 +36,6 @@ pub record IsTold (c : Change) : Type 0 where
   pub table : c.table < 2 ^ 16
   pub key : IsValue c.key
   pub row : IsToldTo c.row
-
--- a row has 1 to 16 values
-abbrev pub HasRowTo : Option (List Value) → Type 0
-HasRowTo None = ⊤
-HasRowTo (Some row) = is_row_length (length row) ≡ true
 
 abbrev pub HasRow : Change → Type 0
 HasRow c = HasRowTo c.row

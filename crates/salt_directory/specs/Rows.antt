@@ -1,13 +1,13 @@
 -- Rows that are found on a page, and what calls make of one.
 use Rattle.salt_bytes.specs.Page.{TableRow}
-use Rattle.salt_bytes.specs.Values.{is_row_length, spell_values}
+use Rattle.salt_bytes.specs.Values.{spell_values}
 use Rattle.salt_directory.specs.Pages.{free_on}
 use Rattle.salt_directory.specs.declared.page.Replaced.TheVariants.{Gone, Missing, Put}
 use Rattle.salt_directory.specs.declared.page.Replaced.{Replaced}
 use Rattle.salt_pages.specs.Pages.{IsRowOf, used_by}
 use Rattle.salt_values.specs.declared.value.Value.{Value}
 use Rattle.std.specs.List.{remove}
-use Rattle.std.specs.Prelude.{List, None, Option, Some, [], length, slice_get, true, ℕ, ⊤, ◌+◌, ◌++◌, ◌<◌, ◌∷◌, ◌≡◌}
+use Rattle.std.specs.Prelude.{List, None, Option, Some, [], length, slice_get, ℕ, ◌+◌, ◌++◌, ◌<◌, ◌∷◌, ◌≡◌}
 
 -- the row of a key among these; none exactly where there is none
 abbrev pub IsRowFound : ℕ → Value → List TableRow → Option (List Value) → Type 0
@@ -25,11 +25,6 @@ pub record IsWithout (table : ℕ) (key : Value) (old more new : List TableRow) 
 abbrev pub one_row : ℕ → Option (List Value) → List TableRow
 one_row table None = []
 one_row table (Some row) = record { table = table; row = row } ∷ []
-
--- a row that is given has 1 to 16 values
-abbrev pub HasRowTo : Option (List Value) → Type 0
-HasRowTo None = ⊤
-HasRowTo (Some row) = is_row_length (length row) ≡ true
 
 -- what became of a page where the row of a key was to be replaced by this
 abbrev pub IsReplaced : ℕ → Value → Option (List Value) → List TableRow → List TableRow → Replaced → Type 0

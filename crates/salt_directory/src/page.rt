@@ -1,8 +1,8 @@
 //! Rows of one page are found, put and replaced by their keys.
 
-ghost use Rattle.salt_bytes.specs.Values.{is_row_length, spell_values};
+ghost use Rattle.salt_bytes.specs.Values.{HasRowTo, is_row_length, spell_values};
 ghost use Rattle.salt_directory.specs.Pages.{free_on};
-ghost use Rattle.salt_directory.specs.Rows.{HasRowTo, IsPut, IsReplaced, IsRowFound, one_row};
+ghost use Rattle.salt_directory.specs.Rows.{IsPut, IsReplaced, IsRowFound, one_row};
 ghost use Rattle.salt_pages.specs.Pages.{used_by};
 ghost use Rattle.std.specs.Option.{option_copied};
 ghost use Rattle.std.specs.Prelude.{IfOk, IsTrue, Some, false, is_some, length, true, ◌+◌, ◌++◌, ◌<◌, ◌≡◌};

@@ -3,7 +3,7 @@
 ghost use Rattle.salt_values.specs.Value.{key_of};
 ghost use Rattle.salt_bytes.specs.Page.{page_place};
 ghost use Rattle.salt_bytes.specs.Spellable.{Every};
-ghost use Rattle.salt_bytes.specs.Values.{is_row_length};
+ghost use Rattle.salt_bytes.specs.Values.{HasRowTo, is_row_length};
 ghost use Rattle.salt_checkpoint.specs.Sides.{KeepsNamed, NamedSame};
 ghost use Rattle.salt_codec.specs.Entries.{CanBePut};
 ghost use Rattle.salt_disk.specs.Disks.{FullOnly, HasCause, KeepsAll, KeepsOthers, OnlyFails};
@@ -14,7 +14,6 @@ ghost use Rattle.salt_rows.specs.Changing.{IsFresh, IsMarked, NamesKey};
 ghost use Rattle.salt_directory.specs.Bytes.{IsWithin, bytes_of_changes, bytes_of_entries, row_bytes};
 ghost use Rattle.salt_directory.specs.Directories.{HasPagesBelow};
 ghost use Rattle.salt_directory.specs.Pages.{page_of};
-ghost use Rattle.salt_directory.specs.Rows.{HasRowTo};
 ghost use Rattle.salt_directory.specs.Space.{HasRoom};
 ghost use Rattle.salt_rows.specs.Stores.{IsKept, IsRowStore, IsSide, IsStanding, StandsOnPages, device_of, page_count};
 ghost use Rattle.std.specs.Map.{lookup};

@@ -1,8 +1,8 @@
 //! What is done to a page in its frame.
 
 ghost use Rattle.salt_bytes.specs.Page.{TableRow};
-ghost use Rattle.salt_bytes.specs.Values.{is_row_length};
-ghost use Rattle.salt_directory.specs.Rows.{HasRowTo, IsPut, IsReplaced, IsRowFound};
+ghost use Rattle.salt_bytes.specs.Values.{HasRowTo, is_row_length};
+ghost use Rattle.salt_directory.specs.Rows.{IsPut, IsReplaced, IsRowFound};
 ghost use Rattle.salt_disk.specs.Disks.{HasCause, KeepsAll, OnlyFails};
 ghost use Rattle.salt_pool.specs.Pools.{device_of};
 ghost use Rattle.salt_pool.specs.declared.error.PoolErr.TheVariants.{NotPage, PoolFull};
