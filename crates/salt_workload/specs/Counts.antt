@@ -1,6 +1,7 @@
 -- What has been counted of a story.
 use Rattle.salt_model.specs.declared.events.Event.{Event}
-use Rattle.salt_workload.specs.Summary.{count_of, is_accepted, is_began, is_committed, is_victim, is_waits, released_count}
+use Rattle.salt_model.specs.Summary.{count_of}
+use Rattle.salt_workload.specs.Summary.{is_accepted, is_began, is_committed, is_victim, is_waits, released_count}
 use Rattle.salt_workload.specs.declared.counts.Counts.{Counts}
 use Rattle.std.specs.Prelude.{List, length, ◌*◌, ◌^◌, ◌≡◌, ◌≤◌}
 

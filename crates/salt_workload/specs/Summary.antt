@@ -1,4 +1,5 @@
 -- What came of the lines of a workload, in one line.
+use Rattle.salt_model.specs.Summary.{count_of}
 use Rattle.salt_ast.specs.Texts.{value_text}
 use Rattle.salt_model.specs.declared.events.Answer.{Answer}
 use Rattle.salt_model.specs.declared.events.Answer.TheVariants.{Cell}
@@ -8,7 +9,7 @@ use Rattle.salt_model.specs.declared.events.Event.TheVariants.{Accepted, Began, 
 use Rattle.salt_values.specs.declared.id.Id.{Id}
 use Rattle.salt_values.specs.declared.value.Value.{Value}
 use Rattle.std.specs.Fmt.{decimal}
-use Rattle.std.specs.List.{filter, filter_map, flat_map}
+use Rattle.std.specs.List.{filter_map, flat_map}
 use Rattle.std.specs.Prelude.{Bool, List, None, Option, Some, [], codes, false, length, option_and_then, slice_get, true, ℕ, ◌++◌, ◌-◌, ◌∷◌}
 
 abbrev pub is_began : Event → Bool
@@ -38,10 +39,6 @@ released_in e = []
 abbrev pub answer_in : Event → Option Answer
 answer_in (Did u st answer) = Some answer
 answer_in e = None
-
--- how many events of a story are so
-abbrev pub count_of : (Event → Bool) → List Event → ℕ
-count_of is story = length (filter is story)
 
 -- how many programs were released
 abbrev pub released_count : List Event → ℕ
