@@ -1,7 +1,8 @@
 -- A run that has fallen: what is left, and what is in flight, stay.
 use Rattle.salt_engine.proofs.Decided.{named-own}
 use Rattle.salt_engine.specs.Flights.{IsInFlight}
-use Rattle.salt_engine.specs.Stored.{IsLeft, MayBeOther, kept_behind, raised}
+use Rattle.salt_model.specs.Ends.{raised}
+use Rattle.salt_engine.specs.Stored.{IsLeft, MayBeOther, kept_behind}
 use Rattle.salt_engine.specs.declared.flights.InFlight.{InFlight}
 use Rattle.salt_engine.specs.declared.flights.InFlight.TheVariants as asked
 use Rattle.law_states.specs.Laws.{IsSound}

@@ -8,7 +8,8 @@ use Rattle.salt_disk.specs.Disks.{HasCause, View}
 use Rattle.salt_engine.proofs.Counted.{cause-lost}
 use Rattle.salt_engine.specs.Flights.{IsInFlight}
 use Rattle.salt_engine.specs.Standing.{IsBrokenStage, KnowUnits, KnowsUnits, LeavesOnDevices, CanReopenAt, AgreesWithState}
-use Rattle.salt_engine.specs.Stored.{IsLeft, IsNumbered, MayBeOther, kept_behind, raised}
+use Rattle.salt_model.specs.Ends.{raised}
+use Rattle.salt_engine.specs.Stored.{IsLeft, IsNumbered, MayBeOther, kept_behind}
 use Rattle.salt_engine.specs.declared.flights.InFlight.{InFlight}
 use Rattle.salt_engine.specs.declared.stage.Stage.{Stage}
 use Rattle.salt_engine.specs.declared.stage.Stage.TheVariants as at

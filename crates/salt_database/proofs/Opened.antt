@@ -4,7 +4,8 @@ use Rattle.salt_database.proofs.Falling.{IsCounted, counts, downs-more, fallen_m
 use Rattle.salt_database.specs.Finding.{IsOpenedBy}
 use Rattle.salt_engine.specs.Flights.{IsInFlight}
 use Rattle.salt_engine.specs.Standing.{KnowUnits}
-use Rattle.salt_engine.specs.Stored.{IsLeft, IsNumbered, MayBeOther, kept_behind, raised}
+use Rattle.salt_model.specs.Ends.{raised}
+use Rattle.salt_engine.specs.Stored.{IsLeft, IsNumbered, MayBeOther, kept_behind}
 use Rattle.salt_engine.specs.declared.flights.InFlight.{InFlight}
 use Rattle.law_states.proofs.StatesGoOn.{states-say}
 use Rattle.law_states.specs.Follows.{opened_in}

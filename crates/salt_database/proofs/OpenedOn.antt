@@ -3,7 +3,8 @@ use Rattle.salt_ast.specs.declared.lines.Line.TheVariants.{Nothing}
 use Rattle.salt_database.proofs.Booting.{is-number, no-number}
 use Rattle.salt_database.proofs.Opened.{FoundAt, IsWith, IsWithout, boot-is}
 use Rattle.salt_database.proofs.Resting.{is_resting, rests-only}
-use Rattle.salt_engine.specs.Stored.{Stored, raised}
+use Rattle.salt_model.specs.Ends.{raised}
+use Rattle.salt_engine.specs.Stored.{Stored}
 use Rattle.law_states.specs.Follows.{opened_in}
 use Rattle.law_states.specs.OpenUnits.{UnitState}
 use Rattle.law_states.specs.Points.{Point}

@@ -2,7 +2,8 @@
 use Rattle.salt_database.proofs.Falling.{IsCounted, counts}
 use Rattle.salt_database.proofs.Lying.{left-either}
 use Rattle.salt_engine.specs.Flights.{IsInFlight}
-use Rattle.salt_engine.specs.Stored.{IsAlone, IsLeft, MayBeOther, kept_behind, raised}
+use Rattle.salt_model.specs.Ends.{raised}
+use Rattle.salt_engine.specs.Stored.{IsAlone, IsLeft, MayBeOther, kept_behind}
 use Rattle.salt_engine.specs.declared.flights.InFlight.{InFlight}
 use Rattle.law_states.specs.Points.{Point}
 use Rattle.law_states.specs.Steps.{units_after}

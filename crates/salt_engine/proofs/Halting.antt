@@ -4,7 +4,7 @@ use Rattle.salt_books.specs.declared.books.Books.{Books}
 use Rattle.salt_engine.specs.Flights.{IsInFlight, flight_of}
 use Rattle.salt_engine.specs.Performing.{BreaksOff, IsHalted, IsLost}
 use Rattle.salt_engine.specs.Standing.{KnowUnits, LeavesOnDevices, CanReopenAt, books_in}
-use Rattle.salt_engine.specs.Stored.{IsLeft, LeavesEither, MayBeOther, kept_behind, raised}
+use Rattle.salt_engine.specs.Stored.{IsLeft, LeavesEither, MayBeOther, kept_behind}
 use Rattle.salt_engine.specs.declared.flights.InFlight.TheVariants as asked
 use Rattle.salt_engine.specs.declared.flights.InFlight.{InFlight}
 use Rattle.salt_engine.specs.declared.stage.Stage.{Stage}
@@ -12,7 +12,7 @@ use Rattle.salt_engine.proofs.Broken.{breaks-lost}
 use Rattle.salt_engine.proofs.Decided.{named-unit}
 use Rattle.law_states.specs.OpenUnits.{UnitState}
 use Rattle.law_states.specs.Points.{Point}
-use Rattle.salt_model.specs.Ends.{flight_told}
+use Rattle.salt_model.specs.Ends.{flight_told, raised}
 use Rattle.salt_model.specs.Kept.{Kept}
 use Rattle.salt_model.specs.Next.{decision_in}
 use Rattle.salt_model.specs.Turns.{is_statement_line}

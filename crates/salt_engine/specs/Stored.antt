@@ -1,4 +1,5 @@
 -- What a storage holds beside an engine's state, and what a stop leaves of it.
+use Rattle.salt_model.specs.Ends.{raised}
 use Rattle.law_states.specs.OpenUnits.{UnitState}
 use Rattle.law_states.specs.Points.{Point}
 use Rattle.law_states.specs.Steps.{units_after}
@@ -8,7 +9,7 @@ use Rattle.law_decisions.specs.Naming.{IsToCome}
 use Rattle.salt_stands.specs.Stands.{are_spent}
 use Rattle.salt_storage.specs.declared.found.Numbers.{Numbers}
 use Rattle.salt_values.specs.declared.id.Id.{Id}
-use Rattle.std.specs.Prelude.{None, Option, Some, false, ℕ, ⊤, ◌+◌, ◌≡◌, ◌≤◌, ◌⊎◌}
+use Rattle.std.specs.Prelude.{None, Option, Some, false, ℕ, ⊤, ◌≡◌, ◌≤◌, ◌⊎◌}
 
 -- it holds what the state keeps, and each unit of this boot that is open or may still begin is new to it
 pub record Stored (holds : Kept → Type 0) (is_new : Id → Type 0) (s : UnitState) : Type 0 where
@@ -19,10 +20,6 @@ pub record Stored (holds : Kept → Type 0) (is_new : Id → Type 0) (s : UnitSt
 abbrev pub kept_behind : Option Event → UnitState → Kept
 kept_behind None s = s.kept
 kept_behind (Some e) s = (units_after e s).kept
-
--- so many boots later
-abbrev pub raised : ℕ → Kept → Kept
-raised n k = record k { boot = k.boot + n }
 
 -- the one or the other
 abbrev pub IsEither : (a b k : Kept) → Type 0

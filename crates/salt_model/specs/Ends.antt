@@ -9,7 +9,7 @@ use Rattle.salt_model.specs.Stops.{is_device_next}
 use Rattle.salt_model.specs.declared.events.Event.TheVariants.{Defined, Ended}
 use Rattle.salt_model.specs.declared.events.Event.{Event}
 use Rattle.salt_model.specs.declared.events.Flight.{Flight}
-use Rattle.std.specs.Prelude.{Bool, IsTrue, None, Option, Some, [], false, not, true, ⊤, ◌||◌, ◌≡◌, ◌⊎◌}
+use Rattle.std.specs.Prelude.{Bool, IsTrue, None, Option, Some, [], false, not, true, ℕ, ⊤, ◌+◌, ◌||◌, ◌≡◌, ◌⊎◌}
 use Rattle.std.specs.Option.{option_map_or}
 
 -- how a run may end: before it begins, between lines, anywhere, within an opening, where devices are used, or where the output failed
@@ -42,3 +42,7 @@ flight_told e = None
 -- what devices may stand for at the end of a trace: what is kept there, with or without the flight
 abbrev pub kept_with : Trace → Option Event → Kept
 kept_with trace flight = option_map_or (λ e. keep trace e (stage trace)) flight (kept trace)
+
+-- what is kept, so many boots later
+abbrev pub raised : ℕ → Kept → Kept
+raised boots k = record k { boot = k.boot + boots }

@@ -14,7 +14,7 @@ use Rattle.salt_ast.specs.declared.trees.Op.TheVariants as op
 use Rattle.salt_ast.specs.declared.trees.Statement.TheVariants.{Ensure}
 use Rattle.salt_ast.specs.declared.trees.Statement.{Statement}
 use Rattle.salt_model.specs.After.{Stage, keep, kept, stage}
-use Rattle.salt_model.specs.Ends.{kept_with}
+use Rattle.salt_model.specs.Ends.{kept_with, raised}
 use Rattle.salt_model.specs.declared.events.Answer.TheVariants as answer
 use Rattle.salt_model.specs.declared.events.End.TheVariants as end
 use Rattle.salt_model.specs.declared.events.UnitKind.TheVariants as kind
@@ -36,7 +36,7 @@ use Rattle.salt_model.specs.declared.events.Why.TheVariants as why
 use Rattle.salt_promise.specs.Worked.{after, ample, begun, blank, header_at, holding, on, one_line, one_part, opened}
 use Rattle.salt_model.specs.Arming.{armed_behind, armed_by_lines}
 use Rattle.salt_promise.specs.Counting.{AreArmed, Stops}
-use Rattle.salt_promise.specs.Ending.{IsLeftBehind, StandsBehind, raised}
+use Rattle.salt_promise.specs.Ending.{IsLeftBehind, StandsBehind}
 use Rattle.salt_promise.specs.Filling.{IsFullBehind, NewPairFills, NextFills, coordinator_format, partition_format}
 use Rattle.salt_promise.specs.Given.{Run}
 use Rattle.salt_promise.specs.declared.command.Command.TheVariants.{Load, Script}

@@ -1,7 +1,7 @@
 -- What a run leaves of its devices, and by what they end it.
 use Rattle.salt_disk.specs.Disks.{IsImage}
 use Rattle.salt_model.specs.After.{kept}
-use Rattle.salt_model.specs.Ends.{flight_told, kept_with}
+use Rattle.salt_model.specs.Ends.{flight_told, kept_with, raised}
 use Rattle.salt_model.specs.Kept.{Kept}
 use Rattle.salt_model.specs.Next.{flight}
 use Rattle.salt_model.specs.Phases.{Fallen, downs, has_opened, phase}
@@ -26,9 +26,6 @@ Flies MayBeTold trace told = (told ≡ None) ⊎ (told ≡ flight_told (flight t
 -- the openings that may have begun a boot which they did not tell
 abbrev pub boots_untold : Trace → ℕ
 boots_untold trace = downs trace + (if has_opened trace then 0 else 1)
-
-abbrev pub raised : ℕ → Kept → Kept
-raised boots k = record k { boot = k.boot + boots }
 
 -- what is kept behind the trace, or, where that is in doubt, with the decision in flight; but for boots that are not told
 pub record IsLeftBehind (doubt : Type 0) (trace : Trace) (k : Kept) : Type 0 where

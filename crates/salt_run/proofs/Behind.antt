@@ -1,5 +1,5 @@
 -- What is kept behind a trace, as a point of it has it.
-use Rattle.salt_engine.specs.Stored.{IsLeft, kept_behind, raised}
+use Rattle.salt_engine.specs.Stored.{IsLeft, kept_behind}
 use Rattle.law_states.proofs.KeptAfter.{kept-says}
 use Rattle.law_states.specs.Keeps.{KeepsUnits}
 use Rattle.law_states.specs.OpenUnits.{UnitState}
@@ -8,7 +8,7 @@ use Rattle.law_story.proofs.Coming.{Good}
 use Rattle.law_story.proofs.Every.{IfSome}
 use Rattle.law_story.proofs.Replays.{Ground, replays}
 use Rattle.salt_model.specs.After.{kept}
-use Rattle.salt_model.specs.Ends.{kept_with}
+use Rattle.salt_model.specs.Ends.{kept_with, raised}
 use Rattle.salt_model.specs.Kept.{Kept}
 use Rattle.salt_model.specs.Next.{flight, is_decision}
 use Rattle.salt_model.specs.Played.{IsPlayed}

@@ -19,7 +19,8 @@ use Rattle.salt_net.specs.Agreed.{IsAgreed}
 use Rattle.salt_net.specs.Nets.{state_of}
 use Rattle.salt_net.specs.declared.kinds.NetEvent.{NetEvent}
 use Rattle.salt_promise.specs.Doing as promise
-use Rattle.salt_promise.specs.Ending.{AreSpentBehind, HasNumbers, IsInDoubt, IsLeftBehind, raised}
+use Rattle.salt_model.specs.Ends.{raised}
+use Rattle.salt_promise.specs.Ending.{AreSpentBehind, HasNumbers, IsInDoubt, IsLeftBehind}
 use Rattle.salt_promise.specs.Filling.{IsFullBehind, NextFills}
 use Rattle.salt_promise.specs.Given.{Run, early_of, over_net_of, shape_of}
 use Rattle.salt_promise.specs.Runs as promised
