@@ -7,7 +7,8 @@ use Rattle.salt_commit.specs.Openings.{LeavesPages}
 use Rattle.salt_commit.specs.Stores.{reading}
 use Rattle.salt_stands.specs.Fitting.{kept_in}
 use Rattle.salt_devices.specs.Leaving.{StandsFor, StandsStill}
-use Rattle.salt_devices.specs.Refusing.{IsOlder, RefusedAs}
+use Rattle.salt_promise.specs.Standing.{IsOlder}
+use Rattle.salt_devices.specs.Refusing.{RefusedAs}
 use Rattle.salt_model.specs.Kept.{Definition}
 use Rattle.salt_model.specs.Tables.{Tables}
 use Rattle.salt_stands.proofs.Pairs.{pair_same}

@@ -12,7 +12,8 @@ use Rattle.salt_commit.specs.Shares.{has_changes, mask_of, share_at, shares_of}
 use Rattle.salt_commit.specs.Stores.{coordinator_device, coordinator_gate, decided_by, last_boot}
 use Rattle.salt_commit.specs.declared.store.Store.{Store}
 use Rattle.salt_decisions.specs.Decisions as decisions
-use Rattle.salt_devices.specs.Filling.{EntryFills, FillsIn, IsTooLong, ShareFills, next_boot, decision_entry, definition_entry}
+use Rattle.salt_promise.specs.Filling.{EntryFills, IsTooLong}
+use Rattle.salt_devices.specs.Filling.{FillsIn, ShareFills, next_boot, decision_entry, definition_entry}
 use Rattle.salt_devices.specs.Holding.{IsHeld}
 use Rattle.salt_decisions.specs.declared.header_payload.TheConstants.{FORMAT}
 use Rattle.salt_disk.specs.Disks.{View}

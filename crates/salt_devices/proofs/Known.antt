@@ -3,7 +3,8 @@ use Rattle.salt_bytes.specs.Generations.{BothBlank, Counts}
 use Rattle.salt_commit.specs.Stores.{reading}
 use Rattle.salt_devices.proofs.Answered.{AreSpent, IsCounted, IsNothing, counted_log, judged_as, judged_opens}
 use Rattle.salt_devices.specs.Leaving.{StandsFor}
-use Rattle.salt_devices.specs.Refusing.{IsOlder, RefusedAs}
+use Rattle.salt_promise.specs.Standing.{IsOlder}
+use Rattle.salt_devices.specs.Refusing.{RefusedAs}
 use Rattle.salt_model.specs.Kept.{Kept}
 use Rattle.salt_stands.specs.CoordinatorLog.{CoordinatorLog}
 use Rattle.salt_stands.specs.Stands as opening

@@ -6,7 +6,8 @@ use Rattle.salt_commit.specs.Stores.{decided_by}
 use Rattle.salt_commit.specs.declared.store.Store.{Store}
 use Rattle.salt_devices.proofs.Untouched.{entry_stays, share_stays}
 use Rattle.salt_devices.proofs.Within.{share_device}
-use Rattle.salt_devices.specs.Filling.{EntryFills, FillsIn, ShareFills, decision_entry}
+use Rattle.salt_promise.specs.Filling.{EntryFills}
+use Rattle.salt_devices.specs.Filling.{FillsIn, ShareFills, decision_entry}
 use Rattle.salt_devices.specs.Holding.{IsHeld}
 use Rattle.salt_disk.specs.Disks.{IsUnchanged, KeepsBut, View}
 use Rattle.salt_disk.specs.declared.disks.DiskErr.TheVariants.{Full}

@@ -2,7 +2,8 @@
 use Rattle.salt_bytes.specs.Coordinator.{CoordinatorEntry}
 use Rattle.salt_bytes.specs.Generations.{LogA, LogB, WhichLog}
 use Rattle.salt_bytes.specs.Log.{entries_in}
-use Rattle.salt_devices.specs.Filling.{EntryFills, FillsIn, IsTooLong, ShareFills, next_boot, definition_entry}
+use Rattle.salt_promise.specs.Filling.{EntryFills, IsTooLong}
+use Rattle.salt_devices.specs.Filling.{FillsIn, ShareFills, next_boot, definition_entry}
 use Rattle.salt_disk.specs.Disks.{IsUnchanged, KeepsOthers, SameShape, View}
 use Rattle.salt_disk.specs.declared.disks.DiskErr.TheVariants.{Full}
 use Rattle.salt_stands.proofs.Pairs.{pair_same}

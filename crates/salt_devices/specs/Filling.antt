@@ -1,15 +1,15 @@
 -- Where a write would pass a device's limit, told by the bytes of the devices.
+use Rattle.salt_promise.specs.Filling.{EntryFills, IsTooLong}
 use Rattle.salt_bytes.specs.Conts.{spell_move}
-use Rattle.salt_bytes.specs.Coordinator.{Boots, CoordinatorEntry, Decides, Defines, spell_entry}
+use Rattle.salt_bytes.specs.Coordinator.{Boots, CoordinatorEntry, Decides, Defines}
 use Rattle.salt_bytes.specs.Generations.{Counts, WhichLog}
-use Rattle.salt_bytes.specs.Log.{entries_in, spelled}
 use Rattle.salt_bytes.specs.Partition.{spell_prepared}
 use Rattle.salt_bytes.specs.declared.moves.Move.{Move}
 use Rattle.salt_commit.specs.Openings.{StorePassesLimit}
 use Rattle.salt_commit.specs.Shares.{has_changes, mask_of, shares_of}
 use Rattle.salt_decisions.specs.declared.header_payload.TheConstants.{FORMAT}
 use Rattle.salt_disk.specs.Disks.{View}
-use Rattle.salt_stands.specs.Coordinator.{coordinator_pair, device_of}
+use Rattle.salt_stands.specs.Coordinator.{device_of}
 use Rattle.salt_stands.specs.CoordinatorLog.{CoordinatorLog}
 use Rattle.salt_stands.specs.Partition.{part_device, part_pair}
 use Rattle.salt_stands.specs.PartitionLog.{PartitionLog}
@@ -19,21 +19,7 @@ use Rattle.salt_storage.specs.Writing.{OfBoot, OfDefinition, OfOpening, OfUnit, 
 use Rattle.salt_values.specs.declared.change.Change.{Change}
 use Rattle.salt_values.specs.declared.id.Id.{Id}
 use Rattle.salt_place.specs.declared.placement.Shape.{Shape}
-use Rattle.std.specs.Prelude.{IsTrue, List, Some, length, true, ℕ, ◌+◌, ◌<◌, ◌≡◌, ◌⊎◌}
-
--- behind the entries of the device there is no room for one with this payload, and the next closed gate
-pub record IsTooLong (d : View) (dev : ℕ) (payload : List ℕ) : Type 0 where
-  pub entries : List (List ℕ)
-  pub reads : entries_in (d.bytes dev) ≡ Some entries
-  pub over : d.limit dev < length (spelled entries) + 10 + length payload
-
--- the coordinator's log that counts stands on the device, and this entry of it is too long
-pub record EntryFills (d : View) (entry : CoordinatorLog → CoordinatorEntry) (dev : ℕ) : Type 0 where
-  pub which : WhichLog
-  pub log : CoordinatorLog
-  pub counts : coordinator_pair (logs_of d.bytes) ≡ Counts which log
-  pub device : dev ≡ device_of 0 which
-  pub over : IsTooLong d dev (spell_entry (entry log))
+use Rattle.std.specs.Prelude.{IsTrue, List, true, ℕ, ◌+◌, ◌<◌, ◌≡◌, ◌⊎◌}
 
 -- the log of a partition that counts stands on the device, the unit changes the partition, and its entry is too long
 pub record ShareFills (d : View) (shape : Shape) (u : Id) (cs : List Change) (dev : ℕ) : Type 0 where

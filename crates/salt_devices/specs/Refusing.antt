@@ -1,26 +1,16 @@
 -- What an opening answers of what it may come upon, where the disks tell.
-use Rattle.salt_bytes.specs.Generations.{Counts, WhichLog}
+use Rattle.salt_promise.specs.Standing.{IsOlder}
 use Rattle.salt_commit.specs.Openings.{LeavesPages}
 use Rattle.salt_commit.specs.Stores.{reading}
 use Rattle.salt_devices.specs.Leaving.{MayCome, StandsFor}
 use Rattle.salt_disk.specs.Disks.{View}
 use Rattle.salt_model.specs.Kept.{Kept}
-use Rattle.salt_stands.specs.Coordinator.{coordinator_pair, device_of}
-use Rattle.salt_stands.specs.CoordinatorLog.{CoordinatorLog}
 use Rattle.salt_stands.specs.Stands as opening
-use Rattle.salt_stands.specs.Stands.{logs_of, opening_of}
+use Rattle.salt_stands.specs.Stands.{opening_of}
 use Rattle.salt_storage.specs.OpenErr.TheVariants.{NotSalt, NumbersSpent, OtherShape}
 use Rattle.salt_storage.specs.OpenErr.{OpenErr}
 use Rattle.salt_place.specs.declared.placement.Shape.{Shape}
-use Rattle.std.specs.Prelude.{Bool, IsTrue, List, ℕ, ⊤, ◌<◌, ◌≡◌, ◌⊎◌}
-
--- the coordinator's log that counts is of an older format, which is not written any more, and not read yet
-pub record IsOlder (bytes : ℕ → List ℕ) (dev : ℕ) : Type 0 where
-  pub which : WhichLog
-  pub log : CoordinatorLog
-  pub counts : coordinator_pair (logs_of bytes) ≡ Counts which log
-  pub older : log.header.format < 3
-  pub device : dev ≡ device_of 0 which
+use Rattle.std.specs.Prelude.{Bool, IsTrue, List, ℕ, ⊤, ◌≡◌, ◌⊎◌}
 
 abbrev pub RefusedAs : Shape → (ℕ → List ℕ) → OpenErr → Type 0
 RefusedAs shape bytes (NotSalt dev) = (opening_of reading bytes shape ≡ opening.NotSalt dev) ⊎ (LeavesPages shape bytes dev ⊎ IsOlder bytes dev)

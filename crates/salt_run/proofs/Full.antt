@@ -1,5 +1,5 @@
 -- Where a device is full: what is written next, told by the trace.
-use Rattle.salt_bytes.specs.Coordinator.{Boots, CoordinatorEntry, Defines, spell_header}
+use Rattle.salt_bytes.specs.Coordinator.{spell_header}
 use Rattle.salt_bytes.specs.Partition.{spell_partition_header}
 use Rattle.salt_commit.proofs.Shared.{mask_bit, share_is}
 use Rattle.salt_commit.specs.Openings.{PartPassesLimit, StorePassesLimit}
@@ -26,11 +26,10 @@ use Rattle.salt_model.specs.declared.events.End.TheVariants.{Branched, Committed
 use Rattle.salt_model.specs.declared.events.End.{End}
 use Rattle.salt_model.specs.declared.events.Event.TheVariants.{Defined, Ended}
 use Rattle.salt_model.specs.declared.events.Event.{Event}
-use Rattle.salt_promise.specs.Filling.{DecisionFills, FirstFills, NewPairFills, NextFills, coordinator_format, decision_entry, partition_format}
+use Rattle.salt_promise.specs.Filling.{DecisionFills, FirstFills, NewPairFills, NextFills, coordinator_format, partition_format}
 use Rattle.salt_promise.specs.Filling as promise
 use Rattle.salt_run.specs.Ending.{IsFullBehind}
 use Rattle.salt_loop.specs.Ending.{MayBeWritten}
-use Rattle.salt_stands.specs.CoordinatorLog.{CoordinatorLog}
 use Rattle.salt_stands.specs.FirstOpening.{IsCreated, first_header, first_part_header}
 use Rattle.salt_stands.specs.OpenConts.{make_move}
 use Rattle.salt_stands.specs.Partition.{part_device}
@@ -61,9 +60,6 @@ bits-of shape cs p low = mask_bit (shares_of shape cs) p ∙ ap has_changes (sha
 -- WHAT WOULD PASS A LIMIT
 
 module _ (d : View) (shape : Shape) (dev : ℕ) where
-  entry-fills : (entry : CoordinatorLog → CoordinatorEntry) → filling.EntryFills d entry dev → promise.EntryFills d entry dev
-  entry-fills entry f = record { which = f.which; log = f.log; counts = f.counts; device = f.device; over = record { entries = f.over.entries; reads = f.over.reads; over = f.over.over } }
-
   share-fills : (u : Id) (cs : List Change) → filling.ShareFills d shape u cs dev → promise.ShareFills d shape u cs dev
   share-fills u cs f = record {
     p = f.p;
@@ -73,7 +69,7 @@ module _ (d : View) (shape : Shape) (dev : ℕ) where
     counts = f.counts;
     device = f.device;
     changed = not-empty (changes_at shape f.p cs) f.changed;
-    over = record { entries = f.over.entries; reads = f.over.reads; over = f.over.over };
+    over = f.over;
   }
 
   no-share : (u : Id) → promise.ShareFills d shape u [] dev → ⊥
@@ -109,10 +105,10 @@ module _ (d : View) (shape : Shape) (dev : ℕ) where
         promise.ShareFills d shape u cs dev ⊎ DecisionFills d shape trace (Ended u end) u cs dev
     decision u end cs good w fills x same = elim written [ inl f ↦ inr (decides f) | inr f ↦ inl (share-fills u cs f) ]
       where
-        written : filling.EntryFills d (filling.decision_entry shape u cs x.made) dev ⊎ filling.ShareFills d shape u cs dev
+        written : promise.EntryFills d (filling.decision_entry shape u cs x.made) dev ⊎ filling.ShareFills d shape u cs dev
         written = subst (λ (l : List Change). Fills d shape (OfUnit u l x.made) dev) same (subst (λ (v : ToWrite). Fills d shape v dev) x.writes fills)
 
-        decides : filling.EntryFills d (filling.decision_entry shape u cs x.made) dev → DecisionFills d shape trace (Ended u end) u cs dev
+        decides : promise.EntryFills d (filling.decision_entry shape u cs x.made) dev → DecisionFills d shape trace (Ended u end) u cs dev
         decides f = record {
           mask = mask_of (shares_of shape cs);
           bits = bits-of shape cs;
@@ -120,7 +116,7 @@ module _ (d : View) (shape : Shape) (dev : ℕ) where
           moves =
               ap (λ (k : Kept). make_move k.conts x.made) keeps.state.units.kept ∙ x.moves
               ∙ ap (λ (k : Kept). Some k.conts) (sym (kept-says s trace (Ended u end) ground good keeps.state.units));
-          fills = entry-fills (decision_entry u (mask_of (shares_of shape cs)) x.made) f;
+          fills = f;
         }
 
     told-next : (ph : Phase) → phase trace ≡ ph → (o : Option Event) → next trace ≡ o → IfSome (Good trace) o → (w : ToWrite) → IsWrittenBy s o w → Fills d shape w dev → NextFills d shape trace ph o dev
@@ -128,7 +124,7 @@ module _ (d : View) (shape : Shape) (dev : ℕ) where
     told-next Fallen is (Some e) comes good w h fills = let both : None ≡ Some e = sym (nothing-fallen trace played is) ∙ comes in absurd (cc both)
     told-next ph is (Some (Ended u (Committed n))) comes good w h fills = decision u (Committed n) (changes_of u trace) good w fills h (committed u n good)
     told-next ph is (Some (Ended u (Branched n cause))) comes good w h fills = elim (decision u (Branched n cause) [] good w fills h refl) [ inl f ↦ absurd (no-share u f) | inr f ↦ f ]
-    told-next ph is (Some (Defined n text)) comes good w h fills = entry-fills (λ (log : CoordinatorLog). Defines (record { number = log.told.decisions + 1; text = text })) (subst (λ (v : ToWrite). Fills d shape v dev) h fills)
+    told-next ph is (Some (Defined n text)) comes good w h fills = subst (λ (v : ToWrite). Fills d shape v dev) h fills
     told-next ph is o comes good w h fills = absurd h
 
 pub full-behind : (d : View) (shape : Shape) (trace : Trace) (dev : ℕ) → IsPlayed trace → IsFullBehind d shape trace dev → promise.IsFullBehind d shape trace dev
@@ -140,4 +136,4 @@ full-behind d shape trace dev played f = by f.writes
         (subst (λ (o : Option Event). IsWrittenBy f.point.state.units o f.next) (sym f.keeps.next) h) f.fills
     by (inr h) =
         subst (λ (ph : Phase). NextFills d shape trace ph (next trace) dev) (sym (f.keeps.state.units.phase ∙ h.0))
-        (inr (entry-fills d shape dev (λ (log : CoordinatorLog). Boots (log.told.boot + 1)) (subst (λ (v : ToWrite). Fills d shape v dev) h.1 f.fills)))
+        (inr (subst (λ (v : ToWrite). Fills d shape v dev) h.1 f.fills))
