@@ -11,6 +11,10 @@ use Rattle.std.specs.List.{IsDistinct}
 use Rattle.std.specs.Map.{keys_of, lookup, set_value}
 use Rattle.std.specs.Prelude.{IsTrue, List, Option, [], length, nat_eq, ℕ, ◌∷◌, ◌≡◌, ◌≤◌}
 
+-- the pages that have a frame, the one that was used last first
+abbrev pub frames_of : {P C : Type 0} → Pool P C → List (ℕ × P)
+frames_of x = x.frames.entries
+
 -- the page in its frame, where it has one
 abbrev pub frame_of : {P C : Type 0} → Pool P C → ℕ → Option P
 frame_of x page = lookup (nat_eq page) x.frames.entries

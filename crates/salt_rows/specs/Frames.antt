@@ -1,7 +1,8 @@
 -- What calls make of a page in its frame.
 use Rattle.salt_bytes.specs.Page.{TableRow}
 use Rattle.salt_disk.specs.Disks.{View}
-use Rattle.salt_pool.specs.Pools.{IsPool, with_frame}
+use Rattle.salt_pool.specs.Frames.{frame_count}
+use Rattle.salt_pool.specs.Pools.{IsPool, codec_of, device_of, dirty_of, frames_of, with_frame}
 use Rattle.salt_pool.specs.declared.pages.PageSpelling.{PageSpelling}
 use Rattle.salt_pool.specs.declared.pool.Pool.{Pool}
 use Rattle.salt_stands.specs.Partition.{page_at}
@@ -22,15 +23,15 @@ shown_page bytes frames page side = or_read (lookup (nat_eq page) frames) (page_
 
 -- Where the disks tell, the page is shown. Fewer than 64 pages are to be written, so it gets a frame.
 pub record CanFrame (d : View) (x : Frames) (page side : ℕ) : Type 0 where
-  pub known : x.dev < d.count
+  pub known : device_of x < d.count
   pub low : side ≤ 1
   pub pool : IsPool x
-  pub codec : x.codec ≡ record { nulls = true }
-  pub few : length x.dirty.items < 64
-  pub shown : IsTrue d.told → (rows : List TableRow) × (shown_page (d.bytes x.dev) x.frames.entries page side ≡ Some rows)
+  pub codec : codec_of x ≡ record { nulls = true }
+  pub few : length (dirty_of x) < frame_count
+  pub shown : IsTrue d.told → (rows : List TableRow) × (shown_page (d.bytes (device_of x)) (frames_of x) page side ≡ Some rows)
 
 -- The page is in its frame; it had these rows, where the disks tell, and has these now.
 pub record HasFramed (d : View) (old new : Frames) (page side : ℕ) (before rows : List TableRow) : Type 0 where
   pub is : new ≡ with_frame old page rows
   pub pool : IsPool new
-  pub shown : IsTrue d.told → shown_page (d.bytes old.dev) old.frames.entries page side ≡ Some before
+  pub shown : IsTrue d.told → shown_page (d.bytes (device_of old)) (frames_of old) page side ≡ Some before

@@ -6,7 +6,8 @@ use Rattle.salt_model.specs.Tables.{Tables, no_rows, with_changes}
 use Rattle.salt_model.specs.declared.places.Place.{Place}
 use Rattle.salt_pool.specs.Dirtied.{is_dirty}
 use Rattle.salt_pool.specs.Frames.{frame_count}
-use Rattle.salt_pool.specs.Pools.{IsPool}
+use Rattle.salt_pool.specs.Pools as pools
+use Rattle.salt_pool.specs.Pools.{IsPool, codec_of, dirty_of, frame_of, frames_of, length_of}
 use Rattle.salt_pool.specs.declared.places.Dirty.{Dirty}
 use Rattle.salt_directory.specs.Directories.{HasPagesBelow}
 use Rattle.salt_directory.specs.Pages.{AreRowsOf, free_on}
@@ -16,8 +17,7 @@ use Rattle.salt_rows.specs.declared.store.RowStore.{RowStore}
 use Rattle.salt_bytes.specs.Page.{TableRow}
 use Rattle.salt_stands.specs.Partition.{are_distinct, rows_from}
 use Rattle.salt_stands.specs.Tables.{change_of_row}
-use Rattle.std.specs.Map.{lookup}
-use Rattle.std.specs.Prelude.{Bool, IsTrue, List, None, Some, [], false, get_or, length, map, nat_eq, true, ℕ, ◌+◌, ◌<◌, ◌≡◌, ◌≤◌}
+use Rattle.std.specs.Prelude.{Bool, IsTrue, List, None, Some, [], false, get_or, length, map, true, ℕ, ◌+◌, ◌<◌, ◌≡◌, ◌≤◌}
 
 abbrev pub IsSide : ℕ → Type 0
 IsSide side = side ≤ 1
@@ -30,16 +30,16 @@ IsSpare named sides d = (d.page < length sides) × (d.side ≡ spare_side named 
 -- device is at least.
 pub record AreKept (pool : Frames) (named sides space : List ℕ) (directory : List (Place × ℕ)) : Type 0 where
   pub is_pool : IsPool pool
-  pub codec : pool.codec ≡ record { nulls = true }
+  pub codec : codec_of pool ≡ record { nulls = true }
   pub named_low : Every IsSide named
   pub sides_low : Every IsSide sides
   pub listed : length named ≤ length sides
   pub counted : length space ≡ length sides
-  pub spare : Every (IsSpare named sides) pool.dirty.items
-  pub beyond : (page : ℕ) → length sides ≤ page → lookup (nat_eq page) pool.frames.entries ≡ None
+  pub spare : Every (IsSpare named sides) (dirty_of pool)
+  pub beyond : (page : ℕ) → length sides ≤ page → frame_of pool page ≡ None
   pub pointed : HasPagesBelow directory (length sides)
-  pub named_end : (page : ℕ) → page < length named → page_place page (get_or named page 0) + page_length ≤ pool.len
-  pub side_end : (page : ℕ) → page < length sides → is_dirty pool.dirty.items page ≡ false → page_place page (get_or sides page 0) + page_length ≤ pool.len
+  pub named_end : (page : ℕ) → page < length named → page_place page (get_or named page 0) + page_length ≤ length_of pool
+  pub side_end : (page : ℕ) → page < length sides → is_dirty (dirty_of pool) page ≡ false → page_place page (get_or sides page 0) + page_length ≤ length_of pool
 
 abbrev pub IsKept : RowStore → Type 0
 IsKept x = AreKept x.pool x.named x.sides.items x.space x.directory.entries
@@ -47,17 +47,17 @@ IsKept x = AreKept x.pool x.named x.sides.items x.space x.directory.entries
 -- The rows on the pages are those of the tables, where their device has these bytes.
 pub record HavePages (bytes : List ℕ) (pool : Frames) (sides space : List ℕ) (directory : List (Place × ℕ)) (t : Tables) : Type 0 where
   pub pages : List (List TableRow)
-  pub are : ArePages bytes pool.frames.entries pool.dirty.items sides pages
+  pub are : ArePages bytes (frames_of pool) (dirty_of pool) sides pages
   pub rows : AreRowsOf directory pages t
   pub free : space ≡ map free_on pages
-  pub long : pool.len ≡ length bytes
+  pub long : length_of pool ≡ length bytes
 
 abbrev pub HasRows : List ℕ → RowStore → Tables → Type 0
 HasRows bytes x t = HavePages bytes x.pool x.sides.items x.space x.directory.entries t
 
 -- The value keeps the rows of these tables on the pages of device `dev`, of which the header names these sides.
 pub record IsStanding (d : View) (x : RowStore) (dev : ℕ) (named : List ℕ) (t : Tables) : Type 0 where
-  pub device : x.pool.dev ≡ dev
+  pub device : pools.device_of x.pool ≡ dev
   pub known : dev < d.count
   pub names : x.named ≡ named
   pub kept : IsKept x
@@ -66,7 +66,7 @@ pub record IsStanding (d : View) (x : RowStore) (dev : ℕ) (named : List ℕ) (
 -- and between calls it can frame a page without a write: at most 63 pages are to be written
 pub record IsRowStore (d : View) (x : RowStore) (dev : ℕ) (named : List ℕ) (t : Tables) : Type 0 where
   pub is : IsStanding d x dev named t
-  pub few : length x.pool.dirty.items < frame_count
+  pub few : length (dirty_of x.pool) < frame_count
 
 -- some rows stand in it
 pub record Stands (d : View) (x : RowStore) : Type 0 where
@@ -84,13 +84,13 @@ pub record StandsOnPages (d : View) (x : RowStore) : Type 0 where
 
 -- nothing of it is to be written
 abbrev pub IsClean : RowStore → Type 0
-IsClean x = x.pool.dirty.items ≡ []
+IsClean x = dirty_of x.pool ≡ []
 
 -- WHAT LAYERS ABOVE SEE
 
 -- its device
 abbrev pub device_of : RowStore → ℕ
-device_of x = x.pool.dev
+device_of x = pools.device_of x.pool
 
 -- the side of each page now, as a header would name them
 abbrev pub sides_of : RowStore → List ℕ

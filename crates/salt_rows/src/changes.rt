@@ -9,16 +9,15 @@ ghost use Rattle.salt_codec.specs.Entries.{CanBePut};
 ghost use Rattle.salt_disk.specs.Disks.{FullOnly, HasCause, KeepsAll, KeepsOthers, OnlyFails};
 ghost use Rattle.salt_model.specs.Tables.{Tables, make_change, put_row, remove_at, row_at, set_row, with_changes};
 ghost use Rattle.salt_pool.specs.Frames.{frame_count};
-ghost use Rattle.salt_pool.specs.Pools.{IsPool};
+ghost use Rattle.salt_pool.specs.Pools.{IsPool, dirty_of, frame_of};
 ghost use Rattle.salt_rows.specs.Changing.{IsFresh, IsMarked, NamesKey};
 ghost use Rattle.salt_directory.specs.Bytes.{IsWithin, bytes_of_changes, bytes_of_entries, row_bytes};
 ghost use Rattle.salt_directory.specs.Directories.{HasPagesBelow};
 ghost use Rattle.salt_directory.specs.Pages.{page_of};
 ghost use Rattle.salt_directory.specs.Space.{HasRoom};
 ghost use Rattle.salt_rows.specs.Stores.{IsKept, IsRowStore, IsSide, IsStanding, StandsOnPages, device_of, page_count};
-ghost use Rattle.std.specs.Map.{lookup};
 ghost use Rattle.std.specs.Option.{option_copied};
-ghost use Rattle.std.specs.Prelude.{IfOk, IsTrue, List, None, OnOk, Some, false, is_some, length, nat_eq, true, ℕ, ◌+◌, ◌<◌, ◌≡◌, ◌≤◌};
+ghost use Rattle.std.specs.Prelude.{IfOk, IsTrue, List, None, OnOk, Some, false, is_some, length, true, ℕ, ◌+◌, ◌<◌, ◌≡◌, ◌≤◌};
 ghost use Rattle.std.specs.Result.{result_err};
 
 use crate::frame::{put_row, replace_row};
@@ -35,7 +34,7 @@ use std::alloc::AllocError;
 impl RowStore {
     /// A page whose frame has other rows than before is to be written, and has so many free bytes.
     fn mark(&mut self, page: u32, free: u16) -> Result<(), AllocError>
-        requires frame { is_some (lookup (nat_eq page) self.old.pool.frames.entries) ≡ true }
+        requires frame { is_some (frame_of self.old.pool page) ≡ true }
         requires pool { IsPool self.old.pool }
         requires named { Every IsSide self.old.named }
         requires below { page < length self.old.sides.items }
@@ -185,7 +184,7 @@ impl RowStore {
     /// A new row comes on a new page. A store of 2^32 - 1 pages has no memory for more.
     fn put_fresh(&mut self, place: Place, row: &Row) -> Result<(), AllocError>
         requires kept { IsKept self.old }
-        requires few { length self.old.pool.dirty.items < frame_count }
+        requires few { length (dirty_of self.old.pool) < frame_count }
         requires row { is_row_length (length row.now) ≡ true }
         requires key { key_of row.now ≡ place.key }
         ensures rows { OnOk result (IsFresh self.old self.new place row.now) }

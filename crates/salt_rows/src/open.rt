@@ -4,7 +4,7 @@ ghost use Rattle.salt_bytes.specs.Spellable.{Every};
 ghost use Rattle.salt_directory.specs.Listing.{AreNoPages};
 ghost use Rattle.salt_disk.specs.Disks.{HasCause, KeepsAll, OnlyFails};
 ghost use Rattle.salt_model.specs.Tables.{Tables};
-ghost use Rattle.salt_pool.specs.Pools.{IsPool, codec_of, dirty_of, length_of};
+ghost use Rattle.salt_pool.specs.Pools.{IsPool, codec_of, dirty_of, frames_of, length_of};
 ghost use Rattle.salt_rows.specs.Errors.{rows_disk_err};
 ghost use Rattle.salt_rows.specs.Sides.{sides_up_to};
 ghost use Rattle.salt_rows.specs.Stores.{HaveRows, IsRowStore, IsSide, device_of};
@@ -101,7 +101,7 @@ fn store_on(
     directory: Directory,
     space: Space,
 ) -> Result<RowStore, AllocError>
-    ensures frames { IfOk result (λ x. (x.pool.frames.entries ≡ []) × (dirty_of x.pool ≡ [])) }
+    ensures frames { IfOk result (λ x. (frames_of x.pool ≡ []) × (dirty_of x.pool ≡ [])) }
     ensures device { IfOk result (λ x. (codec_of x.pool ≡ record { nulls = true }) × (device_of x ≡ dev) × (length_of x.pool ≡ len)) }
     ensures pool { IfOk result (λ x. IsPool x.pool) }
     ensures rows { IfOk result (λ x. (x.named ≡ sides.now) × (x.sides.items ≡ sides.now) × (x.directory.entries ≡ directory.entries) × (x.space ≡ space)) }
