@@ -7,7 +7,7 @@ ghost use Rattle.salt_model.specs.Tables.{Tables};
 ghost use Rattle.salt_pool.specs.Pools.{IsPool, codec_of, dirty_of, frames_of, length_of};
 ghost use Rattle.salt_rows.specs.Errors.{rows_disk_err};
 ghost use Rattle.salt_rows.specs.Sides.{sides_up_to};
-ghost use Rattle.salt_rows.specs.Stores.{HaveRows, IsRowStore, IsSide, device_of};
+ghost use Rattle.salt_rows.specs.Stores.{HaveRows, IsRowStore, IsSide, device_of, sides_of};
 ghost use Rattle.salt_rows.specs.declared.error.RowsErr.TheVariants.{NotPage};
 ghost use Rattle.salt_stands.specs.Partition.{page_at};
 ghost use Rattle.std.specs.Prelude.{Err, IfOk, IsTrue, None, Some, [], length, true, ◌*◌, ◌<◌, ◌^◌, ◌≡◌, ◌≤◌};
@@ -130,6 +130,7 @@ pub fn open_rows<D: Disks>(
     requires sides { Every IsSide sides.now }
     requires few { length sides.now < 2 ^ 32 }
     ensures opened { IfOk result (λ x. (t : Tables) × IsRowStore (D.view disks.new) x dev sides.now t × (IsTrue (D.view disks.old).told → HaveRows nulls ((D.view disks.old).bytes dev) sides.now t)) }
+    ensures sides { IfOk result (λ x. sides_of x ≡ sides.now) }
     ensures not_page { result ≡ Err NotPage → IsTrue (D.view disks.old).told → AreNoPages nulls ((D.view disks.old).bytes dev) sides.now }
     ensures kept { KeepsAll (D.view disks.old) (D.view disks.new) (rows_disk_err result) }
     ensures cause { HasCause (D.view disks.old) (D.view disks.new) (rows_disk_err result) }

@@ -233,3 +233,6 @@ returns-clause-cause g c =
     let sides = c.args.sides.now in
     let e = g.D.Disks.view c.length_from.new.disks in
     cause_on d0 d e None l.invariant.cause c.in_ok-len.ensures.cause
+
+pub returns-clause-sides : goal.returns-clause-sides
+returns-clause-sides g c = c.in_ok-store_on.ensures.rows.1
