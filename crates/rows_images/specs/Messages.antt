@@ -11,7 +11,6 @@ use Rattle.salt_model.specs.declared.events.Cause.TheVariants as cause
 use Rattle.salt_model.specs.declared.events.End.TheVariants as end
 use Rattle.salt_model.specs.declared.events.Event.TheVariants as event
 use Rattle.salt_model.specs.declared.events.Why.TheVariants as why
-use Rattle.salt_net.specs.Turns.{Turning}
 use Rattle.salt_net.specs.declared.kinds.NetEvent.TheVariants.{Deliver, Resend, Restart, Start}
 use Rattle.salt_place.specs.declared.placement.PlaceKind.TheVariants.{Remainder}
 use Rattle.salt_place.specs.declared.placement.Shape.{Shape}

@@ -2,7 +2,7 @@
 use Rattle.salt_bytes.specs.declared.moves.Move.{Move}
 use Rattle.salt_bytes.specs.declared.moves.Move.TheVariants.{Continue, Finish, Plain}
 use Rattle.salt_values.specs.declared.cont.Cont.{Cont}
-use Rattle.salt_bytes.proofs.Only.{Only, given_only, if_only, only_32, only_64, only_values, pair_only, rest_of, took}
+use Rattle.salt_bytes.proofs.Only.{Only, given_only, only_32, only_64, only_values, pair_only, rest_of, took}
 use Rattle.salt_bytes.specs.Conts.{move_in, spell_cont, spell_move, spell_tries, take_cont, take_move, take_move_of, take_tries}
 use Rattle.salt_bytes.specs.Formats.{has_nulls, has_tries}
 use Rattle.salt_bytes.specs.Ids.{spell_id, take_id}

@@ -12,7 +12,7 @@ use Rattle.salt_stands.specs.Commits.{found_of, partition_count}
 use Rattle.salt_stands.specs.Coordinator.{Coordinator, device_of}
 use Rattle.salt_stands.specs.Pieces.{StaysFitting, PartView, with_boot, with_definition}
 use Rattle.salt_stands.specs.Reading.{Reading}
-use Rattle.std.proofs.Common.{IsTrue, List, None, Option, Some, ap, refl, subst, sym, ℕ, ◌+◌, ◌<◌, ◌^◌, ◌≡◌, ◌∙◌}
+use Rattle.std.proofs.Common.{IsTrue, List, None, Option, Some, ap, refl, subst, ℕ, ◌+◌, ◌<◌, ◌^◌, ◌≡◌, ◌∙◌}
 
 module _ {D : Type 0} (r : Reading D) (d e : View) (x : Store) (which : WhichLog) (c : Coordinator D) (v : ℕ → PartView) (is : IsStore r d x which c v) where
   -- A BOOT

@@ -15,7 +15,7 @@ use Rattle.salt_gatelog.proofs.Bytes.{entries_in-closed}
 use Rattle.salt_gatelog.specs.Log.{IsLog, device_of}
 use Rattle.salt_gatelog.specs.declared.log.GateLog.{GateLog}
 use Rattle.salt_stands.specs.CoordinatorLog.{coordinator_in, heard, told_by_header, with_told}
-use Rattle.std.proofs.Common.{IsTrue, List, None, Option, Some, [], ap, arith, drop, false, refl, slice_get, sym, true, ℕ, ◌≡◌, ◌∙◌, ◌∷◌}
+use Rattle.std.proofs.Common.{IsTrue, List, None, Some, [], ap, arith, drop, false, slice_get, sym, true, ℕ, ◌≡◌, ◌∙◌, ◌∷◌}
 use Rattle.std.specs.Prelude.{option_and_then}
 
 -- the bytes of a log's device stand for its entries

@@ -1,6 +1,6 @@
 -- The pair that was read is the coordinator's, as each device holds what was read of it.
 use Rattle.salt_bytes.specs.Generations as pair
-use Rattle.salt_bytes.specs.Generations.{Pair, chosen, content_of, follows, pair_of, read_or_outside}
+use Rattle.salt_bytes.specs.Generations.{chosen, content_of, follows, pair_of, read_or_outside}
 use Rattle.salt_bytes.specs.Log.{entries_in}
 use Rattle.salt_decisions.proofs.Contents.{log_bytes}
 use Rattle.salt_decisions.specs.Pair.{HasPair, contents, generation_of}

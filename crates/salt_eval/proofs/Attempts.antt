@@ -3,7 +3,7 @@ use Rattle.salt_ast.specs.declared.trees.Statement.TheVariants.{Delete, Ensure, 
 use Rattle.salt_ast.specs.declared.trees.Statement.{Statement}
 use Rattle.salt_ast.specs.declared.trees.TableDef.{TableDef}
 use Rattle.salt_eval.proofs.Tabled.{named-known, named-unknown}
-use Rattle.salt_eval.specs.Effects.{IsEffect, attempted, effect_at, effect_of, ensured, table_effect}
+use Rattle.salt_eval.specs.Effects.{IsEffect, attempted, effect_at, effect_of, table_effect}
 use Rattle.salt_model.specs.Eval.{holds}
 use Rattle.salt_model.specs.Reaches.{no_row, reach, reach_in, table_for, table_in, table_named}
 use Rattle.salt_model.specs.Statements.{Done, answering, do_at, do_in, done, outcome_of}

@@ -13,7 +13,7 @@ use Rattle.salt_events.specs.Lines.{event_in}
 use Rattle.salt_events.specs.Refusing.{refusal_in}
 use Rattle.salt_events.specs.Lists.{base_at, list_in, owner_at, stop_at}
 use Rattle.salt_model.specs.Printable.{HasPrintedForm, IsDefinition, IsPrintable, IsPrintableKind, IsPrintableRefusal, IsSpelled}
-use Rattle.salt_model.specs.Words.{Every, is_empty}
+use Rattle.salt_model.specs.Words.{is_empty}
 use Rattle.salt_events.proofs.Numbers.{IsId, IsNumber, behind_back, id_back, id_read, map_if, number_back, number_read, then_if}
 use Rattle.salt_events.proofs.PartLaws.{IsEnd, IsWhole, either_if, end_back, end_read, map_some, number_whole, whole_back, word_if}
 use Rattle.salt_events.specs.Fronts.{behind, id_at, number_at}
@@ -29,7 +29,7 @@ use Rattle.law_texts.specs.Arrow.{behind_arrow}
 use Rattle.salt_tokens.specs.Bytes.{is_digit}
 use Rattle.salt_tokens.specs.Pieces.{NotNext}
 use Rattle.salt_values.specs.declared.id.Id.{Id}
-use Rattle.std.proofs.Common.{IfSome, List, None, Option, Some, [], ap, codes, false, inl, inr, is_some, option_and_then, option_map, refl, subst, sym, true, ℕ, ◌++◌, ◌<◌, ◌^◌, ◌∙◌, ◌∷◌, ◌≡◌}
+use Rattle.std.proofs.Common.{IfSome, List, None, Option, Some, ap, codes, false, inl, inr, is_some, option_and_then, option_map, refl, subst, sym, true, ℕ, ◌++◌, ◌<◌, ◌^◌, ◌∙◌, ◌∷◌, ◌≡◌}
 use Rattle.std.specs.Bool.{then_some, ⊤}
 use Rattle.std.specs.Fmt.{decimal}
 

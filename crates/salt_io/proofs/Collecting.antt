@@ -1,9 +1,9 @@
 -- Bytes that are collected piece by piece.
-use Rattle.std.proofs.Common.{List, Option, [], ap, append-nil, append_assoc, arith, drop, length, length-append, sym, take, ℕ, ◌++◌, ◌+◌, ◌<◌, ◌≡◌, ◌∙◌}
+use Rattle.std.proofs.Common.{List, Option, [], ap, append-nil, append_assoc, arith, drop, length-append, sym, take, ℕ, ◌++◌, ◌+◌, ◌∙◌}
 use Rattle.std.proofs.Math.Seq.{take-add}
 use Rattle.std.proofs.lemmas.List.{take-append-drop}
 use Rattle.salt_io.specs.Collects.{Moves}
-use Rattle.salt_io.specs.Streams.{Gains, GainsShort}
+use Rattle.salt_io.specs.Streams.{GainsShort}
 use Rattle.salt_io.proofs.Taking.{gains-append, gains-none}
 
 pub moves-none : (held : Option (List ℕ)) (waiting : List ℕ) → Moves held waiting [] held waiting

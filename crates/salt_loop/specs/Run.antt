@@ -11,7 +11,7 @@ use Rattle.salt_model.specs.Trace.{Start, Trace, story_of}
 use Rattle.salt_model.specs.declared.events.Event.{Event}
 use Rattle.salt_model.specs.declared.events.Flight.{Flight}
 use Rattle.salt_promise.specs.Doing as promise
-use Rattle.salt_promise.specs.Doing.{AreFirstLines, AreLinesRead, GainsFrom, GainsShortFrom, story_before_line, text_under}
+use Rattle.salt_promise.specs.Doing.{story_before_line, text_under}
 use Rattle.salt_promise.specs.Ending.{Flies}
 use Rattle.salt_promise.specs.Ways.{way_of}
 use Rattle.salt_promise.specs.declared.status.Status.{Status}

@@ -2,7 +2,7 @@
 use Rattle.salt_ast.specs.declared.limit.LimitName.TheVariants as limit
 use Rattle.salt_ast.specs.declared.trees.Expr.{Column}
 use Rattle.salt_parse.specs.Answers.{Fails}
-use Rattle.salt_parse.specs.Flags.{BuiltTree, Flags, built_of, int_tree, kept, kept_name, leaf, note, signed, text_tree}
+use Rattle.salt_parse.specs.Flags.{BuiltTree, Flags, int_tree, kept, kept_name, leaf, note, signed, text_tree}
 use Rattle.salt_parse.specs.Lone.{ends_operand, is_lone}
 use Rattle.salt_parse.specs.Parsing.{Parsing, ReadsBuilt}
 use Rattle.salt_parse.specs.Reading.{Reader, after, atom_at, comparison_at, conjunction_at, left_at, level_at, name_flags, negation_at, nots_at, once_at, product_at, sum_at, tail_at, text_at, text_flags}
@@ -13,7 +13,7 @@ use Rattle.salt_parse.specs.declared.expr.Level.TheVariants as level
 use Rattle.salt_tokens.specs.Symbols.{Symbol, Symbols, int, key, name, sign, text}
 use Rattle.salt_tokens.specs.declared.keyword.Keyword.TheVariants as word
 use Rattle.salt_tokens.specs.declared.sign.Sign.TheVariants as mark
-use Rattle.std.proofs.Common.{Err, None, Ok, Option, Result, Some, [], false, is_none, refl, subst, sym, true, ℕ, ◌≡◌, ◌∙◌, ◌∷◌}
+use Rattle.std.proofs.Common.{Err, Ok, Result, Some, [], false, is_none, refl, subst, sym, true, ℕ, ◌≡◌, ◌∙◌, ◌∷◌}
 use Rattle.std.specs.Bool.{then_some}
 
 left_alone : (p : ℕ) (operand : Reader BuiltTree) (f : Flags) (us : Symbols) (x : BuiltTree) (g : Flags) (ts : Symbols) → operand f us ≡ Some (x, g, ts) → ends_operand ts ≡ true

@@ -1,5 +1,5 @@
 -- What writes of pages leave of a device: sides to which none goes, and how long it is.
-use Rattle.salt_bytes.specs.Page.{page_length, page_place}
+use Rattle.salt_bytes.specs.Page.{page_length}
 use Rattle.salt_checkpoint.proofs.Named.{written_front}
 use Rattle.salt_checkpoint.proofs.Places.{places_apart}
 use Rattle.salt_checkpoint.proofs.Torn.{length-written, side_same}

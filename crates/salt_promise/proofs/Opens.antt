@@ -6,7 +6,7 @@ use Rattle.salt_stands.specs.Coordinator.{Coordinator, coordinator_at}
 use Rattle.salt_model.specs.Tables.{Tables}
 use Rattle.salt_stands.specs.Reading.{Reading}
 use Rattle.salt_stands.specs.Stands as opening
-use Rattle.salt_stands.specs.Stands.{Found, Opening, Stands, are_spent, found_with, is_same_kind, is_same_shape, stands_on, logs_of, nothing_found, of_coordinator, of_parts, opening_of, parts_at, with_parts}
+use Rattle.salt_stands.specs.Stands.{Found, Opening, Stands, are_spent, found_with, is_same_kind, is_same_shape, logs_of, of_coordinator, of_parts, parts_at, with_parts}
 use Rattle.salt_stands.specs.Words.{if_sound}
 use Rattle.salt_place.specs.declared.placement.PlaceKind.TheVariants.{Bands, Remainder}
 use Rattle.salt_place.specs.declared.placement.PlaceKind.{PlaceKind}

@@ -20,7 +20,7 @@ use Rattle.salt_promise.specs.Worked.{ample, begun, blank, header_at, holding, o
 use Rattle.salt_stands.specs.Coordinator.{coordinator_at, judge_coordinator}
 use Rattle.salt_stands.specs.CoordinatorLog.{coordinator_generation, coordinator_in}
 use Rattle.salt_stands.specs.Stands as opening
-use Rattle.salt_stands.specs.Stands.{Opening, stands_on, logs_of, nothing_found, opening_of, with_parts}
+use Rattle.salt_stands.specs.Stands.{logs_of, nothing_found, opening_of, with_parts}
 use Rattle.salt_stands.specs.Words.{if_sound}
 use Rattle.std.proofs.Common.{ap, arith, inl, inr, subst, ◌∙◌}
 use Rattle.std.specs.Prelude.{List, None, Ok, Option, Some, [], false, refl, suc, true, zero, ℕ, ◌^◌, ◌∷◌, ◌≡◌}

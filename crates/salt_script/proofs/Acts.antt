@@ -4,7 +4,7 @@ use Rattle.std.specs.Option.{option_or}
 use Rattle.std.specs.Prelude.{Bool, Err, Ok, Result, false, option_map, true}
 use Rattle.salt_ast.specs.Limits.{statement_limit}
 use Rattle.salt_ast.specs.Lines as form
-use Rattle.salt_ast.specs.Lines.{IsAct, IsLiteral}
+use Rattle.salt_ast.specs.Lines.{IsAct}
 use Rattle.salt_ast.specs.Spelling.{Passes, by_parentheses, by_tree}
 use Rattle.salt_ast.specs.Statements as statement_form
 use Rattle.salt_ast.specs.Statements.{IsStatement}

@@ -1,7 +1,6 @@
 -- One row spells one line at most.
 use Rattle.std.proofs.Common.{List, Option, Some, ap, refl, sym, ℕ, ◌∙◌, ◌≡◌}
 use Rattle.salt_ast.specs.Lines as form
-use Rattle.salt_ast.specs.Lines.{IsLiteral, IsStop}
 use Rattle.salt_ast.specs.Programs.{is_program}
 use Rattle.salt_ast.specs.Statements as statement_form
 use Rattle.salt_ast.specs.Tables.{is_table}

@@ -12,7 +12,7 @@ use Rattle.salt_stands.proofs.Prepared.{sound_log}
 use Rattle.salt_stands.specs.Coordinator.{Coordinator, Logs, decided_for, device_of, is_sound_cont, is_sound_decision}
 use Rattle.salt_stands.specs.CoordinatorLog.{coordinator_generation, coordinator_in, told_by_header, with_told}
 use Rattle.salt_stands.specs.OpenConts.{conts_of_move}
-use Rattle.salt_stands.specs.Partition.{are_sound_rows, is_format_under, is_sound_prepared, pages_device, part_device, part_tables, rows_from, rows_of_pages}
+use Rattle.salt_stands.specs.Partition.{are_sound_rows, is_format_under, is_sound_prepared, pages_device, part_device, rows_of_pages}
 use Rattle.salt_stands.specs.PartitionLog.{own_log, partition_generation, partition_in, with_prepared}
 use Rattle.salt_stands.specs.Pieces.{CoordinatorStands, IsSameAt, PartStands, PartView, ReadsSamePages, checkpointed, next_header, next_part_header, other_log, tables_at_part, with_snapshot}
 use Rattle.salt_stands.specs.Reading.{Reading}

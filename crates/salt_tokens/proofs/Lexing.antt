@@ -1,5 +1,5 @@
 -- What tokens stand for, one after the other, as a loop takes them.
-use Rattle.std.proofs.Common.{◌≡◌, ℕ, ◌+◌, ◌<◌, ◌≤◌, true, false, List, [], ◌∷◌, ◌++◌, length, get_or, take, drop, Some, None, refl, sym, ap, ◌∙◌, arith, length-append}
+use Rattle.std.proofs.Common.{◌≡◌, ℕ, ◌+◌, ◌<◌, ◌≤◌, true, false, List, [], ◌∷◌, ◌++◌, length, get_or, take, drop, Some, None, sym, ap, ◌∙◌, arith, length-append}
 use Rattle.std.proofs.lemmas.List.{map_push}
 use Rattle.salt_tokens.specs.declared.lexeme.Lexeme.{Lexeme}
 use Rattle.salt_tokens.specs.declared.token.TokenKind.{TokenKind}

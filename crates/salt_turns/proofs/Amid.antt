@@ -1,7 +1,6 @@
 -- A unit's commit over messages, event after event: what comes next can be done, and what it makes of what nodes hold.
-use Rattle.salt_turns.specs.Amid.{IsAmid, IsDue, IsOnTheWay, IsSent, IsUndecided, behind_next, next_by, next_in, next_of, status_now}
+use Rattle.salt_turns.specs.Amid.{IsAmid, IsDue, IsOnTheWay, IsSent, behind_next, next_by, next_in, next_of, status_now}
 use Rattle.salt_turns.specs.declared.coming.Next.TheVariants as next
-use Rattle.salt_turns.specs.declared.coming.Next.{Next}
 use Rattle.salt_net.proofs.Changing.{delivery_changes}
 use Rattle.salt_net.proofs.Committing.{Somewhere, one_more, somewhere_along}
 use Rattle.salt_net.proofs.Ending.{Stands, delivers, ended_here, get_behind, get_below, get_still, resent_next, restarts, taken_next}
@@ -12,9 +11,9 @@ use Rattle.salt_net.proofs.Sound.{Fits, HasDecided, HasVoted, IsAbort, IsBacked,
 use Rattle.salt_net.specs.Deeds.{behind, decides_by, decides_when, deed, deed_at, deed_by, deed_of, ends, prepares}
 use Rattle.salt_net.specs.Flags.{has_node, with_at}
 use Rattle.salt_net.specs.Nets.Coordinator.{Decided, Started}
-use Rattle.salt_net.specs.Nets.{Coordinator, NetState, Poll, after, can_happen, coordinator_status, delivered, done_in, done_to, hearing, no_net, node_of, reacted, resending, state_of, status_by, status_in, status_of, unit_of, with_poll}
+use Rattle.salt_net.specs.Nets.{Coordinator, NetState, Poll, after, can_happen, coordinator_status, done_in, done_to, hearing, no_net, node_of, reacted, resending, state_of, status_by, status_of, unit_of, with_poll}
 use Rattle.salt_net.specs.Paces.{CanGoOn, Pace, gone_on, turning_of}
-use Rattle.salt_net.specs.Turns.{Turning, is_done, turn, turn_events, turns, with_events}
+use Rattle.salt_net.specs.Turns.{Turning, is_done, turn, turn_events}
 use Rattle.salt_net.specs.Twists.{twist}
 use Rattle.salt_net.specs.declared.kinds.Deed.TheVariants as deeds
 use Rattle.salt_net.specs.declared.kinds.Deed.{Deed}
@@ -35,7 +34,7 @@ use Rattle.std.proofs.lemmas.List.Sums.{fold-append}
 use Rattle.std.proofs.lemmas.List.{append-nil, append_cancel_left}
 use Rattle.std.specs.List.{list_all}
 use Rattle.std.specs.Option.{is_some}
-use Rattle.std.specs.Prelude.{Bool, List, None, Option, Some, [], cond, false, nat_le, refl, slice_get, true, ℕ, ◌+◌, ◌++◌, ◌==◌, ◌∷◌, ◌≡◌, ◌≢◌, ◌≤◌, ◌⊎◌}
+use Rattle.std.specs.Prelude.{Bool, List, Option, Some, [], cond, false, nat_le, refl, slice_get, true, ℕ, ◌+◌, ◌++◌, ◌==◌, ◌∷◌, ◌≡◌, ◌≢◌, ◌≤◌, ◌⊎◌}
 
 -- EVENT AFTER EVENT
 

@@ -11,7 +11,7 @@ use Rattle.salt_net.specs.declared.kinds.NetEvent.TheVariants.{Start}
 use Rattle.salt_net.specs.declared.kinds.NetEvent.{NetEvent}
 use Rattle.salt_values.specs.Id.{is_same_id}
 use Rattle.salt_values.specs.declared.id.Id.{Id}
-use Rattle.std.proofs.Common.{List, Some, [], ap, arith, false, inl, inr, length, subst, suc, sym, true, zero, ℕ, ◌+◌, ◌++◌, ◌-◌, ◌≡◌, ◌≤◌, ◌⊎◌, ◌∙◌, ◌∷◌}
+use Rattle.std.proofs.Common.{List, Some, [], ap, arith, false, inl, inr, length, subst, suc, sym, true, zero, ℕ, ◌+◌, ◌-◌, ◌≡◌, ◌≤◌, ◌⊎◌, ◌∙◌, ◌∷◌}
 use Rattle.std.proofs.lemmas.List.Sums.{fold-append}
 use Rattle.std.specs.Prelude.{cond}
 

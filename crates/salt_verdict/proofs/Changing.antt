@@ -20,7 +20,6 @@ use Rattle.salt_verdict.specs.Variables.{vars_begun}
 use Rattle.salt_verdict.specs.declared.ledger.Act.{Act}
 use Rattle.salt_verdict.specs.declared.ledger.Ledger.{Ledger}
 use Rattle.std.proofs.Common.{Bool, List, None, Option, Some, [], ap, false, if◌then◌else◌, not, refl, subst, sym, true, true≢false, ◌&&◌, ◌||◌, ◌∙◌, ◌∷◌, ◌≡◌}
-use Rattle.std.specs.List.{filter}
 
 -- by the tables, the schema and what the unit has done
 abbrev unfaithful_on : List TableDef → Tables → Option Act → Bool

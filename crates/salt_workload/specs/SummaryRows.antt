@@ -13,7 +13,7 @@ use Rattle.salt_workload.specs.Summary.{summary_text}
 use Rattle.salt_values.specs.declared.id.Id.{Id}
 use Rattle.salt_values.specs.declared.value.Value.TheVariants.{Int}
 use Rattle.std.specs.Fmt.{digits}
-use Rattle.std.specs.Prelude.{List, None, Some, [], codes, negsuc, pos, refl, ℕ, ◌++◌, ◌∷◌, ◌≡◌}
+use Rattle.std.specs.Prelude.{List, Some, [], codes, negsuc, pos, refl, ℕ, ◌++◌, ◌∷◌, ◌≡◌}
 
 abbrev id_at : ℕ → Id
 id_at n = record { boot = 1; seq = n }

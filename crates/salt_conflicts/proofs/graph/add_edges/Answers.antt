@@ -5,7 +5,7 @@ use Rattle.salt_values.specs.declared.id.Id.{Id}
 use Rattle.salt_conflicts.proofs.Awaiting.{edges-members, no-edges}
 use Rattle.salt_conflicts.proofs.graph.add_edges.Goals as goal
 use Rattle.salt_conflicts.specs.Waiters.{askers}
-use Rattle.std.proofs.Common.{List, [], ap, append-nil, subst, sym, ◌++◌, ◌∙◌, ◌↔◌}
+use Rattle.std.proofs.Common.{List, ap, append-nil, subst, sym, ◌++◌, ◌∙◌, ◌↔◌}
 use Rattle.std.proofs.lemmas.Result.{on_ok_weaker}
 
 pub returns-in_ok-sources-in-Base : goal.returns-in_ok-sources-in-Base

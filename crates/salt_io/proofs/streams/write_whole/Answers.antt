@@ -1,4 +1,4 @@
-use Rattle.std.proofs.Common.{arith, length, rules, ◌∙◌, ◌≡◌, ◌≤◌}
+use Rattle.std.proofs.Common.{arith, length, rules, ◌∙◌, ◌≡◌}
 use Rattle.std.proofs.Math.Seq.{take-length}
 use Rattle.salt_io.proofs.Results.{on_err}
 use Rattle.salt_io.proofs.Taking.{gains-more, gains-short, within-more}

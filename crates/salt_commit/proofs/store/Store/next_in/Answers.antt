@@ -1,7 +1,6 @@
 use Rattle.salt_commit.proofs.Ended.{none_behind}
 use Rattle.salt_commit.proofs.OnePart.{next_of_store}
 use Rattle.salt_commit.proofs.store.Store.next_in.Goals as goal
-use Rattle.salt_eval.specs.Views.{next_row}
 use Rattle.salt_stands.specs.Commits.{found_of, partition_count}
 use Rattle.salt_stands.specs.Partition.{part_of_key}
 use Rattle.std.proofs.Common.{ap, arith, subst, sym, ◌<◌, ◌≡◌, ◌∙◌}

@@ -1,5 +1,5 @@
 use Rattle.salt_values.specs.declared.limits.TheConstants.{SCRIPT_MOST}
-use Rattle.std.proofs.Common.{◌≡◌, ◌≤◌, ℕ, Option, ◌∷◌, [], List, Result, Ok, Err, refl, sym, ◌∙◌, ap, arith, true, false, Bool, eqb, length, Vec, Global}
+use Rattle.std.proofs.Common.{◌≡◌, ℕ, Option, ◌∷◌, [], List, Result, Ok, Err, refl, sym, ◌∙◌, ap, arith, true, false, Bool, eqb, length, Vec, Global}
 use Rattle.std.proofs.lemmas.Bool.Decides.{nat_tests}
 use Rattle.salt_io.specs.Lines.{script_of}
 use Rattle.salt_io.specs.Streams.{IsAtEnd, bytes_before}
