@@ -1,0 +1,13 @@
+pub mod Keyed
+mod Logged
+pub mod Paged
+mod Sound
+mod Checkpointed
+mod Created
+pub mod Standing
+pub mod Framed
+mod Witnesses
+mod Opened
+mod Redone
+mod Steps
+pub mod Reopened

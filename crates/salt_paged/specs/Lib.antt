@@ -1,0 +1,4 @@
+pub mod Partitions
+pub mod Openings
+pub mod Checkpoints
+pub mod Reopening
