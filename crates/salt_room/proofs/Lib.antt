@@ -1,0 +1,5 @@
+pub mod Lists
+mod Apart
+mod Begun
+mod Rooms
+pub mod Ready

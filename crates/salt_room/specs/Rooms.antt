@@ -1,0 +1,71 @@
+-- The partitions of a store, and what new generations leave of them.
+use Rattle.law_generations.specs.AsIf.{IsAsIf}
+use Rattle.salt_bytes.specs.Generations.{WhichLog}
+use Rattle.salt_checkpoint.specs.Checkpoints.{IsReady}
+use Rattle.salt_disk.specs.Disks.{View}
+use Rattle.salt_disk.specs.declared.disks.DiskErr.TheVariants.{Failed, Full, Memory, Stopped}
+use Rattle.salt_disk.specs.declared.disks.DiskErr.{DiskErr}
+use Rattle.salt_paged.specs.Checkpoints.{FullAtCheckpoint}
+use Rattle.salt_paged.specs.Partitions.{IsPartition, unit_count}
+use Rattle.salt_paged.specs.declared.partition.Partition.{Partition}
+use Rattle.salt_stands.specs.Commits.{partition_count}
+use Rattle.salt_stands.specs.Coordinator.{Coordinator, decided_for}
+use Rattle.salt_stands.specs.Pieces.{PartView}
+use Rattle.salt_stands.specs.Reading.{Reading}
+use Rattle.salt_values.specs.declared.change.Change.{Change}
+use Rattle.salt_values.specs.declared.id.Id.{Id}
+use Rattle.std.specs.Prelude.{IfSome, IsTrue, List, None, Option, Some, [], length, slice_get, ℕ, ⊤, ◌<◌, ◌≡◌, ◌∷◌}
+
+-- The partitions of a store stand on the devices, with the units that are decided applied; where the devices tell, the store is ready.
+pub record ArePartsOf {D : Type 0} (r : Reading D) (d : View) (parts : List Partition) (which : WhichLog) (c : Coordinator D) (v : ℕ → PartView) : Type 0 where
+  pub size : length parts ≡ partition_count c
+  pub each : (p : ℕ) → IfSome (slice_get parts p) (λ x. IsPartition d x p (v p) (decided_for p c.log.told.decided))
+  pub ready : IsTrue d.told → IsReady r d which c v
+
+-- a value stands as this partition
+pub record StandsAs (d : View) (p : ℕ) (x : Partition) : Type 0 where
+  pub v : PartView
+  pub applied : List Id
+  pub is : IsPartition d x p v applied
+
+-- each of them stands, of whatever store
+pub record EachStands (d : View) (parts : List Partition) : Type 0 where
+  pub each : (p : ℕ) → IfSome (slice_get parts p) (StandsAs d p)
+
+-- they are those of another generation of the store
+pub record GoOn {D : Type 0} (r : Reading D) (d : View) (parts : List Partition) (which : WhichLog) (c : Coordinator D) (v : ℕ → PartView) : Type 0 where
+  pub view : ℕ → PartView
+  pub as_if : IsAsIf c v c view
+  pub are : ArePartsOf r d parts which c view
+
+-- in which the first n have no prepared unit, and NULL spelled
+pub record GoOnEmpty {D : Type 0} (n : ℕ) (r : Reading D) (d : View) (parts : List Partition) (which : WhichLog) (c : Coordinator D) (v : ℕ → PartView) : Type 0 where
+  pub on : GoOn r d parts which c v
+  pub none : (p : ℕ) → p < n → (on.view p).log.prepared ≡ []
+  pub format : (p : ℕ) → p < n → (on.view p).log.header.format ≡ 2
+
+-- a device of a partition
+abbrev pub IsOfPart : ℕ → Type 0
+IsOfPart dev = 1 < dev
+
+-- one of these partitions is too long for its devices
+pub record IsTooLong (d : View) (parts : List Partition) (dev : ℕ) : Type 0 where
+  pub p : ℕ
+  pub part : Partition
+  pub at : slice_get parts p ≡ Some part
+  pub full : FullAtCheckpoint d part (Some (Full dev))
+
+abbrev pub FullAtOne : View → List Partition → Option DiskErr → Type 0
+FullAtOne d parts None = ⊤
+FullAtOne d parts (Some Failed) = ⊤
+FullAtOne d parts (Some Stopped) = ⊤
+FullAtOne d parts (Some Memory) = ⊤
+FullAtOne d parts (Some (Full dev)) = IsTooLong d parts dev
+
+-- how many units a partition's log may have before it is begun anew
+abbrev pub most_units : ℕ
+most_units = 256
+
+-- of the first n partitions each that has a share has room for one unit more
+pub record HaveRoom (n : ℕ) (parts : List Partition) (shares : List (List Change)) : Type 0 where
+  pub each : (p : ℕ) → p < n → (x : Partition) → slice_get parts p ≡ Some x → (c : Change) (cs : List Change) → slice_get shares p ≡ Some (c ∷ cs) → unit_count x < most_units

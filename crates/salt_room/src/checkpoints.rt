@@ -1,0 +1,82 @@
+//! Partitions of a store are checkpointed.
+
+ghost use Rattle.salt_bytes.specs.Generations.{WhichLog};
+ghost use Rattle.salt_checkpoint.specs.Checkpoints.{StandsAlways};
+ghost use Rattle.salt_disk.specs.Disks.{HasCause, KeepsBut};
+ghost use Rattle.salt_model.specs.Kept.{Definition};
+ghost use Rattle.salt_paged.specs.Partitions.{unit_count};
+ghost use Rattle.salt_room.specs.Rooms.{ArePartsOf, EachStands, FullAtOne, GoOn, GoOnEmpty, HaveRoom, IsOfPart, most_units};
+ghost use Rattle.salt_stands.specs.Coordinator.{Coordinator};
+ghost use Rattle.salt_stands.specs.Pieces.{PartView};
+ghost use Rattle.salt_stands.specs.Reading.{Reading};
+ghost use Rattle.salt_values.specs.declared.change.Change.{Change};
+ghost use Rattle.std.specs.Prelude.{IsTrue, List, OnOk, false, length, ℕ, ◌<◌, ◌≡◌, ◌∷◌};
+ghost use Rattle.std.specs.Result.{result_err};
+
+use salt_disk::{DiskErr, Disks};
+use salt_paged::Partition;
+use salt_values::Changes;
+
+/// How many units a partition's log may have before it is begun anew.
+pub const MOST_UNITS: u64 = 256;
+
+/// Checkpoints each partition, in order of their numbers. Then none has a prepared unit. Whatever it answers, each image of the devices
+/// stands for what stood before. `Full` comes only where one of them is too long for its devices. After an error the partitions are
+/// opened again before they are used.
+pub fn checkpoint_all<D: Disks>(disks: &mut D, parts: &mut Vec<Partition>) -> Result<(), DiskErr>
+    requires { EachStands (D.view disks.old) parts.old.items }
+    ensures ok { (r : Reading Definition) (which : WhichLog) (c : Coordinator Definition) (v : ℕ → PartView) → ArePartsOf r (D.view disks.old) parts.old.items which c v
+        → OnOk result (GoOnEmpty (length parts.old.items) r (D.view disks.new) parts.new.items which c v) }
+    ensures images { (r : Reading Definition) (which : WhichLog) (c : Coordinator Definition) (v : ℕ → PartView) → IsTrue (D.view disks.old).told → ArePartsOf r (D.view disks.old) parts.old.items which c v
+        → StandsAlways r (D.view disks.new) c v }
+    ensures size { length parts.new.items ≡ length parts.old.items }
+    ensures others { KeepsBut IsOfPart (D.view disks.old) (D.view disks.new) (result_err result) }
+    ensures cause { HasCause (D.view disks.old) (D.view disks.new) (result_err result) }
+    ensures full { FullAtOne (D.view disks.old) parts.old.items (result_err result) }
+{
+    for number in 0..parts.len() {
+        let part = &mut parts[number];
+        part.checkpoint(disks)?;
+    }
+    Ok(())
+}
+
+/// Whether a partition has a share of a unit, and no room for it.
+fn lacks_room(part: &Partition, share: &Changes) -> bool
+    ensures { result ≡ false → (c : Change) (cs : List Change) → share.now ≡ c ∷ cs → unit_count part.now < most_units }
+{
+    if share.is_empty() {
+        return false;
+    }
+    MOST_UNITS <= part.prepared_count()
+}
+
+/// Checkpoints each partition that has a share of a unit and a log with 256 units or more, in order of their numbers: so each of them has
+/// room for one more. Else as `checkpoint_all`.
+pub fn checkpoint_full<D: Disks>(
+    disks: &mut D,
+    parts: &mut Vec<Partition>,
+    shares: &[Changes],
+) -> Result<(), DiskErr>
+    requires stand { EachStands (D.view disks.old) parts.old.items }
+    requires size { length shares.now ≡ length parts.old.items }
+    ensures ok { (r : Reading Definition) (which : WhichLog) (c : Coordinator Definition) (v : ℕ → PartView) → ArePartsOf r (D.view disks.old) parts.old.items which c v
+        → OnOk result (GoOn r (D.view disks.new) parts.new.items which c v) }
+    ensures room { OnOk result (HaveRoom (length parts.new.items) parts.new.items shares.now) }
+    ensures images { (r : Reading Definition) (which : WhichLog) (c : Coordinator Definition) (v : ℕ → PartView) → IsTrue (D.view disks.old).told → ArePartsOf r (D.view disks.old) parts.old.items which c v
+        → StandsAlways r (D.view disks.new) c v }
+    ensures size { length parts.new.items ≡ length parts.old.items }
+    ensures others { KeepsBut IsOfPart (D.view disks.old) (D.view disks.new) (result_err result) }
+    ensures cause { HasCause (D.view disks.old) (D.view disks.new) (result_err result) }
+    ensures full { FullAtOne (D.view disks.old) parts.old.items (result_err result) }
+{
+    for number in 0..parts.len() {
+        let this = &parts[number];
+        let share = &shares[number];
+        if lacks_room(this, share) {
+            let part = &mut parts[number];
+            part.checkpoint(disks)?;
+        }
+    }
+    Ok(())
+}
