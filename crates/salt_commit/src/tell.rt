@@ -133,7 +133,7 @@ pub fn tell_all<D: Disks>(
     'tell: while has_next(messages, unit) {
         let node = to_open(next_of(messages), doubted);
         open_next(alloc, disks, parts, shares, &mut opened, node)?;
-        go_on(messages, unit)?;
+        go_on(messages)?;
         steps = next_number(steps)?;
     }
     Ok(opened)

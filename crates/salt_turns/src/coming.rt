@@ -5,6 +5,7 @@ ghost use Rattle.salt_turns.specs.Amid.{HasEndedTurns, IsOnTheWay, IsUndecided, 
 ghost use Rattle.salt_turns.specs.declared.coming.Next.TheVariants.{Decides};
 ghost use Rattle.salt_net.specs.Turns.{Turning};
 ghost use Rattle.salt_net.specs.declared.kinds.NodeStatus.TheVariants.{Idle, Started};
+ghost use Rattle.salt_values.specs.declared.id.Id.{Id};
 ghost use Rattle.std.specs.Prelude.{List, OnOk, false, true, ℕ, ◌≡◌, ◌≢◌, ◌≤◌, ◌⊎◌};
 
 use salt_net::{Deed, Left, Messages, NodeStatus, Nodes};
@@ -69,12 +70,12 @@ pub fn begin(messages: &mut Messages, unit: Id, nodes: Nodes) -> Result<(), Allo
 }
 
 /// Does the event that comes next, if one does. Where memory runs out it is not done.
-pub fn go_on(messages: &mut Messages, unit: Id) -> Result<(), AllocError>
-    requires { (nodes : List ℕ) × (first : Turning) × IsOnTheWay unit nodes first messages.old }
-    ensures way { (nodes : List ℕ) (first : Turning) → IsOnTheWay unit nodes first messages.old → OnOk result (IsOnTheWay unit nodes first messages.new) }
-    ensures held { OnOk result (status_now messages.old unit 0 ≡ Started → next_in messages.old ≢ Decides → (p : ℕ) → status_now messages.new unit p ≡ behind_next (next_in messages.old) p (status_now messages.old unit p)) }
+pub fn go_on(messages: &mut Messages) -> Result<(), AllocError>
+    requires { (unit : Id) × (nodes : List ℕ) × (first : Turning) × IsOnTheWay unit nodes first messages.old }
+    ensures way { (unit : Id) (nodes : List ℕ) (first : Turning) → IsOnTheWay unit nodes first messages.old → OnOk result (IsOnTheWay unit nodes first messages.new) }
+    ensures held { (unit : Id) (nodes : List ℕ) (first : Turning) → IsOnTheWay unit nodes first messages.old
+        → OnOk result (status_now messages.old unit 0 ≡ Started → next_in messages.old ≢ Decides → (p : ℕ) → status_now messages.new unit p ≡ behind_next (next_in messages.old) p (status_now messages.old unit p)) }
 {
-    let _ = unit;
     messages.go_on()
 }
 
@@ -85,7 +86,7 @@ pub fn pass(messages: &mut Messages, unit: Id) -> Result<(), AllocError>
     ensures held { OnOk result (status_now messages.old unit 0 ≡ Started → next_in messages.old ≢ Decides → (p : ℕ) → status_now messages.new unit p ≡ behind_next (next_in messages.old) p (status_now messages.old unit p)) }
 {
     if messages.has_left() {
-        return go_on(messages, unit);
+        return go_on(messages);
     }
     messages.plan(unit);
     Ok(())

@@ -26,7 +26,7 @@ open_next-requires-clause-may g c =
 
 pub go_on-requires : goal.go_on-requires
 go_on-requires g c =
-    (nodes_of c.args.shares.now, c.requires.way.0, c.has_next.ensures.way (nodes_of c.args.shares.now) c.requires.way.0 (c.tell.invariant.way c.requires.way.0 c.requires.way.1))
+    (c.args.unit, nodes_of c.args.shares.now, c.requires.way.0, c.has_next.ensures.way (nodes_of c.args.shares.now) c.requires.way.0 (c.tell.invariant.way c.requires.way.0 c.requires.way.1))
 
 pub tell-smaller : goal.tell-smaller
 tell-smaller g c = omega (arith, c.in_ok-steps.ensures)
@@ -39,7 +39,7 @@ tell-preserved g c =
     tells_next (g.D.Disks.view c.args.disks.now) (g.D.Disks.view l.disks) c.args.parts.now l.opened.items c.args.unit c.args.shares.now c.args.messages.now c.has_next.new.messages w (g.D.Disks.view c.open_next.new.disks) c.open_next.new.opened.items c.go_on.new.messages c.to_open-node.result
     c.in_ok-open_next.ensures.kept c.in_ok-open_next.ensures.cause c.in_ok-open_next.ensures.ok
     (open_named (g.D.Disks.view c.args.disks.now) (g.D.Disks.view l.disks) c.args.parts.now l.opened.items c.args.unit c.args.shares.now c.args.messages.now c.has_next.new.messages w c.requires.size c.requires.may c.requires.way.0 c.requires.way.1 c.to_open-node.result wanted)
-    (λ first. c.in_ok-go_on.ensures.way (nodes_of c.args.shares.now) first)
+    (λ first. c.in_ok-go_on.ensures.way c.args.unit (nodes_of c.args.shares.now) first)
 
 pub returns-in_err-open_next-clause-kept : goal.returns-in_err-open_next-clause-kept
 returns-in_err-open_next-clause-kept g c =
