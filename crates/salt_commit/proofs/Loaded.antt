@@ -176,6 +176,6 @@ fewer_left d e x y which c v is now t range after row key next is_key =
     let was = store_shown reading d x which c v is in
     fewer t range after (shown_in_all x.parts.items) row key (shown_in_all y.parts.items) (next ∙ ap (next_row t range after) (sym was)) (subst IsKeyed (sym was) (store_keyed reading d x which c v is)) is_key (store_shown reading e y which c v now ∙ sym was)
 
-pub none_left : (o : Option (List Value)) → ((row : List Value) → o ≡ Some row → ⊥) → None ≡ o
+pub none_left : {A : Type 0} (o : Option A) → ((x : A) → o ≡ Some x → ⊥) → None ≡ o
 none_left None not_some = refl
-none_left (Some row) not_some = absurd (not_some row refl)
+none_left (Some x) not_some = absurd (not_some x refl)

@@ -20,7 +20,7 @@ use crate::prepare::prepare_share;
 use salt_disk::{DiskErr, Disks};
 use salt_net::{Messages, NodeStatus};
 use salt_partition::Partition;
-use salt_turns::{Next, begin, is_voting, next_of, pass};
+use salt_turns::{Next, begin, next_vote, pass};
 use salt_values::{Changes, Id, next_number};
 use sqlite_items::Items;
 use std::alloc::{AllocError, Global};
@@ -121,8 +121,7 @@ pub fn vote_all<D: Disks>(
     let nodes = nodes_of(shares);
     begin(messages, unit, nodes)?;
     let mut steps: u64 = 0;
-    'vote: while is_voting(messages, unit) {
-        let next = next_of(messages);
+    'vote: while let Some(next) = next_vote(messages, unit) {
         mind_doubt(messages, unit, next, doubted)?;
         do_next(alloc, disks, parts, next, unit, shares)?;
         pass(messages, unit)?;

@@ -6,7 +6,7 @@ ghost use Rattle.salt_turns.specs.declared.coming.Next.TheVariants.{Decides};
 ghost use Rattle.salt_net.specs.Turns.{Turning};
 ghost use Rattle.salt_net.specs.declared.kinds.NodeStatus.TheVariants.{Idle, Started};
 ghost use Rattle.salt_values.specs.declared.id.Id.{Id};
-ghost use Rattle.std.specs.Prelude.{List, OnOk, false, true, ℕ, ◌≡◌, ◌≢◌, ◌≤◌, ◌⊎◌};
+ghost use Rattle.std.specs.Prelude.{IfSome, List, None, OnOk, false, true, ℕ, ◌≡◌, ◌≢◌, ◌≤◌, ◌⊎◌};
 
 use salt_net::{Deed, Left, Messages, NodeStatus, Nodes};
 use salt_values::Id;
@@ -46,15 +46,16 @@ pub fn next_of(messages: &Messages) -> Next
     }
 }
 
-/// Whether nodes are still asked to prepare: the coordinator has not decided, and does not decide next.
-pub fn is_voting(messages: &Messages, unit: Id) -> bool
-    ensures yes { result ≡ true → (next_in messages.now ≢ Decides) × (status_now messages.now unit 0 ≡ Started) }
-    ensures no { result ≡ false → (next_in messages.now ≡ Decides) ⊎ (status_now messages.now unit 0 ≢ Started) }
+/// What comes next while nodes are still asked to prepare: the coordinator has not decided, and does not decide next.
+pub fn next_vote(messages: &Messages, unit: Id) -> Option<Next>
+    ensures some { IfSome result (λ next. (next ≡ next_in messages.now) × (next_in messages.now ≢ Decides) × (status_now messages.now unit 0 ≡ Started)) }
+    ensures none { result ≡ None → (next_in messages.now ≡ Decides) ⊎ (status_now messages.now unit 0 ≢ Started) }
 {
-    if next_of(messages) == Next::Decides {
-        return false;
+    let next = next_of(messages);
+    if next == Next::Decides || messages.net().status(unit, 0) != NodeStatus::Started {
+        return None;
     }
-    messages.net().status(unit, 0) == NodeStatus::Started
+    Some(next)
 }
 
 /// Starts a unit of these nodes, in a net that rests and in which it was not started.

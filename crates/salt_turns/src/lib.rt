@@ -3,4 +3,4 @@
 
 mod coming;
 
-pub use coming::{Next, begin, go_on, has_next, is_voting, next_of, pass};
+pub use coming::{Next, begin, go_on, has_next, next_of, next_vote, pass};

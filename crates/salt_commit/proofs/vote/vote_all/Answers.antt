@@ -1,3 +1,4 @@
+use Rattle.salt_commit.proofs.Loaded.{none_left}
 use Rattle.salt_commit.proofs.Votes.{held_by, idle_next, may_next, restarts_low, votes_end, votes_first, votes_next}
 use Rattle.salt_commit.proofs.Voting.{all_idle, goes_lacking, goes_voted, next_goes, next_voted}
 use Rattle.salt_commit.proofs.vote.vote_all.Goals as goal
@@ -22,8 +23,8 @@ vote-init g c =
 pub mind_doubt-requires : goal.mind_doubt-requires
 mind_doubt-requires g c node at =
     let l = c.vote in
-    let y = c.is_voting.ensures.yes c.vote-test.true in
-    restarts_low (g.D.Disks.view c.args.disks.now) (g.D.Disks.view l.disks) c.args.parts.now.items l.parts.items c.args.unit c.args.shares.now (first_of c.args.unit (nodes_of c.args.shares.now) c.args.messages.now) l.messages l.invariant c.requires.size c.requires.may y.1 y.0 node (sym c.next_of-next.ensures ∙ at)
+    let y = c.in-Some.ensures.some in
+    restarts_low (g.D.Disks.view c.args.disks.now) (g.D.Disks.view l.disks) c.args.parts.now.items l.parts.items c.args.unit c.args.shares.now (first_of c.args.unit (nodes_of c.args.shares.now) c.args.messages.now) l.messages l.invariant c.requires.size c.requires.may y.2 y.1 node (sym y.0 ∙ at)
 
 pub do_next-requires-clause-size : goal.do_next-requires-clause-size
 do_next-requires-clause-size g c = c.requires.size ∙ sym c.vote.invariant.goes.size
@@ -31,9 +32,9 @@ do_next-requires-clause-size g c = c.requires.size ∙ sym c.vote.invariant.goes
 pub do_next-requires-clause-may : goal.do_next-requires-clause-may
 do_next-requires-clause-may g c =
     let l = c.vote in
-    let y = c.is_voting.ensures.yes c.vote-test.true in
-    subst (λ nx. MayDoNext nx (g.D.Disks.view l.disks) l.parts.items c.args.unit c.args.shares.now) (sym c.next_of-next.ensures)
-    (may_next (g.D.Disks.view c.args.disks.now) (g.D.Disks.view l.disks) c.args.parts.now.items l.parts.items c.args.unit c.args.shares.now (first_of c.args.unit (nodes_of c.args.shares.now) c.args.messages.now) l.messages l.invariant c.requires.size c.requires.may y.1 y.0)
+    let y = c.in-Some.ensures.some in
+    subst (λ nx. MayDoNext nx (g.D.Disks.view l.disks) l.parts.items c.args.unit c.args.shares.now) (sym y.0)
+    (may_next (g.D.Disks.view c.args.disks.now) (g.D.Disks.view l.disks) c.args.parts.now.items l.parts.items c.args.unit c.args.shares.now (first_of c.args.unit (nodes_of c.args.shares.now) c.args.messages.now) l.messages l.invariant c.requires.size c.requires.may y.2 y.1)
 
 pub pass-requires : goal.pass-requires
 pass-requires g c = (nodes_of c.args.shares.now, first_of c.args.unit (nodes_of c.args.shares.now) c.args.messages.now, c.vote.invariant.way)
@@ -44,11 +45,11 @@ vote-smaller g c = omega (arith, c.in_ok-steps.ensures)
 pub vote-preserved : goal.vote-preserved
 vote-preserved g c =
     let l = c.vote in
-    let y = c.is_voting.ensures.yes c.vote-test.true in
+    let y = c.in-Some.ensures.some in
     let e = g.D.Disks.view c.do_next.new.disks in
-    votes_next (g.D.Disks.view c.args.disks.now) (g.D.Disks.view l.disks) c.args.parts.now.items l.parts.items c.args.unit c.args.shares.now (first_of c.args.unit (nodes_of c.args.shares.now) c.args.messages.now) l.messages l.invariant c.requires.size c.requires.may y.1 y.0 e c.do_next.new.parts.items c.pass.new.messages
-    (subst (λ nx. DidNext nx (g.D.Disks.view l.disks) e l.parts.items c.do_next.new.parts.items c.args.unit c.args.shares.now None) c.next_of-next.ensures c.in_ok-do_next.ensures)
-    (c.in_ok-pass.ensures.way (nodes_of c.args.shares.now) (first_of c.args.unit (nodes_of c.args.shares.now) c.args.messages.now) l.invariant.way) (c.in_ok-pass.ensures.held y.1 y.0)
+    votes_next (g.D.Disks.view c.args.disks.now) (g.D.Disks.view l.disks) c.args.parts.now.items l.parts.items c.args.unit c.args.shares.now (first_of c.args.unit (nodes_of c.args.shares.now) c.args.messages.now) l.messages l.invariant c.requires.size c.requires.may y.2 y.1 e c.do_next.new.parts.items c.pass.new.messages
+    (subst (λ nx. DidNext nx (g.D.Disks.view l.disks) e l.parts.items c.do_next.new.parts.items c.args.unit c.args.shares.now None) y.0 c.in_ok-do_next.ensures)
+    (c.in_ok-pass.ensures.way (nodes_of c.args.shares.now) (first_of c.args.unit (nodes_of c.args.shares.now) c.args.messages.now) l.invariant.way) (c.in_ok-pass.ensures.held y.2 y.1)
 
 pub returns-in_err-begin-clause-voted : goal.returns-in_err-begin-clause-voted
 returns-in_err-begin-clause-voted g c =
@@ -65,7 +66,7 @@ returns-in_err-mind_doubt-clause-voted g c =
 pub returns-in_err-do_next-clause-voted : goal.returns-in_err-do_next-clause-voted
 returns-in_err-do_next-clause-voted g c =
     let l = c.vote in
-    let y = c.is_voting.ensures.yes c.vote-test.true in
+    let y = c.in-Some.ensures.some in
     let d = g.D.Disks.view l.disks in
     let e = g.D.Disks.view c.do_next.new.disks in
     let may = c.requires.may in
@@ -73,13 +74,13 @@ returns-in_err-do_next-clause-voted g c =
     let p = err_from_is_err_and c.from_residual-in_err-do_next.result c.from_residual-in_err-do_next.ensures.1 in
     rw (p.1, p.2)
     (next_voted (g.D.Disks.view c.args.disks.now) d e c.args.parts.now.items l.parts.items c.args.unit c.args.shares.now (held_by l.messages c.args.unit) l.invariant.goes may.which may.log may.v may.stand (next_in l.messages) c.do_next.new.parts.items failed
-    (subst (λ nx. DidNext nx d e l.parts.items c.do_next.new.parts.items c.args.unit c.args.shares.now failed) c.next_of-next.ensures c.in_err-do_next.ensures)
-    (idle_next (g.D.Disks.view c.args.disks.now) (g.D.Disks.view l.disks) c.args.parts.now.items l.parts.items c.args.unit c.args.shares.now (first_of c.args.unit (nodes_of c.args.shares.now) c.args.messages.now) l.messages l.invariant c.requires.size may y.1 y.0))
+    (subst (λ nx. DidNext nx d e l.parts.items c.do_next.new.parts.items c.args.unit c.args.shares.now failed) y.0 c.in_err-do_next.ensures)
+    (idle_next (g.D.Disks.view c.args.disks.now) (g.D.Disks.view l.disks) c.args.parts.now.items l.parts.items c.args.unit c.args.shares.now (first_of c.args.unit (nodes_of c.args.shares.now) c.args.messages.now) l.messages l.invariant c.requires.size may y.2 y.1))
 
 pub returns-in_err-pass-clause-voted : goal.returns-in_err-pass-clause-voted
 returns-in_err-pass-clause-voted g c =
     let l = c.vote in
-    let y = c.is_voting.ensures.yes c.vote-test.true in
+    let y = c.in-Some.ensures.some in
     let d = g.D.Disks.view l.disks in
     let e = g.D.Disks.view c.do_next.new.disks in
     let may = c.requires.may in
@@ -87,13 +88,13 @@ returns-in_err-pass-clause-voted g c =
     rw (p.1, p.2)
     (goes_lacking (g.D.Disks.view c.args.disks.now) e c.args.parts.now.items c.do_next.new.parts.items c.args.unit c.args.shares.now _
     (next_goes (g.D.Disks.view c.args.disks.now) d e c.args.parts.now.items l.parts.items c.args.unit c.args.shares.now (held_by l.messages c.args.unit) l.invariant.goes may.which may.log may.v may.stand (next_in l.messages) c.do_next.new.parts.items None refl
-    (subst (λ nx. DidNext nx d e l.parts.items c.do_next.new.parts.items c.args.unit c.args.shares.now None) c.next_of-next.ensures c.in_ok-do_next.ensures)
-    (idle_next (g.D.Disks.view c.args.disks.now) (g.D.Disks.view l.disks) c.args.parts.now.items l.parts.items c.args.unit c.args.shares.now (first_of c.args.unit (nodes_of c.args.shares.now) c.args.messages.now) l.messages l.invariant c.requires.size may y.1 y.0)))
+    (subst (λ nx. DidNext nx d e l.parts.items c.do_next.new.parts.items c.args.unit c.args.shares.now None) y.0 c.in_ok-do_next.ensures)
+    (idle_next (g.D.Disks.view c.args.disks.now) (g.D.Disks.view l.disks) c.args.parts.now.items l.parts.items c.args.unit c.args.shares.now (first_of c.args.unit (nodes_of c.args.shares.now) c.args.messages.now) l.messages l.invariant c.requires.size may y.2 y.1)))
 
 pub returns-in_err-steps-clause-voted : goal.returns-in_err-steps-clause-voted
 returns-in_err-steps-clause-voted g c =
     let l = c.vote in
-    let y = c.is_voting.ensures.yes c.vote-test.true in
+    let y = c.in-Some.ensures.some in
     let d = g.D.Disks.view l.disks in
     let e = g.D.Disks.view c.do_next.new.disks in
     let may = c.requires.may in
@@ -101,13 +102,13 @@ returns-in_err-steps-clause-voted g c =
     rw (p.1, p.2)
     (goes_lacking (g.D.Disks.view c.args.disks.now) e c.args.parts.now.items c.do_next.new.parts.items c.args.unit c.args.shares.now _
     (next_goes (g.D.Disks.view c.args.disks.now) d e c.args.parts.now.items l.parts.items c.args.unit c.args.shares.now (held_by l.messages c.args.unit) l.invariant.goes may.which may.log may.v may.stand (next_in l.messages) c.do_next.new.parts.items None refl
-    (subst (λ nx. DidNext nx d e l.parts.items c.do_next.new.parts.items c.args.unit c.args.shares.now None) c.next_of-next.ensures c.in_ok-do_next.ensures)
-    (idle_next (g.D.Disks.view c.args.disks.now) (g.D.Disks.view l.disks) c.args.parts.now.items l.parts.items c.args.unit c.args.shares.now (first_of c.args.unit (nodes_of c.args.shares.now) c.args.messages.now) l.messages l.invariant c.requires.size may y.1 y.0)))
+    (subst (λ nx. DidNext nx d e l.parts.items c.do_next.new.parts.items c.args.unit c.args.shares.now None) y.0 c.in_ok-do_next.ensures)
+    (idle_next (g.D.Disks.view c.args.disks.now) (g.D.Disks.view l.disks) c.args.parts.now.items l.parts.items c.args.unit c.args.shares.now (first_of c.args.unit (nodes_of c.args.shares.now) c.args.messages.now) l.messages l.invariant c.requires.size may y.2 y.1)))
 
 pub returns-clause-ok : goal.returns-clause-ok
 returns-clause-ok g c which log v base =
     let l = c.vote in
-    votes_end (g.D.Disks.view c.args.disks.now) (g.D.Disks.view l.disks) c.args.parts.now.items l.parts.items c.args.unit c.args.shares.now (first_of c.args.unit (nodes_of c.args.shares.now) c.args.messages.now) l.messages l.invariant (c.is_voting.ensures.no c.vote-test.false) which log v base
+    votes_end (g.D.Disks.view c.args.disks.now) (g.D.Disks.view l.disks) c.args.parts.now.items l.parts.items c.args.unit c.args.shares.now (first_of c.args.unit (nodes_of c.args.shares.now) c.args.messages.now) l.messages l.invariant (c.next_vote.ensures.none (sym (none_left c.next_vote.result c.in_default.not-Some))) which log v base
 
 pub returns-clause-voted : goal.returns-clause-voted
 returns-clause-voted g c = let l = c.vote in goes_voted (g.D.Disks.view c.args.disks.now) (g.D.Disks.view l.disks) c.args.parts.now.items l.parts.items c.args.unit c.args.shares.now (held_by l.messages c.args.unit) l.invariant.goes
