@@ -72,7 +72,7 @@ use Rattle.salt_storage.specs.Writing.{OfOpening, ToWrite}
 use Rattle.salt_storage.specs.declared.found.Numbers.{Numbers}
 use Rattle.salt_storage.specs.OpenErr.{OpenErr}
 use Rattle.salt_storage.specs.OpenErr.TheVariants as open_err
-use Rattle.salt_workload.specs.Summary.{summary_text}
+use Rattle.salt_model.specs.Summary.{summary_of}
 use Rattle.salt_place.specs.declared.placement.Shape.{Shape}
 use Rattle.salt_promise.specs.declared.command.Command.{Command}
 use Rattle.salt_promise.specs.declared.command.Command.TheVariants.{Load, Script}
@@ -358,7 +358,7 @@ module _ (d e : View) (x : Database Devices) where
 
     module _ (calls done : ℕ) (is_early : start.early ≡ false) (over : start.over_net ≡ false) (drained : DoTheirRests (λ lines. IsFrontOf lines (asked_by_load calls)))
         (asked : setup_of x ≡ setup_in (shape_of (Load calls)) false) (stood : Finds d true (shape_of (Load calls)) start.kept) (old status : Status) (how : IsBehind old status)
-        (summed : IsSummary status (summary_text calls done story) s.before s.now)
+        (summed : IsSummary status (summary_of calls done story) s.before s.now)
         (y : (run : IsPlayedLoad start old (database_flight x) calls done story) × FoundAt e x old run.trace × Stops old (armed_by_lines d.armed run.trace) e.armed) where
       abbrev Loaded : Status → Type 0
       Loaded t = (r : IsPlayedLoad start t (database_flight x) calls done story) × FoundAt e x t r.trace × Stops t (armed_by_lines d.armed r.trace) e.armed

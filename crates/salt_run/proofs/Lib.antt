@@ -10,7 +10,6 @@ pub mod Staying
 mod Ways
 mod Tallied
 mod Standing
-mod Summed
 mod Full
 mod Left
 mod Promised

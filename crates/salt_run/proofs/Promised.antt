@@ -1,7 +1,7 @@
 -- A run over what its devices stood for is as promised.
 use Rattle.law_definitions.specs.Texts.{definition_in}
 use Rattle.salt_io.specs.Streams.{IsAtEnd}
-use Rattle.salt_model.specs.Trace.{Trace, lines_asked, story_of}
+use Rattle.salt_model.specs.Trace.{Trace, lines_asked}
 use Rattle.salt_net.specs.Agreed.{IsAgreed}
 use Rattle.salt_net.specs.Nets.{state_of}
 use Rattle.salt_net.specs.declared.kinds.NetEvent.{NetEvent}
@@ -14,17 +14,14 @@ use Rattle.salt_promise.specs.Standing.{IsReader}
 use Rattle.salt_promise.specs.declared.status.Status.TheVariants.{Done}
 use Rattle.salt_run.proofs.Left.{ends-as}
 use Rattle.salt_run.proofs.Standing.{open-as}
-use Rattle.salt_run.proofs.Summed.{summary-same}
 use Rattle.salt_run.proofs.Ways.{lines-way, load-lines-way}
 use Rattle.salt_run.specs.Doing.{Does, Streams, streams}
 use Rattle.salt_run.specs.Running.{RunsOver}
-use Rattle.salt_run.specs.Summing.{IsSummary}
 use Rattle.salt_place.specs.Placement.{IsParts}
 use Rattle.salt_place.specs.declared.placement.Shape.{Shape}
 use Rattle.salt_promise.specs.declared.command.Command.TheVariants.{Load, Script}
 use Rattle.salt_promise.specs.declared.command.Command.{Command}
-use Rattle.std.proofs.Common.{subst}
-use Rattle.std.specs.Prelude.{Bool, IfSome, List, None, Option, Some, length, ℕ, ◌≡◌, ◌≤◌}
+use Rattle.std.specs.Prelude.{Bool, IfSome, List, None, Option, Some, ℕ, ◌≡◌, ◌≤◌}
 
 -- the nodes of each net are agreed
 pub each-agreed : ((events : List NetEvent) → IsAgreed (state_of events)) → (net : Option (List NetEvent)) → IfSome net (λ events. IsAgreed (state_of events))
@@ -47,7 +44,7 @@ module _ (r : Run) where
   load-does calls trace unread h = record {
     unread = unread;
     lines = load-lines-way r.status calls (lines_asked trace) h.0;
-    written = subst (λ (t : List ℕ). IsSummary r.status t r.before.sink.bytes r.after.sink.bytes) (summary-same calls (length (lines_asked trace)) (story_of trace)) h.1;
+    written = h.1;
   }
 
   module _ (reads : IsReader definition_in) (command : Command) (parts : IsParts (shape_of command).parts) (count : 26 ≤ r.before.devices.count) (agrees : (events : List NetEvent) → IsAgreed (state_of events)) where

@@ -14,7 +14,7 @@ use Rattle.salt_run.specs.Summing.{IsSummary}
 use Rattle.salt_loop.specs.Loading.{IsPlayedLoad}
 use Rattle.salt_loop.specs.Run.{IsFlightAt, IsRun}
 use Rattle.salt_place.specs.declared.placement.Shape.{Shape}
-use Rattle.salt_workload.specs.Summary.{summary_text}
+use Rattle.salt_model.specs.Summary.{summary_of}
 use Rattle.salt_promise.specs.declared.command.Command.TheVariants.{Load, Script}
 use Rattle.std.proofs.Common.{subst, sym}
 use Rattle.std.specs.Prelude.{Bool, List, Option, length, refl, ℕ, ◌≡◌}
@@ -47,7 +47,7 @@ module _ (promised : (trace : Trace) → IsPlayed trace → WellKept (start_of t
   summed-as status a b before now same h = subst (λ t. IsSummary status t before now) (same (λ m. cc)) h
 
   abbrev pub load-replays : (calls done : ℕ) (status : Status) (f : Option Flight) (s : Streams) (story : List Event) (start : Start) → WellKept start.kept →
-      IsPlayedLoad start status f calls done story → IsSummary status (summary_text calls done story) s.before s.now → Replays (Load calls) status (flight_at status f) s story start
+      IsPlayedLoad start status f calls done story → IsSummary status (summary_of calls done story) s.before s.now → Replays (Load calls) status (flight_at status f) s story start
   load-replays calls done status f s story start well x summed = record {
     trace = x.trace;
     played = x.tells;
@@ -55,8 +55,8 @@ module _ (promised : (trace : Trace) → IsPlayed trace → WellKept (start_of t
     unspent = x.unspent;
     does = (
       x.lines,
-      summed-as status (summary_text calls done story) (summary_text calls (length (lines_asked x.trace)) (story_of x.trace)) s.before s.now
-          (λ some i. summary_text calls (sym (x.count some) i) (sym x.tells.told i)) summed,
+      summed-as status (summary_of calls done story) (summary_of calls (length (lines_asked x.trace)) (story_of x.trace)) s.before s.now
+          (λ some i. summary_of calls (sym (x.count some) i) (sym x.tells.told i)) summed,
     );
     leaves = x.leaves;
     flies = flies-told status x.trace f x.flies;

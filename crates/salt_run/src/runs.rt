@@ -22,7 +22,7 @@ ghost use Rattle.salt_loop.specs.Counted.{AreFaultsOf};
 ghost use Rattle.salt_loop.specs.Loading.{asked_by_load};
 ghost use Rattle.salt_loop.specs.Stopping.{outcome};
 ghost use Rattle.salt_storage.specs.Staying.{StaysWithin};
-ghost use Rattle.salt_workload.specs.Summary.{summary_text};
+ghost use Rattle.salt_model.specs.Summary.{summary_of};
 ghost use Rattle.salt_place.specs.Placement.{GivesPlaceOf, IsParts, TakesEachKey};
 ghost use Rattle.salt_promise.specs.declared.command.Command.TheVariants.{Load, Script};
 ghost use Rattle.std.specs.Prelude.{List, None, Option, false, true, ℕ, ◌&&◌, ◌≡◌, ◌≢◌, ◌≤◌, ◌⊎◌};
@@ -159,7 +159,7 @@ fn write_summary<K: Sink>(
     story: &Story,
 ) -> Status
     requires other { status ≢ Status.WriteFault }
-    ensures summed { IsSummary result (summary_text calls lines story.now) (K.held sink.old) (K.held sink.new) }
+    ensures summed { IsSummary result (summary_of calls lines story.now) (K.held sink.old) (K.held sink.new) }
     ensures written { (result ≡ status) ⊎ ((result ≡ Status.WriteFault) × (status ≢ Status.Memory)) }
     ensures write_fault { result ≡ Status.WriteFault → Rose (K.faults sink.old) (K.faults sink.new) }
     ensures no_write_fault { result ≢ Status.WriteFault → K.faults sink.new ≡ K.faults sink.old }

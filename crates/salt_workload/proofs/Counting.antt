@@ -1,17 +1,15 @@
 -- Counting one event more.
 use Rattle.salt_model.specs.declared.events.Event.{Event}
 use Rattle.salt_model.specs.declared.events.Event.TheVariants.{Did}
-use Rattle.salt_model.specs.declared.events.Answer.{Answer}
 use Rattle.salt_workload.specs.Counts.{AreCounts}
-use Rattle.salt_model.specs.Summary.{count_of}
-use Rattle.salt_workload.specs.Summary.{answer_in, answers_in, total_of, value_after, value_in, is_accepted, is_began, is_committed, is_victim, is_waits, released_count, released_in}
+use Rattle.salt_model.specs.Summary.{cell_of, count_of, last_value}
+use Rattle.salt_workload.specs.Summary.{is_accepted, is_began, is_committed, is_victim, is_waits, released_count, released_in}
 use Rattle.salt_workload.specs.declared.counts.Counts.{Counts}
 use Rattle.salt_values.specs.declared.value.Value.{Value}
 use Rattle.std.proofs.Common.{ap, append-nil, arith, get_or, length-append, length-take, take, subst, sym, ◌∙◌}
 use Rattle.std.proofs.lemmas.List.{take_more}
-use Rattle.std.proofs.lemmas.List.Elements.{filter_map-append}
 use Rattle.std.specs.List.{filter, flat_map}
-use Rattle.std.specs.Prelude.{Bool, List, Option, Some, [], cond, false, length, option_and_then, refl, slice_get, true, ℕ, ◌+◌, ◌++◌, ◌-◌, ◌<◌, ◌^◌, ◌∷◌, ◌≡◌, ◌≤◌}
+use Rattle.std.specs.Prelude.{Bool, List, None, Option, [], cond, false, length, refl, true, ℕ, ◌+◌, ◌++◌, ◌-◌, ◌<◌, ◌^◌, ◌∷◌, ◌≡◌, ◌≤◌}
 
 count-more : (is : Event → Bool) (story : List Event) (e : Event) → count_of is (story ++ e ∷ []) ≡ count_of is story + count_of is (e ∷ [])
 count-more is [] e = omega arith
@@ -59,31 +57,16 @@ counts-more c d e story are units committed accepted waits victims released few 
   few = let l = length-append story (e ∷ []) in let most = are.few in omega (arith, l, most, few, released);
 }
 
--- the last of answers
+-- the last value, with one event more
+last-more : (found : Option Value) (story : List Event) (e : Event) → last_value found (story ++ e ∷ []) ≡ last_value (last_value found story) (e ∷ [])
+last-more found [] e = refl
+last-more found (Did u st a ∷ story) e = last-more (cell_of a) story e
+last-more found (x ∷ story) e = last-more found story e
 
-get-last : {A : Type 0} (xs : List A) (x : A) → slice_get (xs ++ x ∷ []) (length (xs ++ x ∷ []) - 1) ≡ Some x
-get-last {A = A} xs x = ap (λ n. slice_get (xs ++ x ∷ []) n) at ∙ here xs
-  where
-    at : length (xs ++ x ∷ []) - 1 ≡ length xs
-    at = let l = length-append xs (x ∷ []) in omega (arith, l)
-
-    here : (ys : List A) → slice_get (ys ++ x ∷ []) (length ys) ≡ Some x
-    here [] = refl
-    here (y ∷ ys) = here ys
-
-abbrev value_at_end : List Answer → Option Value
-value_at_end found = option_and_then value_in (slice_get found (length found - 1))
-
--- the value of the last answer, with one event more
-total-more : (story : List Event) (e : Event) → total_of (story ++ e ∷ []) ≡ value_after e (total_of story)
-total-more story (Did u st a) =
-    ap value_at_end (filter_map-append answer_in story (Did u st a ∷ [])) ∙ ap (option_and_then value_in) (get-last (answers_in story) a)
-total-more story e = ap value_at_end (filter_map-append answer_in story (e ∷ []) ∙ append-nil (answers_in story))
-
-pub total-taken : (story : List Event) (i : ℕ) (e : Event) (found : Option Value) → i < length story → e ≡ get_or story i e → found ≡ value_after e (total_of (take i story)) →
-    found ≡ total_of (take (i + 1) story)
-total-taken story i e found within is told =
-    told ∙ sym (total-more (take i story) e) ∙ ap (λ x. total_of (take i story ++ x ∷ [])) is ∙ ap total_of (sym (take_more story i e within))
+pub last-taken : (story : List Event) (i : ℕ) (e : Event) (found : Option Value) → i < length story → e ≡ get_or story i e → found ≡ last_value (last_value None (take i story)) (e ∷ []) →
+    found ≡ last_value None (take (i + 1) story)
+last-taken story i e found within is told =
+    told ∙ sym (last-more None (take i story) e) ∙ ap (λ x. last_value None (take i story ++ x ∷ [])) is ∙ ap (last_value None) (sym (take_more story i e within))
 
 pub counts-taken : (c : Counts) (story : List Event) (i : ℕ) (e : Event) → i < length story → e ≡ get_or story i e → AreCounts c (take i story ++ e ∷ []) → AreCounts c (take (i + 1) story)
 counts-taken c story i e within is are =

@@ -1,10 +1,10 @@
 //! What a story tells, counted.
 
-ghost use Rattle.std.specs.Prelude.{◌≡◌, ◌++◌, ◌-◌, ◌<◌, ◌^◌, ◌∷◌, [], List, length};
+ghost use Rattle.std.specs.Prelude.{◌≡◌, ◌++◌, ◌-◌, ◌<◌, ◌^◌, ◌∷◌, [], List, None, length};
 ghost use Rattle.std.specs.Option.{option_copied};
+ghost use Rattle.salt_model.specs.Summary.{cell_of, last_value};
 ghost use Rattle.salt_model.specs.declared.events.Event.{Event};
 ghost use Rattle.salt_workload.specs.Counts.{AreCounts};
-ghost use Rattle.salt_workload.specs.Summary.{total_of, value_after, value_in};
 
 use salt_model::{Answer, End, Event};
 use salt_values::Value;
@@ -63,8 +63,8 @@ pub fn counts_of(story: &[Event]) -> Counts
 }
 
 /// The one value that an answer is.
-fn value_in(answer: &Answer) -> Option<&Value>
-    ensures { option_copied result ≡ value_in answer.now }
+fn cell_of(answer: &Answer) -> Option<&Value>
+    ensures { option_copied result ≡ cell_of answer.now }
 {
     match answer {
         Answer::Cell(value) => value.as_ref(),
@@ -74,21 +74,21 @@ fn value_in(answer: &Answer) -> Option<&Value>
 
 /// The value that the last statement gave, behind this event; before it, this one was found.
 fn value_after<'a>(event: &'a Event, found: Option<&'a Value>) -> Option<&'a Value>
-    ensures { option_copied result ≡ value_after event.now (option_copied found.entry) }
+    ensures { option_copied result ≡ last_value (option_copied found.entry) (event.now ∷ []) }
 {
     match event {
-        Event::Did { answer, .. } => value_in(answer),
+        Event::Did { answer, .. } => cell_of(answer),
         _ => found,
     }
 }
 
 /// The value that the last statement gave.
-pub fn total_of(story: &[Event]) -> Option<&Value>
-    ensures { option_copied result ≡ total_of story.now }
+pub fn last_value(story: &[Event]) -> Option<&Value>
+    ensures { option_copied result ≡ last_value None story.now }
 {
-    let mut total = None;
+    let mut found = None;
     for event in story {
-        total = value_after(event, total);
+        found = value_after(event, found);
     }
-    total
+    found
 }

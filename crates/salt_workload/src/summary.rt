@@ -2,12 +2,13 @@
 
 ghost use Rattle.salt_ast.specs.Prints.{Prints};
 ghost use Rattle.salt_io.specs.Sends.{Sends};
-ghost use Rattle.salt_workload.specs.Summary.{summary_text, total_of, total_text};
+ghost use Rattle.salt_model.specs.EventTexts.{cell_text};
+ghost use Rattle.salt_model.specs.Summary.{summary_of};
 ghost use Rattle.std.specs.Fmt.{decimal};
 ghost use Rattle.std.specs.Option.{option_copied};
 ghost use Rattle.std.specs.Prelude.{◌++◌, ◌≡◌, [], OnOk, codes};
 
-use crate::counts::{counts_of, total_of};
+use crate::counts::{counts_of, last_value};
 use itoa::Integer;
 use salt_ast::{Canonical, Printer};
 use salt_io::{IoFailed, Sink, WriteBuffer};
@@ -24,7 +25,7 @@ fn print_count<N: Integer, K: Sink>(out: &mut Printer<'_, K>, word: &[u8], count
 
 /// Prints the value that the last statement gave, and that there is none where it gave none.
 fn print_total<K: Sink>(out: &mut Printer<'_, K>, total: Option<&Value>)
-    ensures { Prints K.held K.faults out.old out.new (codes " total " ++ total_text (option_copied total.entry)) }
+    ensures { Prints K.held K.faults out.old out.new (codes " total " ++ cell_text (option_copied total.entry)) }
 {
     out.bytes(b" total ");
     match total {
@@ -35,7 +36,7 @@ fn print_total<K: Sink>(out: &mut Printer<'_, K>, total: Option<&Value>)
 
 /// Prints the line, and writes what waits.
 fn print_line<K: Sink>(out: &mut Printer<'_, K>, calls: u64, lines: u64, story: &[Event])
-    ensures prints { Prints K.held K.faults out.old out.new (summary_text calls lines story.now) }
+    ensures prints { Prints K.held K.faults out.old out.new (summary_of calls lines story.now) }
     ensures empty { OnOk out.new.outcome (out.new.waiting ≡ []) }
 {
     let counts = counts_of(story);
@@ -47,7 +48,7 @@ fn print_line<K: Sink>(out: &mut Printer<'_, K>, calls: u64, lines: u64, story: 
     print_count(out, b" released ", counts.released);
     print_count(out, b" waits ", counts.waits);
     print_count(out, b" victims ", counts.victims);
-    print_total(out, total_of(story));
+    print_total(out, last_value(story));
     out.bytes(b"\n");
     out.flush();
 }
@@ -61,7 +62,7 @@ pub fn print_summary<K: Sink>(
     lines: u64,
     story: &[Event],
 ) -> Result<(), IoFailed>
-    ensures { Sends K.held K.faults sink.old sink.new result (summary_text calls lines story.now) }
+    ensures { Sends K.held K.faults sink.old sink.new result (summary_of calls lines story.now) }
 {
     let mut out = Printer {
         sink,
