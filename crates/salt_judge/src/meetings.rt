@@ -1,6 +1,6 @@
 //! Who met what goes on with each event, and is judged.
 
-ghost use Rattle.salt_model.specs.Locks.{is_read, touches};
+ghost use Rattle.salt_model.specs.Locks.{touches};
 ghost use Rattle.salt_values.specs.Id.{is_same_id};
 ghost use Rattle.salt_values.specs.declared.id.Id.{Id};
 ghost use Rattle.salt_judge.specs.Meetings.{IsMetAfter, committed_by, has_committed, is_commit, is_live, met_by, met_if_acid, met_of, taken_by, touches_of, unwhole_by};
@@ -25,19 +25,13 @@ use std::alloc::{AllocError, Global};
 use std::collections::BTreeMap;
 use std::mem;
 
-fn is_read(mode: Mode) -> bool
-    ensures { result ≡ is_read mode }
-{
-    matches!(mode, Mode::Read)
-}
-
 /// Whether two reaches touch: they have a key in common, and one of them writes.
 fn touches(reach: &Reach, other: &Reach) -> bool
     ensures { result ≡ touches reach.now other.now }
 {
     reach.table == other.table
         && reach.range.meets(&other.range)
-        && !(is_read(reach.mode) && is_read(other.mode))
+        && !(reach.mode == Mode::Read && other.mode == Mode::Read)
 }
 
 /// Whether what has been done is of a program that is not released.
