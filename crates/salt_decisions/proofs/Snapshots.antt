@@ -6,7 +6,7 @@ use Rattle.salt_bytes.specs.Log.{entries_in}
 use Rattle.salt_bytes.specs.Spellable.{IsSpellableHeader}
 use Rattle.salt_decisions.proofs.Appended.{other_dev}
 use Rattle.salt_decisions.proofs.Contents.{log_bytes}
-use Rattle.salt_decisions.specs.Decisions.{HasSameEntries, IsCounting, IsDecisions, IsSnapshotImage, next_header, snapshotted}
+use Rattle.salt_decisions.specs.Decisions.{HasSameEntries, IsCounting, IsDecisions, IsSnapshotImage, next_header, snapshot_payload, snapshotted}
 use Rattle.salt_decisions.specs.HeaderPayload.{header_with}
 use Rattle.salt_decisions.specs.declared.decisions.Decisions.{Decisions}
 use Rattle.salt_disk.specs.Disks.{EachImage, FullExactly, FullOnly, IsSettled, IsUnchanged, KeepsOthers, Shrinks, View}
@@ -95,13 +95,16 @@ module _ (d0 : View) (x : Decisions) (which : WhichLog) (log : CoordinatorLog) (
   pub counting_images : (e : View) → Shrinks d0 e (device_of 0 which) → EachImage e (device_of 0 which) (HasSameEntries (d0.bytes (device_of 0 which)))
   counting_images e shrinks told c left = ap entries_in (settled c (shrinks c left))
 
+  pub header_reads : (conts : List Cont) → IsSpellableHeader (header_with (next_generation x.generation) x.shape x.boot x.decisions x.definitions conts) → header_in (snapshot_payload x conts) ≡ Some (next_header log conts)
+  header_reads conts good = reads_header (header_with (next_generation x.generation) x.shape x.boot x.decisions x.definitions conts) good ∙ ap (λ (k : CoordinatorHeader). Some k) (same_header conts)
+
   module _ (d1 d2 : View) (gate gate' : GateLog) (payload : List ℕ) (conts : List Cont)
       (is : payload ≡ spell_header (header_with (next_generation x.generation) x.shape x.boot x.decisions x.definitions conts))
       (good : IsSpellableHeader (header_with (next_generation x.generation) x.shape x.boot x.decisions x.definitions conts))
       (device : gates.device_of gate ≡ device_of 0 (other_log which)) (first : KeepsOthers (device_of 0 (other_log which)) d0 d1 None) (second : KeepsOthers (device_of 0 (other_log which)) d1 d2 None)
       (same : gates.device_of gate' ≡ gates.device_of gate) (is_log : IsLog d2 gate' (payload ∷ [])) where
     reads : header_in payload ≡ Some (next_header log conts)
-    reads = ap header_in is ∙ reads_header (header_with (next_generation x.generation) x.shape x.boot x.decisions x.definitions conts) good ∙ ap (λ (k : CoordinatorHeader). Some k) (same_header conts)
+    reads = ap header_in is ∙ header_reads conts good
 
     pub snapshot_counts : IsCounting d2 gate' (other_log which) (snapshotted log conts)
     snapshot_counts = record {
@@ -119,22 +122,23 @@ module _ (d0 : View) (x : Decisions) (which : WhichLog) (log : CoordinatorLog) (
 
 -- WHAT IT LEAVES of the other log's device
 
-pub still_there : (e : View) (dev : ℕ) (payload : List ℕ) → IsSettled e dev → EachImage e dev (IsSnapshotImage (e.bytes dev) payload)
-still_there e dev payload settled told c left = inl (settled c left)
+pub still_there : (e : View) (dev : ℕ) (header : CoordinatorHeader) (payload : List ℕ) → IsSettled e dev → EachImage e dev (IsSnapshotImage (e.bytes dev) header payload)
+still_there e dev header payload settled told c left = inl (settled c left)
 
-pub being_blanked : (e : View) (dev : ℕ) (before payload : List ℕ) → EachImage e dev (λ c. (entries_in c ≡ Some []) ⊎ (c ≡ before)) → EachImage e dev (IsSnapshotImage before payload)
-being_blanked e dev before payload each told c left = by (each told c left)
+pub being_blanked : (e : View) (dev : ℕ) (before : List ℕ) (header : CoordinatorHeader) (payload : List ℕ) → EachImage e dev (λ c. (entries_in c ≡ Some []) ⊎ (c ≡ before)) → EachImage e dev (IsSnapshotImage before header payload)
+being_blanked e dev before header payload each told c left = by (each told c left)
   where
-    by : (entries_in c ≡ Some []) ⊎ (c ≡ before) → IsSnapshotImage before payload c
+    by : (entries_in c ≡ Some []) ⊎ (c ≡ before) → IsSnapshotImage before header payload c
     by (inl blank) = inr (inl blank)
     by (inr same) = inl same
 
-pub being_begun : (e : View) (gate : GateLog) (dev : ℕ) (before payload spelled : List ℕ) → gates.device_of gate ≡ dev → payload ≡ spelled → EachImage e (gates.device_of gate) (gates.IsBeforeOrWith [] payload) → EachImage e dev (IsSnapshotImage before spelled)
-being_begun e gate dev before payload spelled device same each = subst (λ k. EachImage e k (IsSnapshotImage before spelled)) device (subst (λ p. EachImage e (gates.device_of gate) (IsSnapshotImage before p)) same (λ told c left. by c (each told c left)))
+pub being_begun : (e : View) (gate : GateLog) (dev : ℕ) (before : List ℕ) (header : CoordinatorHeader) (payload spelled : List ℕ) → gates.device_of gate ≡ dev → payload ≡ spelled → header_in spelled ≡ Some header
+    → EachImage e (gates.device_of gate) (gates.IsBeforeOrWith [] payload) → EachImage e dev (IsSnapshotImage before header spelled)
+being_begun e gate dev before header payload spelled device same reads each = subst (λ k. EachImage e k (IsSnapshotImage before header spelled)) device (λ told c left. by c (subst (λ p. EachImage e (gates.device_of gate) (gates.IsBeforeOrWith [] p)) same each told c left))
   where
-    by : (c : List ℕ) → gates.IsBeforeOrWith [] payload c → IsSnapshotImage before payload c
+    by : (c : List ℕ) → gates.IsBeforeOrWith [] spelled c → IsSnapshotImage before header spelled c
     by c (inl blank) = inr (inl blank)
-    by c (inr begun) = inr (inr begun)
+    by c (inr begun) = inr (inr (begun, reads))
 
 -- WHERE IT IS FULL
 

@@ -1,5 +1,5 @@
 -- What a value of `Decisions` is tied to: the coordinator's log that counts.
-use Rattle.salt_bytes.specs.Coordinator.{CoordinatorHeader, Decision, NumberedText, is_number_of_parts, spell_header}
+use Rattle.salt_bytes.specs.Coordinator.{CoordinatorHeader, Decision, NumberedText, header_in, is_number_of_parts, spell_header}
 use Rattle.salt_bytes.specs.Generations.{Counts, WhichLog, next_generation}
 use Rattle.salt_bytes.specs.Log.{entries_in}
 use Rattle.salt_decisions.specs.Header.{numbered_of}
@@ -125,9 +125,9 @@ snapshotted log conts = record { header = next_header log conts; told = told_by_
 abbrev pub snapshot_payload : Decisions → List Cont → List ℕ
 snapshot_payload x conts = spell_header (header_with (next_generation x.generation) x.shape x.boot x.decisions x.definitions conts)
 
--- what it may leave of the other log's device: the bytes from before, nothing, or the header alone
-abbrev pub IsSnapshotImage : List ℕ → List ℕ → List ℕ → Type 0
-IsSnapshotImage before payload bytes = (bytes ≡ before) ⊎ ((entries_in bytes ≡ Some []) ⊎ (entries_in bytes ≡ Some (payload ∷ [])))
+-- what it may leave of the other log's device: the bytes from before, nothing, or the header alone, which is read from there
+abbrev pub IsSnapshotImage : List ℕ → CoordinatorHeader → List ℕ → List ℕ → Type 0
+IsSnapshotImage before header payload bytes = (bytes ≡ before) ⊎ ((entries_in bytes ≡ Some []) ⊎ ((entries_in bytes ≡ Some (payload ∷ [])) × (header_in payload ≡ Some header)))
 
 abbrev pub HasSameEntries : List ℕ → List ℕ → Type 0
 HasSameEntries before bytes = entries_in bytes ≡ entries_in before

@@ -1,9 +1,9 @@
-use Rattle.salt_bytes.specs.Coordinator.{CoordinatorHeader, spell_header}
+use Rattle.salt_bytes.specs.Coordinator.{CoordinatorHeader, header_in, spell_header}
 use Rattle.salt_bytes.specs.Generations.{next_generation}
 use Rattle.salt_bytes.specs.Spellable.{IsSpellableHeader}
-use Rattle.salt_decisions.proofs.Snapshots.{apart_from, counting_images, next_is_some, snapshot_counts}
+use Rattle.salt_decisions.proofs.Snapshots.{apart_from, being_begun, counting_images, header_reads, next_is_some, snapshot_counts}
 use Rattle.salt_decisions.proofs.decisions.Decisions.snapshot.Goals as goal
-use Rattle.salt_decisions.specs.Decisions.{IsDecisions}
+use Rattle.salt_decisions.specs.Decisions.{IsDecisions, next_header, snapshot_payload}
 use Rattle.salt_decisions.specs.HeaderPayload.{header_with}
 use Rattle.salt_decisions.specs.Which.{which_in}
 use Rattle.salt_decisions.specs.declared.decisions.Decisions.{Decisions}
@@ -15,6 +15,44 @@ use Rattle.salt_stands.specs.Coordinator.{device_of}
 use Rattle.salt_stands.specs.Pieces.{other_log}
 use Rattle.std.proofs.Common.{List, None, [], ap, refl, subst, sym, true, ℕ, ◌≡◌, ◌∙◌}
 use Rattle.std.specs.Prelude.{nat_le}
+
+pub returns-in_err-append-clause-images : goal.returns-in_err-append-clause-images
+returns-in_err-append-clause-images g c which log h =
+    let d0 = g.D.Disks.view c.args.disks.now in
+    let x = c.self.inside in
+    let conts = c.args.conts.now in
+    let was = subst (λ (x : Decisions). IsDecisions d0 x which log) (sym c.self.view_is) h in
+    let own : which_in c.other-which.result ≡ other_log which = c.other-which.ensures ∙ ap other_log was.own in
+    let place : c.device.result ≡ device_of 0 (other_log which) = c.device.ensures ∙ ap (device_of 0) own in
+    let header : ℕ → List Definition → CoordinatorHeader = λ n ds. header_with n x.shape x.boot x.decisions ds conts in
+    let same : header c.next_generation-generation.result c.as_slice-definitions.result.now ≡ header (next_generation x.generation) x.definitions =
+    ap (λ n. header n c.as_slice-definitions.result.now) c.next_generation-generation.ensures ∙ ap (λ ds. header (next_generation x.generation) ds) c.as_slice-definitions.ensures in
+    let some : nat_le 1 c.next_generation-generation.result ≡ true = ap (λ n. nat_le 1 n) c.next_generation-generation.ensures ∙ next_is_some x.generation in
+    let good = subst IsSpellableHeader same (c.in_ok-payload.ensures.spellable some was.holds.parts) in
+    let spelled : (d : Decisions) → List ℕ = λ d. snapshot_payload d conts in
+    being_begun (g.D.Disks.view c.append.new.disks) c.in_ok-gate.gate (device_of 0 (other_log which)) (d0.bytes (device_of 0 (other_log which))) (next_header log conts) c.deref.result.now (spelled c.args.self.now)
+    (c.in_ok-gate.ensures.log.0 ∙ place) (c.deref.ensures.value ∙ c.in_ok-payload.ensures.put ∙ ap spell_header same ∙ ap spelled c.self.view_is)
+    (ap (λ (d : Decisions). header_in (spelled d)) (sym c.self.view_is) ∙ header_reads d0 _ which log was conts good)
+    (c.in_err-append.ensures.images [] c.in_ok-gate.ensures.log.1)
+
+pub returns-clause-images : goal.returns-clause-images
+returns-clause-images g c which log h =
+    let d0 = g.D.Disks.view c.args.disks.now in
+    let x = c.self.inside in
+    let conts = c.args.conts.now in
+    let was = subst (λ (x : Decisions). IsDecisions d0 x which log) (sym c.self.view_is) h in
+    let own : which_in c.other-which.result ≡ other_log which = c.other-which.ensures ∙ ap other_log was.own in
+    let place : c.device.result ≡ device_of 0 (other_log which) = c.device.ensures ∙ ap (device_of 0) own in
+    let header : ℕ → List Definition → CoordinatorHeader = λ n ds. header_with n x.shape x.boot x.decisions ds conts in
+    let same : header c.next_generation-generation.result c.as_slice-definitions.result.now ≡ header (next_generation x.generation) x.definitions =
+    ap (λ n. header n c.as_slice-definitions.result.now) c.next_generation-generation.ensures ∙ ap (λ ds. header (next_generation x.generation) ds) c.as_slice-definitions.ensures in
+    let some : nat_le 1 c.next_generation-generation.result ≡ true = ap (λ n. nat_le 1 n) c.next_generation-generation.ensures ∙ next_is_some x.generation in
+    let good = subst IsSpellableHeader same (c.in_ok-payload.ensures.spellable some was.holds.parts) in
+    let spelled : (d : Decisions) → List ℕ = λ d. snapshot_payload d conts in
+    being_begun (g.D.Disks.view c.append.new.disks) c.in_ok-gate.gate (device_of 0 (other_log which)) (d0.bytes (device_of 0 (other_log which))) (next_header log conts) c.deref.result.now (spelled c.args.self.now)
+    (c.in_ok-gate.ensures.log.0 ∙ place) (c.deref.ensures.value ∙ c.in_ok-payload.ensures.put ∙ ap spell_header same ∙ ap spelled c.self.view_is)
+    (ap (λ (d : Decisions). header_in (spelled d)) (sym c.self.view_is) ∙ header_reads d0 _ which log was conts good)
+    (c.in_ok-append.ensures.images [] c.in_ok-gate.ensures.log.1)
 
 pub returns-clause-ok : goal.returns-clause-ok
 returns-clause-ok g c which log h =
