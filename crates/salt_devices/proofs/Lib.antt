@@ -14,6 +14,7 @@ mod Renamed
 pub mod Sound
 mod Entered
 mod Booting
+mod InHand
 mod Committing
 mod Decided
 pub mod Answered

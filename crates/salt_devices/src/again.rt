@@ -20,7 +20,7 @@ ghost use Rattle.std.specs.Prelude.{Bool, Err, IfErr, IfOk, IsTrue, None, OnErr,
 
 use crate::open::{fault, open_devices};
 use crate::pending::Pending;
-use crate::told::told_keys;
+use salt_codec::told_changes;
 use salt_commit::Store;
 use salt_decisions::are_spent;
 use salt_disk::Disks;
@@ -78,7 +78,7 @@ fn is_remembered<F: Fn(PlaceKind, &Key, u32) -> u32>(
     let Pending::Decision(changes) = pending else {
         return store.has_rows_with(place, before, &none);
     };
-    told_keys(changes.as_slice());
+    told_changes(changes.as_slice());
     store.has_rows_with(place, before, changes)
 }
 

@@ -27,10 +27,10 @@ ghost use Rattle.salt_values.specs.declared.id.Id.{Id};
 ghost use Rattle.salt_place.specs.declared.placement.Shape.{Shape};
 ghost use Rattle.std.specs.Prelude.{Err, IfOk, List, None, OnErr, OnOk, Some, false, if◌then◌else◌, length, option_map, ℕ, ◌+◌, ◌<◌, ◌≡◌, ◌≢◌};
 
-use crate::told::{told_keys, told_move};
+use crate::told::told_move;
 use law_types::typed_changes_are_sound;
 use salt_bytes::{Move, moves_are_read};
-use salt_codec::spelled_move;
+use salt_codec::{spelled_move, told_changes};
 use salt_commit::Store;
 use salt_decisions::FORMAT;
 use salt_disk::Disks;
@@ -166,7 +166,7 @@ pub fn decide_unit<D: Disks, F: Fn(PlaceKind, &Key, u32) -> u32>(
     typed_changes_are_sound();
     moves_are_read();
     told_move(made);
-    told_keys(changes);
+    told_changes(changes);
     let spelled = spelled_move(alloc, FORMAT, made)?;
     let number = store.commit(disks, place, unit, changes, &spelled)?;
     Ok(number)

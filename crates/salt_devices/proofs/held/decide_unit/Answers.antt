@@ -7,6 +7,7 @@ use Rattle.salt_stands.specs.Fitting.{tables_defined}
 use Rattle.salt_devices.proofs.Committing.{short_move}
 use Rattle.salt_devices.proofs.Deciding.{others_stay_new, stands_to_commit, unit_holds, unit_leaves_either}
 use Rattle.salt_devices.proofs.Filled.{unit_fills}
+use Rattle.salt_devices.proofs.InHand.{keys_are_values}
 use Rattle.salt_storage.proofs.Halted.{full_is, memory_is}
 use Rattle.salt_devices.proofs.Limited.{unit_stays}
 use Rattle.salt_devices.proofs.Netted.{shape_held}
@@ -51,7 +52,7 @@ returns-clause-holds g c shape k conts h may =
     let reads : move_in 3 (spell_move 3 made) ≡ Some made = c.moves_are_read.ensures 3 made c.told_move.ensures in
     let sound : (co : Coordinator Definition) → AreChangesOf (tables_defined co.definitions) c.args.changes.now → list_all (fits_its_part reading co) c.args.changes.now ≡ true = λ co fits. c.typed_changes_are_sound.ensures.all definition_in co c.args.changes.now fits in
     let spells : c.deref.result.now ≡ spell_move 3 made = c.deref.ensures.value ∙ c.in_ok-spelled.ensures in
-    let keys = c.told_keys.ensures in
+    let keys = keys_are_values c.args.changes.now c.told_changes.ensures in
     unit_holds (g.D.Disks.view c.args.disks.now) shape c.args.store.now k h c.args.unit c.args.changes.now made conts may c.requires.new reads sound c.deref.result.now spells
     (g.D.Disks.view c.commit.new.disks) c.commit.new.self c.in_ok-number.ensures.others.shape keys c.in_ok-number.ensures.ok
 
@@ -62,7 +63,7 @@ returns-clause-is_new g c u other new =
     let reads : move_in 3 (spell_move 3 made) ≡ Some made = c.moves_are_read.ensures 3 made c.told_move.ensures in
     let sound : (co : Coordinator Definition) → AreChangesOf (tables_defined co.definitions) c.args.changes.now → list_all (fits_its_part reading co) c.args.changes.now ≡ true = λ co fits. c.typed_changes_are_sound.ensures.all definition_in co c.args.changes.now fits in
     let spells : c.deref.result.now ≡ spell_move 3 made = c.deref.ensures.value ∙ c.in_ok-spelled.ensures in
-    let keys = c.told_keys.ensures in
+    let keys = keys_are_values c.args.changes.now c.told_changes.ensures in
     others_stay_new (g.D.Disks.view c.args.disks.now) r.0 c.args.store.now r.1 r.2 c.args.unit c.args.changes.now made r.3.0 r.3.1 c.requires.new reads sound c.deref.result.now spells
     (g.D.Disks.view c.commit.new.disks) c.commit.new.self c.in_ok-number.ensures.others.shape keys c.in_ok-number.ensures.ok u other new
 
@@ -72,7 +73,7 @@ returns-clause-leaves g c shape k conts h may =
     let reads : move_in 3 (spell_move 3 made) ≡ Some made = c.moves_are_read.ensures 3 made c.told_move.ensures in
     let sound : (co : Coordinator Definition) → AreChangesOf (tables_defined co.definitions) c.args.changes.now → list_all (fits_its_part reading co) c.args.changes.now ≡ true = λ co fits. c.typed_changes_are_sound.ensures.all definition_in co c.args.changes.now fits in
     let spells : c.deref.result.now ≡ spell_move 3 made = c.deref.ensures.value ∙ c.in_ok-spelled.ensures in
-    let keys = c.told_keys.ensures in
+    let keys = keys_are_values c.args.changes.now c.told_changes.ensures in
     unit_leaves_either (g.D.Disks.view c.args.disks.now) shape c.args.store.now k h c.args.unit c.args.changes.now made conts may c.requires.new reads sound c.deref.result.now spells
     (g.D.Disks.view c.commit.new.disks) c.commit.new.self c.in_ok-number.ensures.others.shape keys c.in_ok-number.ensures.images c.in_ok-number.ensures.pages
 
@@ -82,7 +83,7 @@ returns-in_err-number-clause-leaves g c shape k conts h may =
     let reads : move_in 3 (spell_move 3 made) ≡ Some made = c.moves_are_read.ensures 3 made c.told_move.ensures in
     let sound : (co : Coordinator Definition) → AreChangesOf (tables_defined co.definitions) c.args.changes.now → list_all (fits_its_part reading co) c.args.changes.now ≡ true = λ co fits. c.typed_changes_are_sound.ensures.all definition_in co c.args.changes.now fits in
     let spells : c.deref.result.now ≡ spell_move 3 made = c.deref.ensures.value ∙ c.in_ok-spelled.ensures in
-    let keys = c.told_keys.ensures in
+    let keys = keys_are_values c.args.changes.now c.told_changes.ensures in
     unit_leaves_either (g.D.Disks.view c.args.disks.now) shape c.args.store.now k h c.args.unit c.args.changes.now made conts may c.requires.new reads sound c.deref.result.now spells
     (g.D.Disks.view c.commit.new.disks) c.commit.new.self c.in_err-number.ensures.others.shape keys c.in_err-number.ensures.images c.in_err-number.ensures.pages
 
