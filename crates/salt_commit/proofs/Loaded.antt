@@ -9,7 +9,7 @@ use Rattle.salt_commit.proofs.Undecided.{decisions_kept}
 use Rattle.salt_commit.specs.Loads.{IsPartOf, IsRowAt, shown_in_all}
 use Rattle.salt_commit.specs.Messages.{messages_of}
 use Rattle.salt_commit.specs.Reads.{StandsInPlace}
-use Rattle.salt_commit.specs.Stores.{IsStore, decided_by, reading, rows_of_store}
+use Rattle.salt_commit.specs.Stores.{IsStore, decided_by, numbers_in, reading, rows_of_store}
 use Rattle.salt_commit.specs.declared.store.Store.{Store}
 use Rattle.salt_disk.proofs.CallAfterCall.{cause_on, cause_none, keeps_on, same_shape}
 use Rattle.salt_disk.specs.Disks.{HasCause, IsUnchanged, KeepsAll, SameShape, UnlessDown, View}
@@ -105,6 +105,7 @@ pub record LoadedSoFar (d0 d : View) (x0 x : Store) (t : ℕ) (range : KeyRange)
   pub rest : (which : WhichLog) (c : Coordinator Definition) (v : ℕ → PartView) → IsStore reading d0 x0 which c v → rows ++ rows_after t range after (rows_of c v) ≡ rows_after t range None (rows_of c v)
   pub typed : Every (λ (e : Entry). IsRowAt schema e.0 e.1) rows
   pub stay : rows_of_store x ≡ rows_of_store x0
+  pub numbers : numbers_in x ≡ numbers_in x0
   pub messages : messages_of x ≡ messages_of x0
 
 pub none_loaded : (d : View) (x : Store) (t : ℕ) (range : KeyRange) (schema : List TableDef) (rows : List Entry) → rows ≡ [] → LoadedSoFar d d x x t range schema rows None
@@ -115,6 +116,7 @@ none_loaded d x t range schema rows none = subst (λ (l : List Entry). LoadedSoF
   rest = λ which c v is. refl;
   typed = tt;
   stay = refl;
+  numbers = refl;
   messages = refl;
 })
 
@@ -139,8 +141,8 @@ module _ (d0 d : View) (x0 x : Store) (t : ℕ) (range : KeyRange) (schema : Lis
     pub one_loaded : (e f : View) (y : Store) (key : Value) (now : List Entry)
         → KeepsAll d e None → HasCause d e None → ((which : WhichLog) (c : Coordinator Definition) (v : ℕ → PartView) → IsStore reading d x which c v → IsStore reading e y which c v)
         → KeepsAll e f None → HasCause e f None → meets_table schema t row ≡ true
-        → key ≡ key_of row → now ≡ insert_entry place_cmp rows (place t (key_of row)) row → rows_of_store y ≡ rows_of_store x → messages_of y ≡ messages_of x → LoadedSoFar d0 f x0 y t range schema now (Some key)
-    one_loaded e f y key now keeps cause is keeps' cause' meets is_key put same net =
+        → key ≡ key_of row → now ≡ insert_entry place_cmp rows (place t (key_of row)) row → rows_of_store y ≡ rows_of_store x → numbers_in y ≡ numbers_in x → messages_of y ≡ messages_of x → LoadedSoFar d0 f x0 y t range schema now (Some key)
+    one_loaded e f y key now keeps cause is keeps' cause' meets is_key put same counted net =
         let made = put ∙ one_more in
         record {
           is = λ which c v stood. store_unless e f y which c v None keeps' (is which c v (so_far.is which c v stood));
@@ -155,6 +157,7 @@ module _ (d0 d : View) (x0 x : Store) (t : ℕ) (range : KeyRange) (schema : Lis
               ∙ so_far.rest which c v stood;
           typed = subst (Every (λ (e : Entry). IsRowAt schema e.0 e.1)) (sym made) (every_last (λ (e : Entry). IsRowAt schema e.0 e.1) rows (place t (key_of row), row) so_far.typed (is_row_at schema t row meets, refl));
           stay = same ∙ so_far.stay;
+          numbers = counted ∙ so_far.numbers;
           messages = net ∙ so_far.messages;
         }
 

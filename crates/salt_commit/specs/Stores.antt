@@ -39,6 +39,9 @@ last_boot x = decisions.last_boot x.decisions
 abbrev pub last_decision : Store → ℕ
 last_decision x = decisions.last_decision x.decisions
 
+abbrev pub numbers_in : Store → ℕ × ℕ
+numbers_in x = decisions.numbers_in x.decisions
+
 -- the device of the coordinator's log that counts, and where its closed gate stands
 abbrev pub coordinator_device : Store → ℕ
 coordinator_device x = decisions.device_in x.decisions

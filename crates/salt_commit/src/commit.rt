@@ -7,7 +7,7 @@ ghost use Rattle.salt_commit.specs.Messages.{IsAtRest, IsNewIn, net_of};
 ghost use Rattle.salt_commit.specs.Openings.{NamesPages};
 ghost use Rattle.salt_commit.specs.Prepares.{FullWhere};
 ghost use Rattle.salt_commit.specs.Shares.{next_decision};
-ghost use Rattle.salt_commit.specs.Stores.{IsStore, StandForEither, last_decision, reading, rows_of_store, shape_of_store};
+ghost use Rattle.salt_commit.specs.Stores.{IsStore, StandForEither, last_boot, last_decision, reading, rows_of_store, shape_of_store};
 ghost use Rattle.salt_disk.specs.Disks.{HasCause, IsImage, IsUnchanged, KeepsBut};
 ghost use Rattle.salt_disk.specs.declared.disks.DiskErr.{DiskErr};
 ghost use Rattle.salt_disk.specs.declared.disks.DiskErr.TheVariants.{Full, Memory};
@@ -58,6 +58,7 @@ impl Store {
             → MayCommitUnit reading c v unit changes.now mv.now m conts
             → OnOk result (IsStore reading (D.view disks.new) self.new which (with_decision c (next_decision c unit changes.now mv.now) conts) (view_after c v changes.now (next_decision c unit changes.now mv.now))) }
         ensures number { IfOk result (λ number. number ≡ last_decision self.old + 1) }
+        ensures boot { last_boot self.new ≡ last_boot self.old }
         ensures images { (which : WhichLog) (c : Coordinator Definition) (v : ℕ → PartView) (m : Move) (conts : List Cont) → IsStore reading (D.view disks.old) self.old which c v
             → MayCommitUnit reading c v unit changes.now mv.now m conts → IsTrue (D.view disks.old).told
             → StandForEither reading (D.view disks.new) (found_of c v) (found_after c v changes.now (next_decision c unit changes.now mv.now) conts) }

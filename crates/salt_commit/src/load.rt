@@ -4,7 +4,7 @@ ghost use Rattle.salt_bytes.specs.Generations.{WhichLog};
 ghost use Rattle.salt_commit.specs.Loads.{AreRowsOf, IsPartOf};
 ghost use Rattle.salt_commit.specs.Messages.{messages_of};
 ghost use Rattle.salt_commit.specs.Reads.{StandsInPlace};
-ghost use Rattle.salt_commit.specs.Stores.{IsStore, reading, rows_of_store};
+ghost use Rattle.salt_commit.specs.Stores.{IsStore, numbers_in, reading, rows_of_store};
 ghost use Rattle.salt_stands.specs.Fitting.{tables_defined};
 ghost use Rattle.salt_disk.specs.Disks.{HasCause, KeepsAll, OnlyFails, UnlessDown};
 ghost use Rattle.salt_eval.specs.Meets.{meets_table};
@@ -90,6 +90,7 @@ impl Store {
         ensures stands { (which : WhichLog) (c : Coordinator Definition) (v : ℕ → PartView) → IsStore reading (D.view disks.old) self.old which c v
             → UnlessDown (result_err result) (IsStore reading (D.view disks.new) self.new which c v) }
         ensures stay { rows_of_store self.new ≡ rows_of_store self.old }
+        ensures numbers { numbers_in self.new ≡ numbers_in self.old }
         ensures messages { messages_of self.new ≡ messages_of self.old }
         ensures kept { KeepsAll (D.view disks.old) (D.view disks.new) (result_err result) }
         ensures cause { HasCause (D.view disks.old) (D.view disks.new) (result_err result) }

@@ -3,7 +3,7 @@
 ghost use Rattle.salt_bytes.specs.Generations.{WhichLog};
 ghost use Rattle.salt_commit.specs.Messages.{messages_of};
 ghost use Rattle.salt_commit.specs.Reads.{StandsInPlace, is_over, is_past};
-ghost use Rattle.salt_commit.specs.Stores.{IsStore, StandsOnDevices, reading, row_in, rows_of_store};
+ghost use Rattle.salt_commit.specs.Stores.{IsStore, StandsOnDevices, numbers_in, reading, row_in, rows_of_store};
 ghost use Rattle.salt_disk.specs.Disks.{HasCause, KeepsAll, OnlyFails, UnlessDown};
 ghost use Rattle.salt_eval.specs.Views.{next_row};
 ghost use Rattle.salt_model.specs.Kept.{Definition};
@@ -86,6 +86,7 @@ impl Store {
         ensures stands { (which : WhichLog) (c : Coordinator Definition) (v : ℕ → PartView) → IsStore reading (D.view disks.old) self.old which c v
             → UnlessDown (result_err result) (IsStore reading (D.view disks.new) self.new which c v) }
         ensures stay { rows_of_store self.new ≡ rows_of_store self.old }
+        ensures numbers { numbers_in self.new ≡ numbers_in self.old }
         ensures messages { messages_of self.new ≡ messages_of self.old }
         ensures kept { KeepsAll (D.view disks.old) (D.view disks.new) (result_err result) }
         ensures cause { HasCause (D.view disks.old) (D.view disks.new) (result_err result) }
@@ -110,6 +111,7 @@ impl Store {
         ensures stands { (which : WhichLog) (c : Coordinator Definition) (v : ℕ → PartView) → IsStore reading (D.view disks.old) self.old which c v
             → UnlessDown (result_err result) (IsStore reading (D.view disks.new) self.new which c v) }
         ensures stay { rows_of_store self.new ≡ rows_of_store self.old }
+        ensures numbers { numbers_in self.new ≡ numbers_in self.old }
         ensures messages { messages_of self.new ≡ messages_of self.old }
         ensures kept { KeepsAll (D.view disks.old) (D.view disks.new) (result_err result) }
         ensures cause { HasCause (D.view disks.old) (D.view disks.new) (result_err result) }
@@ -138,6 +140,7 @@ impl Store {
         ensures stands { (which : WhichLog) (c : Coordinator Definition) (v : ℕ → PartView) → IsStore reading (D.view disks.old) self.old which c v
             → UnlessDown (result_err result) (IsStore reading (D.view disks.new) self.new which c v) }
         ensures stay { rows_of_store self.new ≡ rows_of_store self.old }
+        ensures numbers { numbers_in self.new ≡ numbers_in self.old }
         ensures messages { messages_of self.new ≡ messages_of self.old }
         ensures kept { KeepsAll (D.view disks.old) (D.view disks.new) (result_err result) }
         ensures cause { HasCause (D.view disks.old) (D.view disks.new) (result_err result) }

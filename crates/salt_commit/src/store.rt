@@ -3,7 +3,7 @@
 ghost use Rattle.salt_bytes.specs.Coordinator.{Boots, Defines, spell_entry};
 ghost use Rattle.salt_bytes.specs.Generations.{WhichLog};
 ghost use Rattle.salt_commit.specs.Messages.{IsAtRest, IsNewIn, messages_of, net_of, nothing_sent, with_waiting};
-ghost use Rattle.salt_commit.specs.Stores.{IsStore, MayDefine, StandForEither, StandsOnDevices, StandsToDefine, coordinator_device, coordinator_gate, last_boot, last_decision, next_text, reading, rows_of_store};
+ghost use Rattle.salt_commit.specs.Stores.{IsStore, MayDefine, StandForEither, StandsOnDevices, StandsToDefine, coordinator_device, coordinator_gate, last_boot, last_decision, next_text, numbers_in, reading, rows_of_store};
 ghost use Rattle.salt_decisions.specs.Decisions.{next_definition};
 ghost use Rattle.salt_disk.specs.Disks.{FullExactly, HasCause, IsUnchanged, KeepsOthers};
 ghost use Rattle.salt_disk.specs.declared.disks.DiskErr.TheVariants.{Full};
@@ -96,6 +96,7 @@ impl Store {
         ensures ok { (which : WhichLog) (c : Coordinator Definition) (v : ℕ → PartView) → IsStore reading (D.view disks.old) self.old which c v
             → OnOk result (IsStore reading (D.view disks.new) self.new which (with_boot c) v) }
         ensures number { IfOk result (λ boot. boot ≡ last_boot self.old + 1) }
+        ensures same { OnErr result (numbers_in self.new ≡ numbers_in self.old) }
         ensures images { (which : WhichLog) (c : Coordinator Definition) (v : ℕ → PartView) → IsStore reading (D.view disks.old) self.old which c v → IsTrue (D.view disks.old).told
             → StandForEither reading (D.view disks.new) (found_of c v) (found_of (with_boot c) v) }
 
@@ -127,6 +128,7 @@ impl Store {
         ensures ok { (which : WhichLog) (c : Coordinator Definition) (v : ℕ → PartView) (def : Definition) → IsStore reading (D.view disks.old) self.old which c v → MayDefine reading c text.now def
             → OnOk result (IsStore reading (D.view disks.new) self.new which (with_definition c (next_text c text.now) def) v) }
         ensures number { IfOk result (λ number. number ≡ last_decision self.old + 1) }
+        ensures same { OnErr result (numbers_in self.new ≡ numbers_in self.old) }
         ensures images { (which : WhichLog) (c : Coordinator Definition) (v : ℕ → PartView) (def : Definition) → IsStore reading (D.view disks.old) self.old which c v → MayDefine reading c text.now def → IsTrue (D.view disks.old).told
             → StandForEither reading (D.view disks.new) (found_of c v) (found_of (with_definition c (next_text c text.now) def) v) }
 

@@ -17,11 +17,15 @@ use Rattle.salt_stands.specs.Coordinator.{device_of}
 use Rattle.salt_stands.specs.CoordinatorLog.{CoordinatorLog, Told, coordinator_generation, coordinator_in, tell}
 use Rattle.salt_stands.specs.Pieces.{HasOneMore, IsSameAt, other_log}
 use Rattle.salt_stands.specs.Stands.{logs_of}
-use Rattle.std.proofs.Common.{Err, IsTrue, List, None, Ok, OnOk, Result, Some, [], ap, arith, inl, inr, refl, subst, sym, ℕ, ◌+◌, ◌++◌, ◌≡◌, ◌≢◌, ◌∙◌, ◌∷◌}
+use Rattle.std.proofs.Common.{Err, IsTrue, List, None, Ok, OnErr, OnOk, Result, Some, [], ap, arith, inl, inr, refl, subst, sym, ℕ, ◌+◌, ◌++◌, ◌≡◌, ◌≢◌, ◌∙◌, ◌∷◌}
 use Rattle.std.proofs.lemmas.Bool.Decides.{Decides-eqb}
 use Rattle.std.specs.Prelude.{◌==◌}
 use Rattle.std.specs.Result.{result_err}
 use Rattle.std.specs.Bool.{then_some}
+
+pub on_err : {A E P : Type 0} (r : Result A E) → P → OnErr r P
+on_err (Ok made) h = tt
+on_err (Err err) h = h
 
 pub other_dev : (which : WhichLog) → device_of 0 (other_log which) ≢ device_of 0 which
 other_dev LogA e = omega (arith, e)

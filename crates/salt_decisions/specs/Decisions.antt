@@ -37,6 +37,9 @@ last_boot x = x.boot
 abbrev pub last_decision : Decisions → ℕ
 last_decision x = x.decisions
 
+abbrev pub numbers_in : Decisions → ℕ × ℕ
+numbers_in x = (last_boot x, last_decision x)
+
 abbrev pub definitions_in : Decisions → List Definition
 definitions_in x = x.definitions
 

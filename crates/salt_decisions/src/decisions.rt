@@ -2,7 +2,7 @@
 
 ghost use Rattle.salt_bytes.specs.Coordinator.{Boots, CoordinatorEntry, Decides, Defines, entry_in, spell_entry};
 ghost use Rattle.salt_bytes.specs.Generations.{WhichLog};
-ghost use Rattle.salt_decisions.specs.Decisions.{AreOpen, HasSameEntries, IsBeforeOrWith, IsCounting, IsDecisions, IsSnapshotImage, booted, count_in, decided, defined, definitions_in, device_in, format_of, gate_in, last_boot, last_decision, log_with, next_decision, next_definition, next_header, shape_of, snapshot_payload, snapshotted};
+ghost use Rattle.salt_decisions.specs.Decisions.{AreOpen, HasSameEntries, IsBeforeOrWith, IsCounting, IsDecisions, IsSnapshotImage, booted, count_in, decided, defined, definitions_in, device_in, format_of, gate_in, last_boot, last_decision, log_with, next_decision, next_definition, next_header, numbers_in, shape_of, snapshot_payload, snapshotted};
 ghost use Rattle.salt_disk.specs.Disks.{EachImage, FullExactly, FullOnly, HasCause, IsUnchanged, KeepsOthers};
 ghost use Rattle.salt_disk.specs.declared.disks.DiskErr.TheVariants.{Full};
 ghost use Rattle.salt_gatelog.specs.Log as gates;
@@ -11,7 +11,7 @@ ghost use Rattle.salt_place.specs.Placement.{IsParts};
 ghost use Rattle.salt_stands.specs.Coordinator.{device_of};
 ghost use Rattle.salt_stands.specs.CoordinatorLog.{CoordinatorLog, Told, tell};
 ghost use Rattle.salt_stands.specs.Pieces.{other_log};
-ghost use Rattle.std.specs.Prelude.{Err, IfOk, OnOk, Some, length, nat_lt, true, ℕ, ◌+◌, ◌-◌, ◌<◌, ◌≤◌, ◌^◌, ◌≡◌};
+ghost use Rattle.std.specs.Prelude.{Err, IfOk, OnErr, OnOk, Some, length, nat_lt, true, ℕ, ◌+◌, ◌-◌, ◌<◌, ◌≤◌, ◌^◌, ◌≡◌};
 ghost use Rattle.std.specs.Result.{result_err};
 
 use crate::header::{Definition, Definitions};
@@ -113,13 +113,15 @@ impl Decisions {
         self.gate.count()
     }
 
-    /// Appends the next boot's entry, and gives its number. Each image of the log's device has the entry more, or not.
+    /// Appends the next boot's entry, and gives its number. Each image of the log's device has the entry more, or not. An error
+    /// leaves the numbers as they were.
     pub fn boot<D: Disks>(&mut self, alloc: Global, disks: &mut D) -> Result<u64, DiskErr>
         requires log { (which : WhichLog) × ((log : CoordinatorLog) × IsDecisions (D.view disks.old) self.old which log) }
         requires below { last_boot self.old < 2 ^ 64 - 1 }
 
         ensures ok { (which : WhichLog) (log : CoordinatorLog) → IsDecisions (D.view disks.old) self.old which log → OnOk result (IsDecisions (D.view disks.new) self.new which (booted log)) }
         ensures number { IfOk result (λ boot. boot ≡ last_boot self.old + 1) }
+        ensures same { OnErr result (numbers_in self.new ≡ numbers_in self.old) }
         ensures shape { shape_of self.new ≡ shape_of self.old }
         ensures images { (which : WhichLog) (log : CoordinatorLog) → IsDecisions (D.view disks.old) self.old which log
             → EachImage (D.view disks.new) (device_of 0 which) (IsBeforeOrWith ((D.view disks.old).bytes (device_of 0 which)) (spell_entry (Boots (last_boot self.old + 1)))) }
@@ -137,7 +139,7 @@ impl Decisions {
     }
 
     /// Appends a definition's entry, under the next number of a decision, and gives that number. Each image of the log's
-    /// device has the entry more, or not.
+    /// device has the entry more, or not. An error leaves the numbers as they were.
     pub fn define<D: Disks>(
         &mut self,
         alloc: Global,
@@ -150,6 +152,7 @@ impl Decisions {
         ensures ok { (which : WhichLog) (log : CoordinatorLog) → IsDecisions (D.view disks.old) self.old which log
             → OnOk result (IsDecisions (D.view disks.new) self.new which (defined log (next_definition self.old text.now))) }
         ensures number { IfOk result (λ number. number ≡ last_decision self.old + 1) }
+        ensures same { OnErr result (numbers_in self.new ≡ numbers_in self.old) }
         ensures shape { shape_of self.new ≡ shape_of self.old }
         ensures images { (which : WhichLog) (log : CoordinatorLog) → IsDecisions (D.view disks.old) self.old which log
             → EachImage (D.view disks.new) (device_of 0 which) (IsBeforeOrWith ((D.view disks.old).bytes (device_of 0 which)) (spell_entry (Defines (next_definition self.old text.now)))) }
@@ -189,6 +192,7 @@ impl Decisions {
         ensures ok { (which : WhichLog) (log : CoordinatorLog) → IsDecisions (D.view disks.old) self.old which log
             → OnOk result (IsDecisions (D.view disks.new) self.new which (decided log (next_decision self.old unit parts mv.now))) }
         ensures number { IfOk result (λ number. number ≡ last_decision self.old + 1) }
+        ensures boot { last_boot self.new ≡ last_boot self.old }
         ensures shape { shape_of self.new ≡ shape_of self.old }
         ensures images { (which : WhichLog) (log : CoordinatorLog) → IsDecisions (D.view disks.old) self.old which log
             → EachImage (D.view disks.new) (device_of 0 which) (IsBeforeOrWith ((D.view disks.old).bytes (device_of 0 which)) (spell_entry (Decides (next_decision self.old unit parts mv.now)))) }

@@ -1,6 +1,7 @@
 -- Devices are opened anew: what was left there is found, or is left as it was.
 use Rattle.salt_bytes.specs.Generations.{BothBlank}
 use Rattle.salt_commit.specs.Openings.{HasRoom}
+use Rattle.salt_commit.specs.Stores.{last_boot, last_decision}
 use Rattle.salt_commit.specs.declared.store.Store.{Store}
 use Rattle.salt_decisions.specs.Decisions.{shape_of}
 use Rattle.salt_stands.specs.Fitting.{kept_in}
@@ -9,11 +10,12 @@ use Rattle.salt_devices.proofs.Known.{stands_fails}
 use Rattle.salt_devices.proofs.Opening.{like_unwritten}
 use Rattle.salt_devices.proofs.Reheld.{held_again_mute}
 use Rattle.salt_devices.proofs.Refound.{Tells}
-use Rattle.salt_devices.proofs.Remembered.{held_rows}
+use Rattle.salt_devices.proofs.Remembered.{held_numbers, held_rows}
 use Rattle.salt_devices.specs.Leaving.{IsEither, LeavesEither, LeavesAs, StandsFor}
-use Rattle.salt_devices.specs.Opened.{IsHeldAgain, OpensAs}
+use Rattle.salt_devices.specs.Holding.{IsHeld}
+use Rattle.salt_devices.specs.Opened.{OpensAs}
 use Rattle.salt_devices.specs.Refusing.{RefusedAs}
-use Rattle.salt_devices.specs.Remembering.{AreNumbersOf, IsFoundAgain, MayTell, Recalls, Remembers}
+use Rattle.salt_devices.specs.Remembering.{IsFoundAgain, MayTell, Recalls, Remembers}
 use Rattle.salt_devices.specs.Standing.{RestsAs}
 use Rattle.salt_devices.specs.declared.pending.Pending.TheVariants.{Lost}
 use Rattle.salt_devices.specs.declared.pending.Pending.{Pending}
@@ -22,11 +24,10 @@ use Rattle.salt_disk.specs.declared.disks.DiskErr.{DiskErr}
 use Rattle.salt_gatelog.proofs.Entries.{not_told}
 use Rattle.salt_model.specs.Kept.{Kept}
 use Rattle.salt_stands.specs.Coordinator.{coordinator_pair}
-use Rattle.salt_stands.specs.Stands.{logs_of}
+use Rattle.salt_stands.specs.Stands.{are_spent, logs_of}
 use Rattle.salt_storage.specs.Answers.{IsSpent, MayFail}
 use Rattle.salt_storage.specs.Storing.{IsSoundKept}
 use Rattle.salt_storage.specs.declared.found.Found as storage
-use Rattle.salt_storage.specs.declared.found.Numbers.{Numbers}
 use Rattle.salt_storage.specs.OpenErr.TheVariants as opening
 use Rattle.salt_storage.specs.OpenErr.TheVariants.{NotSalt, NumbersSpent, OtherShape}
 use Rattle.salt_storage.specs.OpenErr.{OpenErr}
@@ -55,9 +56,9 @@ one_kept shape image k l s t =
     sym s.keeps ∙ ap kept_in same ∙ t.keeps
 
 -- where memory did not run out it is recalled
-pub recalled : (shape : Shape) (x : Store) (n : Numbers) (p : Pending) (a b : Kept) → (p ≡ Lost → ⊥) → Remembers shape (Some x) n p a b → Recalls shape x n p a b
-recalled shape x n p a b not (inl lost) = absurd (not lost)
-recalled shape x n p a b not (inr r) = r
+pub recalled : (shape : Shape) (x : Store) (p : Pending) (a b : Kept) → (p ≡ Lost → ⊥) → Remembers shape (Some x) p a b → Recalls shape x p a b
+recalled shape x p a b not (inl lost) = absurd (not lost)
+recalled shape x p a b not (inr r) = r
 
 -- HOW AN OPENING MAY FAIL there
 
@@ -147,8 +148,11 @@ module _ (d e : View) (shape : Shape) (y : Store) (found : storage.Found) (o : O
   pub has_shape : shape_of y.decisions ≡ shape
   has_shape = o.held.is.decisions.holds.shape ∙ o.held.keeps.has_shape
 
-  abbrev numbers : Numbers
-  numbers = record { boot = found.boot; decisions = found.decisions }
+  -- its numbers are those that were found
+  pub numbers_there : are_spent found.boot found.decisions ≡ false → are_spent (last_boot y) (last_decision y) ≡ false
+  numbers_there unspent =
+      let is = held_numbers e shape y o.kept o.held in
+      ap (λ n. are_spent n (last_decision y)) (is.boot ∙ sym o.is_found.boot) ∙ ap (are_spent found.boot) (is.decisions ∙ sym o.is_found.decisions) ∙ unspent
 
   module _ (a b : Kept) (h : LeavesAs true d shape a b) where
     one_of : IsTrue d.told → (P : Kept → Type 0) → P o.kept → P a ⊎ P b
@@ -158,38 +162,34 @@ module _ (d e : View) (shape : Shape) (y : Store) (found : storage.Found) (o : O
         by (inl s) = inl (subst P (one_kept shape d.bytes o.kept a (o.stood told) s) is)
         by (inr s) = inr (subst P (one_kept shape d.bytes o.kept b (o.stood told) s) is)
 
-    numbers_are : AreNumbersOf numbers o.kept
-    numbers_are = record { boot = o.is_found.boot; decisions = o.is_found.decisions }
-
     -- over disks that tell it has its rows and its numbers
-    pub found_there : IsTrue d.told → IsFoundAgain shape y numbers a ⊎ IsFoundAgain shape y numbers b
-    found_there told = one_of told (IsFoundAgain shape y numbers) (record { rows = held_rows e shape y o.kept o.held; numbers = numbers_are })
+    pub found_there : IsTrue d.told → IsFoundAgain shape y a ⊎ IsFoundAgain shape y b
+    found_there told = one_of told (IsFoundAgain shape y) (record { rows = held_rows e shape y o.kept o.held; numbers = held_numbers e shape y o.kept o.held })
 
     -- and where it has, it is held, whatever the disks tell
-    pub held_there : (x : Store) (n : Numbers) (p : Pending) → Recalls shape x n p a b → IsFoundAgain shape y numbers a ⊎ IsFoundAgain shape y numbers b → IsHeldAgain e shape y numbers a ⊎ IsHeldAgain e shape y numbers b
-    held_there x n p r again = by e.told refl again
+    pub held_there : (x : Store) (p : Pending) → Recalls shape x p a b → IsFoundAgain shape y a ⊎ IsFoundAgain shape y b → IsHeld e shape y a ⊎ IsHeld e shape y b
+    held_there x p r again = by e.told refl again
       where
-        mute : e.told ≡ false → (k : Kept) → IsSoundKept k → IsFoundAgain shape y numbers k → IsHeldAgain e shape y numbers k
-        mute not k sound f = record {
-          held = held_again_mute e not shape y o.held.which o.held.c o.held.v o.held.is o.held.keeps.has_shape o.held.keeps.format o.held.keeps.nulls k
-              (sym f.numbers.boot ∙ o.is_found.boot ∙ o.held.keeps.boot) (sym f.numbers.decisions ∙ o.is_found.decisions ∙ o.held.keeps.decisions) f.rows sound;
-          numbers = f.numbers;
-        }
+        mute : e.told ≡ false → (k : Kept) → IsSoundKept k → IsFoundAgain shape y k → IsHeld e shape y k
+        mute not k sound f =
+            let holds = o.held.is.decisions.holds in
+            held_again_mute e not shape y o.held.which o.held.c o.held.v o.held.is o.held.keeps.has_shape o.held.keeps.format o.held.keeps.nulls k
+            (sym f.numbers.boot ∙ holds.boot) (sym f.numbers.decisions ∙ holds.decisions) f.rows sound
 
-        by : (t : Bool) → e.told ≡ t → IsFoundAgain shape y numbers a ⊎ IsFoundAgain shape y numbers b → IsHeldAgain e shape y numbers a ⊎ IsHeldAgain e shape y numbers b
-        by true told f = one_of (sym same.told ∙ told) (IsHeldAgain e shape y numbers) (record { held = o.held; numbers = numbers_are })
+        by : (t : Bool) → e.told ≡ t → IsFoundAgain shape y a ⊎ IsFoundAgain shape y b → IsHeld e shape y a ⊎ IsHeld e shape y b
+        by true told f = one_of (sym same.told ∙ told) (IsHeld e shape y) o.held
         by false not (inl f) = inl (mute not a r.sound f)
         by false not (inr f) = inr (mute not b r.sound_after f)
 
     -- what is not remembered was not told
-    pub mute_there : (x : Store) (n : Numbers) (p : Pending) (has : Bool) → has ≡ false → Tells x y n numbers p has → (p ≡ Lost → ⊥) → Remembers shape (Some x) n p a b → e.told ≡ false
-    mute_there x n p has fails tells not r =
+    pub mute_there : (x : Store) (p : Pending) (has : Bool) → has ≡ false → Tells x y p has → (p ≡ Lost → ⊥) → Remembers shape (Some x) p a b → e.told ≡ false
+    mute_there x p has fails tells not r =
         not_told e.told (λ now.
-        let found_is : IsTrue has = (tells shape a b has_shape (recalled shape x n p a b not r)).1 (found_there (sym same.told ∙ now)) in
+        let found_is : IsTrue has = (tells shape a b has_shape (recalled shape x p a b not r)).1 (found_there (sym same.told ∙ now)) in
         cc (found_is, fails))
 
     -- and what is remembered is held
-    pub holds_there : (x : Store) (n : Numbers) (p : Pending) (has : Bool) → has ≡ true → Tells x y n numbers p has → (p ≡ Lost → ⊥) → Remembers shape (Some x) n p a b → IsHeldAgain e shape y numbers a ⊎ IsHeldAgain e shape y numbers b
-    holds_there x n p has is tells not r =
-        let was = recalled shape x n p a b not r in
-        held_there x n p was ((tells shape a b has_shape was).0 is)
+    pub holds_there : (x : Store) (p : Pending) (has : Bool) → has ≡ true → Tells x y p has → (p ≡ Lost → ⊥) → Remembers shape (Some x) p a b → IsHeld e shape y a ⊎ IsHeld e shape y b
+    holds_there x p has is tells not r =
+        let was = recalled shape x p a b not r in
+        held_there x p was ((tells shape a b has_shape was).0 is)

@@ -74,12 +74,11 @@ rests_found d shape started is k h told =
 
 -- WHAT IS OPENED is held, and was found there
 module _ (d e : View) (shape : Shape) (x : Store) (found : Found) (o : OpensAs d e shape x found) where
-  pub opened_held : (y : Store) → IsAble shape d → SameShape d e → IsWithNet x y → StandsHeld shape false (Some y) (record { boot = found.boot; decisions = found.decisions }) Nothing e o.kept
+  pub opened_held : (y : Store) → IsAble shape d → SameShape d e → IsWithNet x y → StandsHeld shape false (Some y) Nothing e o.kept
   opened_held y able same put = record {
     able = able_on shape d e same able;
     called = refl;
     nothing = refl;
-    numbers = record { boot = o.is_found.boot; decisions = o.is_found.decisions };
     held = held_with e shape x y o.kept put o.held;
     net = net_with x y o.kept.boot put;
   }

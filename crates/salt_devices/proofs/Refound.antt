@@ -3,7 +3,7 @@ use Rattle.salt_commit.specs.Stores.{each_changed, rows_of_all, rows_of_store}
 use Rattle.salt_commit.specs.declared.store.Store.{Store}
 use Rattle.salt_decisions.specs.Decisions.{shape_of}
 use Rattle.salt_devices.proofs.Decided.{of_parts}
-use Rattle.salt_devices.specs.Remembering.{AreNumbersOf, Follow, HasRows, IsFoundAgain, MayFollow, Recalls, changes_in, entries_of}
+use Rattle.salt_devices.specs.Remembering.{AreNumbersOf, Follow, HasRows, IsFoundAgain, MayFollow, Recalls, changes_in, entries_of, numbers_before, numbers_of}
 use Rattle.salt_devices.specs.declared.pending.Pending.TheVariants.{Boot, Decision, Lost, Nothing, Opening}
 use Rattle.salt_devices.specs.declared.pending.Pending.TheVariants as pending
 use Rattle.salt_devices.specs.declared.pending.Pending.{Pending}
@@ -77,7 +77,7 @@ numbers_behind Nothing n m a b is f h = absurd h
 numbers_behind Opening n m a b is f h = absurd h
 numbers_behind Boot n m a b is f h = record { boot = h.0 ∙ ap (λ k. k + 1) is.boot ∙ ap (λ (k : Kept). k.boot) (sym f); decisions = h.1 ∙ is.decisions ∙ ap (λ (k : Kept). k.decisions) (sym f) }
 numbers_behind pending.Definition n m a b is f h = record { boot = h.0 ∙ is.boot ∙ ap (λ (k : Kept). k.boot) (sym f.1); decisions = h.1 ∙ ap (λ k. k + 1) is.decisions ∙ ap (λ (k : Kept). k.decisions) (sym f.1) }
-numbers_behind (Decision cs) n m a b is f h = record { boot = h.0 ∙ is.boot ∙ ap (λ (k : Kept). k.boot) (sym f.1); decisions = h.1 ∙ ap (λ k. k + 1) is.decisions ∙ ap (λ (k : Kept). k.decisions) (sym f.1) }
+numbers_behind (Decision before cs) n m a b is f h = record { boot = h.0 ∙ is.boot ∙ ap (λ (k : Kept). k.boot) (sym f.1); decisions = h.1 ∙ ap (λ k. k + 1) is.decisions ∙ ap (λ (k : Kept). k.decisions) (sym f.1) }
 numbers_behind Lost n m a b is f h = absurd h
 
 -- the numbers of the one are the others', or those behind them
@@ -89,7 +89,7 @@ numbers_follow Nothing n m a b is f now = inl (numbers_same n m a is (subst (Are
 numbers_follow Opening n m a b is f now = absurd f
 numbers_follow Boot n m a b is f now = inr (now.boot ∙ ap (λ (k : Kept). k.boot) f ∙ ap (λ k. k + 1) (sym is.boot), now.decisions ∙ ap (λ (k : Kept). k.decisions) f ∙ sym is.decisions)
 numbers_follow pending.Definition n m a b is f now = inr (now.boot ∙ ap (λ (k : Kept). k.boot) f.1 ∙ sym is.boot, now.decisions ∙ ap (λ (k : Kept). k.decisions) f.1 ∙ ap (λ k. k + 1) (sym is.decisions))
-numbers_follow (Decision cs) n m a b is f now = inr (now.boot ∙ ap (λ (k : Kept). k.boot) f.1 ∙ sym is.boot, now.decisions ∙ ap (λ (k : Kept). k.decisions) f.1 ∙ ap (λ k. k + 1) (sym is.decisions))
+numbers_follow (Decision before cs) n m a b is f now = inr (now.boot ∙ ap (λ (k : Kept). k.boot) f.1 ∙ sym is.boot, now.decisions ∙ ap (λ (k : Kept). k.decisions) f.1 ∙ ap (λ k. k + 1) (sym is.decisions))
 numbers_follow Lost n m a b is f now = absurd f
 
 -- where they are the same, so is what is kept
@@ -104,7 +104,7 @@ same_kept pending.Definition n m a b is f now e =
     let one : m.decisions ≡ a.decisions + 1 = now.decisions ∙ ap (λ (k : Kept). k.decisions) f.1 in
     let same : m.decisions ≡ n.decisions = ap (λ (k : Numbers). k.decisions) e in
     absurd (omega (arith, one, same, is.decisions))
-same_kept (Decision cs) n m a b is f now e =
+same_kept (Decision before cs) n m a b is f now e =
     let one : m.decisions ≡ a.decisions + 1 = now.decisions ∙ ap (λ (k : Kept). k.decisions) f.1 in
     let same : m.decisions ≡ n.decisions = ap (λ (k : Numbers). k.decisions) e in
     absurd (omega (arith, one, same, is.decisions))
@@ -116,8 +116,11 @@ not_both Nothing n m e h = h
 not_both Opening n m e h = h
 not_both Boot n m e h = let boot : m.boot ≡ n.boot = ap (λ (k : Numbers). k.boot) e in omega (arith, boot, h.0)
 not_both pending.Definition n m e h = let decisions : m.decisions ≡ n.decisions = ap (λ (k : Numbers). k.decisions) e in omega (arith, decisions, h.1)
-not_both (Decision cs) n m e h = let decisions : m.decisions ≡ n.decisions = ap (λ (k : Numbers). k.decisions) e in omega (arith, decisions, h.1)
+not_both (Decision before cs) n m e h = let decisions : m.decisions ≡ n.decisions = ap (λ (k : Numbers). k.decisions) e in omega (arith, decisions, h.1)
 not_both Lost n m e h = h
+
+pub follows_as : (p : Pending) (n n' m m' : Numbers) → n ≡ n' → m ≡ m' → Follow p n m → Follow p n' m'
+follows_as p n n' m m' same_n same_m f = subst (λ k. Follow p k m') same_n (subst (Follow p n) same_m f)
 
 -- WHAT WAS FOUND, by the rows of the store before
 
@@ -129,7 +132,13 @@ pub map_ok : {A E : Type 0} (r : Result A E) (P Q : A → Type 0) → ((x : A) �
 map_ok (Ok x) P Q f h = f x h
 map_ok (Err e) P Q f h = tt
 
-module _ (shape : Shape) (x y : Store) (n m : Numbers) (p : Pending) (a b : Kept) (r : Recalls shape x n p a b) (has : Bool) where
+module _ (shape : Shape) (x y : Store) (p : Pending) (a b : Kept) (r : Recalls shape x p a b) (has : Bool) where
+  abbrev n : Numbers
+  n = numbers_before x p
+
+  abbrev m : Numbers
+  m = numbers_of y
+
   abbrev T : ℕ → Tables
   T = r.rows.tables
 
@@ -140,10 +149,10 @@ module _ (shape : Shape) (x y : Store) (n m : Numbers) (p : Pending) (a b : Kept
   before_rows : Compares shape x y has [] → HasRows shape y a → IsTrue has
   before_rows c h = (c T r.rows.rows).1 (are_rows shape y a T r.rows.joins r.rows.placed h ∙ sym (unchanged shape T shape.parts))
 
-  pub found_before : m ≡ n → Compares shape x y has [] → IsTrue has ↔ (IsFoundAgain shape y m a ⊎ IsFoundAgain shape y m b)
+  pub found_before : m ≡ n → Compares shape x y has [] → IsTrue has ↔ (IsFoundAgain shape y a ⊎ IsFoundAgain shape y b)
   found_before e c = (λ is. inl (record { rows = rows_before c is; numbers = subst (λ k. AreNumbersOf k a) (sym e) r.numbers }), by)
     where
-      by : IsFoundAgain shape y m a ⊎ IsFoundAgain shape y m b → IsTrue has
+      by : IsFoundAgain shape y a ⊎ IsFoundAgain shape y b → IsTrue has
       by (inl h) = before_rows c h.rows
       by (inr h) = before_rows c (subst (HasRows shape y) (same_kept p n m a b r.numbers r.follows h.numbers e) h.rows)
 
@@ -160,7 +169,7 @@ module _ (shape : Shape) (x y : Store) (n m : Numbers) (p : Pending) (a b : Kept
     tables_behind Opening g h = absurd h
     tables_behind Boot g h = ap (λ (k : Kept). k.tables) g ∙ sym (none_made a.tables)
     tables_behind pending.Definition g h = ap (λ (k : Kept). k.tables) g.1 ∙ sym (none_made a.tables)
-    tables_behind (Decision cs) g h = ap (λ (k : Kept). k.tables) g.1
+    tables_behind (Decision before cs) g h = ap (λ (k : Kept). k.tables) g.1
     tables_behind Lost g h = absurd h
 
     joins_behind : b.tables ≡ joined (listed U 0 shape.parts)
@@ -168,15 +177,15 @@ module _ (shape : Shape) (x y : Store) (n m : Numbers) (p : Pending) (a b : Kept
         tables_behind p r.follows f ∙ ap (with_changes (changes_in p)) r.rows.joins
         ∙ sym (joined_changes shape T shape.parts (changes_in p) r.rows.placed (of_parts shape (changes_in p) parts told))
 
-    pub found_behind : IsTrue has ↔ (IsFoundAgain shape y m a ⊎ IsFoundAgain shape y m b)
+    pub found_behind : IsTrue has ↔ (IsFoundAgain shape y a ⊎ IsFoundAgain shape y b)
     found_behind = (λ is. inr (record { rows = rows_are shape y b U joins_behind placed_behind ((c T r.rows.rows).0 is); numbers = numbers_behind p n m a b r.numbers r.follows f }), by)
       where
-        by : IsFoundAgain shape y m a ⊎ IsFoundAgain shape y m b → IsTrue has
+        by : IsFoundAgain shape y a ⊎ IsFoundAgain shape y b → IsTrue has
         by (inl h) = absurd (not_both p n m (numbers_same n m a r.numbers h.numbers) f)
         by (inr h) = (c T r.rows.rows).1 (are_rows shape y b U joins_behind placed_behind h.rows)
 
   -- with other numbers neither is found
-  pub found_other : ¬ (m ≡ n) → ¬ Follow p n m → IsFoundAgain shape y m a ⊎ IsFoundAgain shape y m b → ⊥
+  pub found_other : ¬ (m ≡ n) → ¬ Follow p n m → IsFoundAgain shape y a ⊎ IsFoundAgain shape y b → ⊥
   found_other not_same not_behind (inl h) = not_same (numbers_same n m a r.numbers h.numbers)
   found_other not_same not_behind (inr h) = by (numbers_follow p n m a b r.numbers r.follows h.numbers)
     where
@@ -185,31 +194,31 @@ module _ (shape : Shape) (x y : Store) (n m : Numbers) (p : Pending) (a b : Kept
       by (inr is) = not_behind is
 
 -- no changes are pending beside a unit
-no_changes : (p : Pending) → ((cs : List Change) → p ≡ Decision cs → ⊥) → changes_in p ≡ []
+no_changes : (p : Pending) → ((before : ℕ) (cs : List Change) → p ≡ Decision before cs → ⊥) → changes_in p ≡ []
 no_changes Nothing not = refl
 no_changes Opening not = refl
 no_changes Boot not = refl
 no_changes pending.Definition not = refl
-no_changes (Decision cs) not = absurd (not cs refl)
+no_changes (Decision before cs) not = absurd (not before cs refl)
 no_changes Lost not = refl
 
 -- WHAT IS TOLD of a store y that was found, in whatever shape it is recalled
-abbrev pub Tells : (x y : Store) (n m : Numbers) → Pending → Bool → Type 0
-Tells x y n m p has = (shape : Shape) (a b : Kept) → shape_of y.decisions ≡ shape → Recalls shape x n p a b → IsTrue has ↔ (IsFoundAgain shape y m a ⊎ IsFoundAgain shape y m b)
+abbrev pub Tells : (x y : Store) → Pending → Bool → Type 0
+Tells x y p has = (shape : Shape) (a b : Kept) → shape_of y.decisions ≡ shape → Recalls shape x p a b → IsTrue has ↔ (IsFoundAgain shape y a ⊎ IsFoundAgain shape y b)
 
-module _ (x y : Store) (n m : Numbers) (p : Pending) where
-  pub tells_before : (has : Bool) (cs : List Change) → cs ≡ [] → m ≡ n → Compares (shape_of y.decisions) x y has cs → Tells x y n m p has
+module _ (x y : Store) (p : Pending) where
+  pub tells_before : (has : Bool) (cs : List Change) → cs ≡ [] → numbers_of y ≡ numbers_before x p → Compares (shape_of y.decisions) x y has cs → Tells x y p has
   tells_before has cs none same c shape a b is r =
-      found_before shape x y n m p a b r has same (subst (λ (s : Shape). Compares s x y has []) is (subst (Compares (shape_of y.decisions) x y has) none c))
+      found_before shape x y p a b r has same (subst (λ (s : Shape). Compares s x y has []) is (subst (Compares (shape_of y.decisions) x y has) none c))
 
-  pub tells_unit : (has : Bool) (cs : List Change) → p ≡ Decision cs → Every (λ (ch : Change). IsValue ch.key) cs → IsParts (shape_of y.decisions).parts → Follow p n m → Compares (shape_of y.decisions) x y has cs → Tells x y n m p has
-  tells_unit has cs unit told parts f c shape a b is r =
+  pub tells_unit : (has : Bool) (before : ℕ) (cs : List Change) → p ≡ Decision before cs → Every (λ (ch : Change). IsValue ch.key) cs → IsParts (shape_of y.decisions).parts → Follow p (numbers_before x p) (numbers_of y) → Compares (shape_of y.decisions) x y has cs → Tells x y p has
+  tells_unit has before cs unit told parts f c shape a b is r =
       let changes : cs ≡ changes_in p = sym (ap changes_in unit) in
-      found_behind shape x y n m p a b r has (subst (λ (s : Shape). IsParts s.parts) is parts) (subst (Every (λ (ch : Change). IsValue ch.key)) changes told) f
+      found_behind shape x y p a b r has (subst (λ (s : Shape). IsParts s.parts) is parts) (subst (Every (λ (ch : Change). IsValue ch.key)) changes told) f
       (subst (λ (s : Shape). Compares s x y has (changes_in p)) is (subst (Compares (shape_of y.decisions) x y has) changes c))
 
-  pub tells_others : (has : Bool) (cs : List Change) → cs ≡ [] → ((ds : List Change) → p ≡ Decision ds → ⊥) → IsParts (shape_of y.decisions).parts → Follow p n m → Compares (shape_of y.decisions) x y has cs → Tells x y n m p has
+  pub tells_others : (has : Bool) (cs : List Change) → cs ≡ [] → ((before : ℕ) (ds : List Change) → p ≡ Decision before ds → ⊥) → IsParts (shape_of y.decisions).parts → Follow p (numbers_before x p) (numbers_of y) → Compares (shape_of y.decisions) x y has cs → Tells x y p has
   tells_others has cs none not parts f c shape a b is r =
       let changes : changes_in p ≡ [] = no_changes p not in
-      found_behind shape x y n m p a b r has (subst (λ (s : Shape). IsParts s.parts) is parts) (subst (Every (λ (ch : Change). IsValue ch.key)) (sym changes) tt) f
+      found_behind shape x y p a b r has (subst (λ (s : Shape). IsParts s.parts) is parts) (subst (Every (λ (ch : Change). IsValue ch.key)) (sym changes) tt) f
       (subst (λ (s : Shape). Compares s x y has (changes_in p)) is (subst (Compares (shape_of y.decisions) x y has) (none ∙ sym changes) c))

@@ -1,9 +1,9 @@
 -- The rows in memory of a store that is held are those of what it keeps.
 use Rattle.salt_bytes.specs.Generations.{WhichLog}
-use Rattle.salt_commit.specs.Stores.{IsStore, decided_by, reading, rows_of_store}
+use Rattle.salt_commit.specs.Stores.{IsStore, decided_by, numbers_in, reading, rows_of_store}
 use Rattle.salt_commit.specs.declared.store.Store.{Store}
 use Rattle.salt_devices.specs.Holding.{HoldsIn, IsHeld}
-use Rattle.salt_devices.specs.Remembering.{AreNumbersOf, HasRows, MayFollow, Recalls, entries_of}
+use Rattle.salt_devices.specs.Remembering.{AreNumbersOf, HasRows, MayFollow, Recalls, entries_of, numbers_before, numbers_of}
 use Rattle.salt_devices.specs.declared.pending.Pending.{Pending}
 use Rattle.salt_disk.specs.Disks.{View}
 use Rattle.salt_model.specs.Kept.{Definition, Kept}
@@ -15,9 +15,8 @@ use Rattle.salt_stands.specs.Coordinator.{Coordinator}
 use Rattle.salt_stands.specs.Pieces.{PartView, listed}
 use Rattle.salt_stands.specs.Tables.{joined}
 use Rattle.salt_storage.specs.Storing.{IsSoundKept}
-use Rattle.salt_storage.specs.declared.found.Numbers.{Numbers}
 use Rattle.salt_place.specs.declared.placement.Shape.{Shape}
-use Rattle.std.proofs.Common.{List, None, Option, Some, [], ap, arith, length, refl, slice_get, subst, ℕ, ◌+◌, ◌≡◌, ◌∙◌, ◌∷◌}
+use Rattle.std.proofs.Common.{List, None, Option, Some, [], ap, arith, length, refl, slice_get, subst, sym, ℕ, ◌+◌, ◌≡◌, ◌∙◌, ◌∷◌}
 use Rattle.std.specs.Prelude.{IfSome, map, suc}
 
 pub held_in : (d : View) (shape : Shape) (o : Option Store) (x : Store) (k : Kept) → o ≡ Some x → HoldsIn d shape o k → IsHeld d shape x k
@@ -56,6 +55,15 @@ held_rows d shape x k h =
 pub rows_stay : (shape : Shape) (x y : Store) (k : Kept) → rows_of_store y ≡ rows_of_store x → HasRows shape x k → HasRows shape y k
 rows_stay shape x y k same h = record { tables = h.tables; rows = same ∙ h.rows; joins = h.joins; placed = h.placed }
 
+-- and its numbers are those of what it keeps, also in a store with the same numbers
+pub held_numbers : (d : View) (shape : Shape) (x : Store) (k : Kept) → IsHeld d shape x k → AreNumbersOf (numbers_of x) k
+held_numbers d shape x k h =
+    let holds = h.is.decisions.holds in
+    record { boot = holds.boot ∙ sym h.keeps.boot; decisions = holds.decisions ∙ sym h.keeps.decisions }
+
+pub numbers_stay : (x y : Store) (k : Kept) → numbers_in y ≡ numbers_in x → AreNumbersOf (numbers_of x) k → AreNumbersOf (numbers_of y) k
+numbers_stay x y k same h = record { boot = ap (λ (n : ℕ × ℕ). n.0) same ∙ h.boot; decisions = ap (λ (n : ℕ × ℕ). n.1) same ∙ h.decisions }
+
 -- what is held is remembered; and so is what it would be with what was being written
-pub recalls : (d : View) (shape : Shape) (x y : Store) (n : Numbers) (p : Pending) (a b : Kept) → IsHeld d shape x a → rows_of_store y ≡ rows_of_store x → AreNumbersOf n a → MayFollow p a b → IsSoundKept b → Recalls shape y n p a b
-recalls d shape x y n p a b h same numbers follows sound = record { rows = rows_stay shape x y a same (held_rows d shape x a h); numbers = numbers; follows = follows; sound = h.kept; sound_after = sound }
+pub recalls : (d : View) (shape : Shape) (x y : Store) (p : Pending) (a b : Kept) → IsHeld d shape x a → rows_of_store y ≡ rows_of_store x → AreNumbersOf (numbers_before y p) a → MayFollow p a b → IsSoundKept b → Recalls shape y p a b
+recalls d shape x y p a b h same numbers follows sound = record { rows = rows_stay shape x y a same (held_rows d shape x a h); numbers = numbers; follows = follows; sound = h.kept; sound_after = sound }

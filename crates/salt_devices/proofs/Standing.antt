@@ -1,20 +1,19 @@
 -- A database behind a call on its devices.
 use Rattle.salt_bytes.specs.Generations.{WhichLog}
 use Rattle.salt_commit.proofs.Standing.{partitions_kept}
-use Rattle.salt_commit.specs.Stores.{IsStore, decided_by, reading, rows_of_store}
+use Rattle.salt_commit.specs.Stores.{IsStore, decided_by, last_boot, last_decision, numbers_in, reading, rows_of_store}
 use Rattle.salt_commit.specs.declared.store.Store.{Store}
 use Rattle.salt_decisions.specs.Decisions.{IsDecisions}
 use Rattle.salt_decisions.specs.declared.decisions.Decisions.{Decisions}
 use Rattle.salt_commit.specs.Messages.{IsAtRest, IsNewIn, messages_of}
 use Rattle.salt_devices.proofs.Netted.{IsWithNet, held_as, held_with, net_with}
-use Rattle.salt_devices.proofs.Remembered.{held_in, recalls}
+use Rattle.salt_devices.proofs.Remembered.{held_in, held_numbers, numbers_stay, recalls}
 use Rattle.salt_devices.proofs.Started.{able_on, called, comes_again, leaves_again, opened, opens_again, settled_again, upon_again}
 use Rattle.salt_devices.proofs.Stores.{held_again, held_leaves}
 use Rattle.salt_devices.specs.Holding.{CanStart, FitsNet, HoldsIn, IsAble, IsHeld, IsNewTo, NetFits}
 use Rattle.salt_devices.specs.Leaving.{LeavesEither, LeavesAs, StandsFor}
-use Rattle.salt_devices.specs.Opened.{IsHeldAgain}
 use Rattle.salt_devices.specs.Refusing.{Finds, RefusedAs, Refuses}
-use Rattle.salt_devices.specs.Remembering.{AreNumbersOf, MayFollow, Remembers}
+use Rattle.salt_devices.specs.Remembering.{AreNumbersOf, MayFollow, Remembers, numbers_before, numbers_of}
 use Rattle.salt_devices.specs.Standing.{RestsAs, StandsHeld, StandsLeft, StandsStarted}
 use Rattle.salt_devices.specs.declared.pending.Pending.TheVariants.{Boot, Decision, Lost, Nothing, Opening}
 use Rattle.salt_devices.specs.declared.pending.Pending.TheVariants as pending
@@ -45,7 +44,7 @@ not_opening Nothing a b h is = absurd (cc is)
 not_opening Opening a b h is = h
 not_opening Boot a b h is = absurd (cc is)
 not_opening pending.Definition a b h is = absurd (cc is)
-not_opening (Decision cs) a b h is = absurd (cc is)
+not_opening (Decision before cs) a b h is = absurd (cc is)
 not_opening Lost a b h is = absurd (cc is)
 
 -- A STORE ON DEVICES that are as they were
@@ -93,20 +92,20 @@ module _ (d e : View) (same : AreUnchanged d e) where
         parts = λ p low. ap (λ bytes. part_pair p (logs_of bytes)) (sym same_bytes) ∙ is.parts p low;
       })
 
-module _ (shape : Shape) (started : Bool) (o : Option Store) (n : Numbers) (p : Pending) (d : View) where
+module _ (shape : Shape) (started : Bool) (o : Option Store) (p : Pending) (d : View) where
   -- a law: what is held is left
-  pub held_left : (k : Kept) → StandsHeld shape started o n p d k → StandsLeft shape started o n p d k k
+  pub held_left : (k : Kept) → StandsHeld shape started o p d k → StandsLeft shape started o p d k k
   held_left k h = by o h.held
     where
-      by : (o' : Option Store) → HoldsIn d shape o' k → StandsLeft shape started o' n p d k k
+      by : (o' : Option Store) → HoldsIn d shape o' k → StandsLeft shape started o' p d k k
       by None none = absurd none
       by (Some x) held = record {
         can = record { able = h.able; settled = λ is. absurd (cc (is, h.called)); opens = λ is. absurd (cc (is, h.nothing)) };
         leaves = subst (λ (b : Bool). LeavesAs b d shape k k) (sym h.called) (held_leaves d shape x k held k);
-        remembers = inr (recalls d shape x x n p k k held refl h.numbers (subst (λ q. MayFollow q k k) (sym h.nothing) refl) held.kept);
+        remembers = inr (recalls d shape x x p k k held refl (subst (λ q. AreNumbersOf (numbers_before x q) k) (sym h.nothing) (held_numbers d shape x k held)) (subst (λ q. MayFollow q k k) (sym h.nothing) refl) held.kept);
       }
 
-  module _ (x : Store) (is : o ≡ Some x) (k : Kept) (h : StandsHeld shape started o n p d k) where
+  module _ (x : Store) (is : o ≡ Some x) (k : Kept) (h : StandsHeld shape started o p d k) where
     pub the_store : IsHeld d shape x k
     the_store = held_in d shape o x k is h.held
 
@@ -114,41 +113,48 @@ module _ (shape : Shape) (started : Bool) (o : Option Store) (n : Numbers) (p : 
     the_net = subst (λ z. FitsNet z k.boot) is h.net
 
     -- behind a call that went well
-    pub goes_on : (e : View) (y : Store) (m : Numbers) (k' : Kept) → SameShape d e → IsHeld e shape y k' → AreNumbersOf m k' → NetFits y k'.boot → StandsHeld shape started (Some y) m p e k'
-    goes_on e y m k' same held numbers net = record { able = able_on shape d e same h.able; called = h.called; nothing = h.nothing; numbers = numbers; held = held; net = net }
+    pub goes_on : (e : View) (y : Store) (k' : Kept) → SameShape d e → IsHeld e shape y k' → NetFits y k'.boot → StandsHeld shape started (Some y) p e k'
+    goes_on e y k' same held net = record { able = able_on shape d e same h.able; called = h.called; nothing = h.nothing; held = held; net = net }
 
     -- where pairs were armed
-    pub pairs_armed : (y : Store) → (IsAtRest x → IsAtRest y) → ((u : Id) → IsNewIn x u → IsNewIn y u) → y ≡ record x { messages = messages_of y } → StandsHeld shape started (Some y) n p d k
-    pairs_armed y rests new rest = goes_on d y n k (same_shape d) (held_as d shape x y k rest the_store) h.numbers (record { rests = rests the_net.rests; later = λ u low. new u (the_net.later u low) })
+    pub pairs_armed : (y : Store) → (IsAtRest x → IsAtRest y) → ((u : Id) → IsNewIn x u → IsNewIn y u) → y ≡ record x { messages = messages_of y } → StandsHeld shape started (Some y) p d k
+    pairs_armed y rests new rest = goes_on d y k (same_shape d) (held_as d shape x y k rest the_store) (record { rests = rests the_net.rests; later = λ u low. new u (the_net.later u low) })
+
+    -- a store with the same numbers has those of what is kept
+    pub still_counted : (y : Store) → numbers_in y ≡ numbers_in x → AreNumbersOf (numbers_of y) k
+    still_counted y same = numbers_stay x y k same (held_numbers d shape x k the_store)
 
     -- behind one that did not, with what was being written
-    pub breaks_off : (e : View) (y : Store) (q : Pending) (k' : Kept) → SameShape d e → LeavesEither e shape k k' → rows_of_store y ≡ rows_of_store x → MayFollow q k k' → IsSoundKept k'
-        → StandsLeft shape started (Some y) n q e k k'
-    breaks_off e y q k' same leaves rows follows sound = record {
+    pub breaks_off : (e : View) (y : Store) (q : Pending) (k' : Kept) → SameShape d e → LeavesEither e shape k k' → rows_of_store y ≡ rows_of_store x → AreNumbersOf (numbers_before y q) k → MayFollow q k k' → IsSoundKept k'
+        → StandsLeft shape started (Some y) q e k k'
+    breaks_off e y q k' same leaves rows numbers follows sound = record {
       can = called shape started q d e h.called same h.able (opened q started e shape (not_opening q k k' follows));
       leaves = subst (λ (b : Bool). LeavesAs b e shape k k') (sym h.called) leaves;
-      remembers = inr (recalls d shape x y n q k k' the_store rows h.numbers follows sound);
+      remembers = inr (recalls d shape x y q k k' the_store rows numbers follows sound);
     }
 
     -- and where memory ran out within it
-    pub is_lost : (e : View) (y : Store) (q : Pending) (k' : Kept) → SameShape d e → LeavesEither e shape k k' → q ≡ Lost → StandsLeft shape started (Some y) n q e k k'
+    pub is_lost : (e : View) (y : Store) (q : Pending) (k' : Kept) → SameShape d e → LeavesEither e shape k k' → q ≡ Lost → StandsLeft shape started (Some y) q e k k'
     is_lost e y q k' same leaves lost = record {
       can = called shape started q d e h.called same h.able (opened q started e shape (λ is. let both : Lost ≡ Opening = sym lost ∙ is in cc both));
       leaves = subst (λ (b : Bool). LeavesAs b e shape k k') (sym h.called) leaves;
       remembers = inl lost;
     }
 
-    -- of a unit: memory ran out within it, or its changes are remembered and the rows are as before
-    pub unit_breaks_off : (e : View) (y : Store) (q : Pending) (cs : List Change) (conts : List Cont) (err : Halt) → SameShape d e → LeavesEither e shape k (decided k cs conts)
-        → (q ≡ Lost) ⊎ ((q ≡ Decision cs) × (err ≢ Memory)) → (err ≢ Memory → rows_of_store y ≡ rows_of_store x) → IsSoundKept (decided k cs conts)
-        → StandsLeft shape started (Some y) n q e k (decided k cs conts)
-    unit_breaks_off e y q cs conts err same leaves (inl lost) rows sound = is_lost e y q (decided k cs conts) same leaves lost
-    unit_breaks_off e y q cs conts err same leaves (inr r) rows sound =
-        breaks_off e y q (decided k cs conts) same leaves (rows r.1) (subst (λ z. MayFollow z k (decided k cs conts)) (sym r.0) (conts, refl)) sound
+    -- of a unit: memory ran out within it, or its changes and how many decisions were before it are remembered, and the rows are as before
+    pub unit_breaks_off : (e : View) (y : Store) (q : Pending) (before : ℕ) (cs : List Change) (conts : List Cont) (err : Halt) → SameShape d e → LeavesEither e shape k (decided k cs conts)
+        → (q ≡ Lost) ⊎ ((q ≡ Decision before cs) × (err ≢ Memory)) → (err ≢ Memory → rows_of_store y ≡ rows_of_store x) → before ≡ last_decision x → last_boot y ≡ last_boot x → IsSoundKept (decided k cs conts)
+        → StandsLeft shape started (Some y) q e k (decided k cs conts)
+    unit_breaks_off e y q before cs conts err same leaves (inl lost) rows counted boot sound = is_lost e y q (decided k cs conts) same leaves lost
+    unit_breaks_off e y q before cs conts err same leaves (inr r) rows counted boot sound =
+        let was = held_numbers d shape x k the_store in
+        breaks_off e y q (decided k cs conts) same leaves (rows r.1)
+        (subst (λ z. AreNumbersOf (numbers_before y z) k) (sym r.0) (record { boot = boot ∙ was.boot; decisions = counted ∙ was.decisions }))
+        (subst (λ z. MayFollow z k (decided k cs conts)) (sym r.0) (conts, refl)) sound
 
   -- where nothing was done on the devices
-  pub armed : (e : View) → AreUnchanged d e → (k : Kept) → StandsHeld shape started o n p d k → StandsHeld shape started o n p e k
-  armed e same k h = record { able = able_on shape d e same.shape h.able; called = h.called; nothing = h.nothing; numbers = h.numbers; held = by o h.held; net = h.net }
+  pub armed : (e : View) → AreUnchanged d e → (k : Kept) → StandsHeld shape started o p d k → StandsHeld shape started o p e k
+  armed e same k h = record { able = able_on shape d e same.shape h.able; called = h.called; nothing = h.nothing; held = by o h.held; net = h.net }
     where
       by : (o' : Option Store) → HoldsIn d shape o' k → HoldsIn e shape o' k
       by None none = none
@@ -171,7 +177,7 @@ module _ (shape : Shape) (started : Bool) (o : Option Store) (n : Numbers) (p : 
       rests = λ told image comes. let was : IsTrue d.told = sym again.shape.told ∙ told in h.rests was image (comes_again d e again started h.settled was image comes);
     }
 
-    pub left_again : (a b : Kept) → StandsLeft shape started o n p d a b → StandsLeft shape true o n p e a b
+    pub left_again : (a b : Kept) → StandsLeft shape started o p d a b → StandsLeft shape true o p e a b
     left_again a b h = record {
       can = record { able = able_on shape d e again.shape can.able; settled = λ is. settled_again d e again; opens = opens_again d e again started can.settled p shape can.opens };
       leaves = leaves_again d e again started can.settled shape a b h.leaves;
@@ -179,21 +185,21 @@ module _ (shape : Shape) (started : Bool) (o : Option Store) (n : Numbers) (p : 
     }
 
 -- OPENED ANEW, where the devices were started
-module _ (shape : Shape) (started : Bool) (o : Option Store) (n : Numbers) (p : Pending) (d : View)
+module _ (shape : Shape) (started : Bool) (o : Option Store) (p : Pending) (d : View)
     (is_started : started ≡ true) (x : Store) (is : o ≡ Some x) where
-  module _ (a b : Kept) (h : StandsLeft shape started o n p d a b) where
+  module _ (a b : Kept) (h : StandsLeft shape started o p d a b) where
     pub the_left : LeavesAs true d shape a b
     the_left = subst (λ (s : Bool). LeavesAs s d shape a b) is_started h.leaves
 
-    pub the_memory : Remembers shape (Some x) n p a b
-    the_memory = subst (λ v. Remembers shape v n p a b) is h.remembers
+    pub the_memory : Remembers shape (Some x) p a b
+    the_memory = subst (λ v. Remembers shape v p a b) is h.remembers
 
-    not_first : Remembers shape (Some x) n p a b → p ≡ Opening → ⊥
+    not_first : Remembers shape (Some x) p a b → p ≡ Opening → ⊥
     not_first (inl lost) first = let both : Lost ≡ Opening = sym lost ∙ first in cc both
     not_first (inr r) first = not_opening p a b r.follows first
 
     -- what an error leaves
-    pub left_behind : (e : View) → SameShape d e → LeavesEither e shape a b → StandsLeft shape false o n p e a b
+    pub left_behind : (e : View) → SameShape d e → LeavesEither e shape a b → StandsLeft shape false o p e a b
     left_behind e same leaves = record {
       can = called shape false p d e refl same h.can.able (opened p false e shape (not_first the_memory));
       leaves = leaves;
@@ -201,14 +207,16 @@ module _ (shape : Shape) (started : Bool) (o : Option Store) (n : Numbers) (p : 
     }
 
   -- what is held again
-  pub refound : (e : View) (z y : Store) (m : Numbers) (k : Kept) → SameShape d e → IsAble shape d → IsWithNet z y → IsHeldAgain e shape z m k → Reopens (StandsHeld shape false (Some y) m Nothing e) m k
-  refound e z y m k same able put h = record {
-    holding = record { able = able_on shape d e same able; called = refl; nothing = refl; numbers = h.numbers; held = held_with e shape z y k put h.held; net = net_with z y k.boot put };
-    boot = h.numbers.boot;
-    decisions = h.numbers.decisions;
-  }
+  pub refound : (e : View) (z y : Store) (m : Numbers) (k : Kept) → SameShape d e → IsAble shape d → IsWithNet z y → m ≡ numbers_of z → IsHeld e shape z k → Reopens (StandsHeld shape false (Some y) Nothing e) m k
+  refound e z y m k same able put is h =
+      let numbers = held_numbers e shape z k h in
+      record {
+        holding = record { able = able_on shape d e same able; called = refl; nothing = refl; held = held_with e shape z y k put h; net = net_with z y k.boot put };
+        boot = ap (λ (n : Numbers). n.boot) is ∙ numbers.boot;
+        decisions = ap (λ (n : Numbers). n.decisions) is ∙ numbers.decisions;
+      }
 
-  pub refound_either : (e : View) (z y : Store) (m : Numbers) (a b : Kept) → SameShape d e → IsAble shape d → IsWithNet z y → IsHeldAgain e shape z m a ⊎ IsHeldAgain e shape z m b
-      → Reopens (StandsHeld shape false (Some y) m Nothing e) m a ⊎ Reopens (StandsHeld shape false (Some y) m Nothing e) m b
-  refound_either e z y m a b same able put (inl h) = inl (refound e z y m a same able put h)
-  refound_either e z y m a b same able put (inr h) = inr (refound e z y m b same able put h)
+  pub refound_either : (e : View) (z y : Store) (m : Numbers) (a b : Kept) → SameShape d e → IsAble shape d → IsWithNet z y → m ≡ numbers_of z → IsHeld e shape z a ⊎ IsHeld e shape z b
+      → Reopens (StandsHeld shape false (Some y) Nothing e) m a ⊎ Reopens (StandsHeld shape false (Some y) Nothing e) m b
+  refound_either e z y m a b same able put is (inl h) = inl (refound e z y m a same able put is h)
+  refound_either e z y m a b same able put is (inr h) = inr (refound e z y m b same able put is h)

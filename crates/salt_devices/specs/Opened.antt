@@ -9,7 +9,6 @@ use Rattle.salt_decisions.specs.declared.kept.Kept as log
 use Rattle.salt_stands.specs.Fitting.{kept_in}
 use Rattle.salt_devices.specs.Holding.{IsHeld}
 use Rattle.salt_devices.specs.Leaving.{StandsFor}
-use Rattle.salt_devices.specs.Remembering.{AreNumbersOf}
 use Rattle.salt_disk.specs.Disks.{View}
 use Rattle.salt_found.specs.Recovered.{IsRecovered}
 use Rattle.salt_found.specs.declared.recovery.Recovered.{Recovered}
@@ -20,7 +19,6 @@ use Rattle.salt_stands.specs.CoordinatorLog.{CoordinatorLog}
 use Rattle.salt_stands.specs.Pieces.{PartView}
 use Rattle.salt_storage.specs.Storing.{IsFound}
 use Rattle.salt_storage.specs.declared.found.Found.{Found}
-use Rattle.salt_storage.specs.declared.found.Numbers.{Numbers}
 use Rattle.salt_place.specs.declared.placement.Shape.{Shape}
 use Rattle.std.specs.Prelude.{IsTrue, List, None, true, ℕ, ⊤, ◌<◌, ◌≡◌, ◌≢◌, ◌⊎◌}
 
@@ -71,8 +69,3 @@ pub record OpensAs (d e : View) (shape : Shape) (x : Store) (found : Found) : Ty
   pub held : IsHeld e shape x kept
   pub is_found : IsFound found kept
   pub stood : IsTrue d.told → StandsFor shape d.bytes kept
-
--- the store is held again, and these are its numbers
-pub record IsHeldAgain (e : View) (shape : Shape) (x : Store) (n : Numbers) (k : Kept) : Type 0 where
-  pub held : IsHeld e shape x k
-  pub numbers : AreNumbersOf n k

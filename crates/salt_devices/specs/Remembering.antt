@@ -1,5 +1,5 @@
 -- What is remembered of a database behind a call that was broken off.
-use Rattle.salt_commit.specs.Stores.{rows_of_store}
+use Rattle.salt_commit.specs.Stores.{last_boot, last_decision, rows_of_store}
 use Rattle.salt_commit.specs.declared.store.Store.{Store}
 use Rattle.salt_devices.specs.declared.pending.Pending.TheVariants.{Boot, Decision, Lost, Nothing, Opening}
 use Rattle.salt_devices.specs.declared.pending.Pending.TheVariants as pending
@@ -33,27 +33,36 @@ pub record AreNumbersOf (n : Numbers) (k : Kept) : Type 0 where
   pub boot : n.boot ≡ k.boot
   pub decisions : n.decisions ≡ k.decisions
 
+-- the numbers of a store
+abbrev pub numbers_of : Store → Numbers
+numbers_of x = record { boot = last_boot x; decisions = last_decision x }
+
+-- and those before what was being written: behind a unit that was broken off its decision may be counted or not
+abbrev pub numbers_before : Store → Pending → Numbers
+numbers_before x (Decision before cs) = record { boot = last_boot x; decisions = before }
+numbers_before x p = numbers_of x
+
 -- what is kept if that which was being written stands
 abbrev pub MayFollow : Pending → Kept → Kept → Type 0
 MayFollow Nothing a b = b ≡ a
 MayFollow Opening a b = ⊥
 MayFollow Boot a b = b ≡ booted a
 MayFollow pending.Definition a b = (d : Definition) × (b ≡ defined a d)
-MayFollow (Decision cs) a b = (conts : List Cont) × (b ≡ decided a cs conts)
+MayFollow (Decision before cs) a b = (conts : List Cont) × (b ≡ decided a cs conts)
 MayFollow Lost a b = ⊥
 
 -- the rows in memory, the numbers, and what was being written are those of the one; with what was being written it is the other
-pub record Recalls (shape : Shape) (x : Store) (n : Numbers) (p : Pending) (a b : Kept) : Type 0 where
+pub record Recalls (shape : Shape) (x : Store) (p : Pending) (a b : Kept) : Type 0 where
   pub rows : HasRows shape x a
-  pub numbers : AreNumbersOf n a
+  pub numbers : AreNumbersOf (numbers_before x p) a
   pub follows : MayFollow p a b
   pub sound : IsSoundKept a
   pub sound_after : IsSoundKept b
 
 -- or memory ran out, and then it is not reopened
-abbrev pub Remembers : Shape → Option Store → Numbers → Pending → Kept → Kept → Type 0
-Remembers shape None n p a b = ⊥
-Remembers shape (Some x) n p a b = (p ≡ Lost) ⊎ Recalls shape x n p a b
+abbrev pub Remembers : Shape → Option Store → Pending → Kept → Kept → Type 0
+Remembers shape None p a b = ⊥
+Remembers shape (Some x) p a b = (p ≡ Lost) ⊎ Recalls shape x p a b
 
 -- how an opening of what is remembered may fail: by the spent numbers of the one or the other, or halted
 abbrev pub MayTell : (a b : Kept) → OpenErr → Type 0
@@ -71,7 +80,7 @@ Follow Nothing n m = ⊥
 Follow Opening n m = ⊥
 Follow Boot n m = (m.boot ≡ n.boot + 1) × (m.decisions ≡ n.decisions)
 Follow pending.Definition n m = (m.boot ≡ n.boot) × (m.decisions ≡ n.decisions + 1)
-Follow (Decision cs) n m = (m.boot ≡ n.boot) × (m.decisions ≡ n.decisions + 1)
+Follow (Decision before cs) n m = (m.boot ≡ n.boot) × (m.decisions ≡ n.decisions + 1)
 Follow Lost n m = ⊥
 
 -- the changes of what was being written
@@ -80,10 +89,10 @@ changes_in Nothing = []
 changes_in Opening = []
 changes_in Boot = []
 changes_in pending.Definition = []
-changes_in (Decision cs) = cs
+changes_in (Decision before cs) = cs
 changes_in Lost = []
 
--- these are the rows and the numbers of what is kept
-pub record IsFoundAgain (shape : Shape) (x : Store) (n : Numbers) (k : Kept) : Type 0 where
+-- it has the rows and the numbers of what is kept
+pub record IsFoundAgain (shape : Shape) (x : Store) (k : Kept) : Type 0 where
   pub rows : HasRows shape x k
-  pub numbers : AreNumbersOf n k
+  pub numbers : AreNumbersOf (numbers_of x) k

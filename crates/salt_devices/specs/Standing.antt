@@ -2,31 +2,29 @@
 use Rattle.salt_commit.specs.declared.store.Store.{Store}
 use Rattle.salt_devices.specs.Holding.{CanStart, FitsNet, HoldsIn, IsAble}
 use Rattle.salt_devices.specs.Leaving.{CanOpen, LeavesAs, MayCome, StandsFor}
-use Rattle.salt_devices.specs.Remembering.{AreNumbersOf, Remembers}
+use Rattle.salt_devices.specs.Remembering.{Remembers}
 use Rattle.salt_disk.specs.Settling.{AreSettled}
 use Rattle.salt_devices.specs.declared.pending.Pending.TheVariants.{Nothing}
 use Rattle.salt_devices.specs.declared.pending.Pending.{Pending}
 use Rattle.salt_disk.specs.Disks.{View}
 use Rattle.salt_model.specs.Kept.{Kept}
-use Rattle.salt_storage.specs.declared.found.Numbers.{Numbers}
 use Rattle.salt_place.specs.declared.placement.Shape.{Shape}
 use Rattle.std.specs.Prelude.{Bool, IsTrue, List, Option, false, true, ℕ, ◌≡◌}
 
 module _ (shape : Shape) (started : Bool) where
-  -- a store is held, its numbers are known, and nothing is pending
-  pub record StandsHeld (o : Option Store) (n : Numbers) (p : Pending) (d : View) (k : Kept) : Type 0 where
+  -- a store is held, and nothing is pending
+  pub record StandsHeld (o : Option Store) (p : Pending) (d : View) (k : Kept) : Type 0 where
     pub able : IsAble shape d
     pub called : started ≡ false
     pub nothing : p ≡ Nothing
-    pub numbers : AreNumbersOf n k
     pub held : HoldsIn d shape o k
     pub net : FitsNet o k.boot
 
   -- the next opening comes upon the one or the other, and both are remembered
-  pub record StandsLeft (o : Option Store) (n : Numbers) (p : Pending) (d : View) (a b : Kept) : Type 0 where
+  pub record StandsLeft (o : Option Store) (p : Pending) (d : View) (a b : Kept) : Type 0 where
     pub can : CanStart shape started p d
     pub leaves : LeavesAs started d shape a b
-    pub remembers : Remembers shape o n p a b
+    pub remembers : Remembers shape o p a b
 
   -- the devices were started
   pub record StandsStarted (p : Pending) (d : View) : Type 0 where

@@ -3,11 +3,10 @@
 ghost use Rattle.salt_storage.specs.OpenErr.{OpenErr};
 ghost use Rattle.salt_commit.specs.Messages.{messages_of};
 ghost use Rattle.salt_commit.specs.Openings.{HasRoom};
-ghost use Rattle.salt_commit.specs.Stores.{shape_of_store};
-ghost use Rattle.salt_devices.specs.Holding.{setup_in};
+ghost use Rattle.salt_commit.specs.Stores.{last_boot, last_decision, shape_of_store};
+ghost use Rattle.salt_devices.specs.Holding.{IsHeld, setup_in};
 ghost use Rattle.salt_devices.specs.Leaving.{LeavesEither, LeavesAs};
-ghost use Rattle.salt_devices.specs.Opened.{IsHeldAgain};
-ghost use Rattle.salt_devices.specs.Remembering.{AreNumbersOf, Follow, IsFoundAgain, MayFollow, MayTell, Recalls, Remembers};
+ghost use Rattle.salt_devices.specs.Remembering.{AreNumbersOf, Follow, IsFoundAgain, MayFollow, MayTell, Recalls, Remembers, numbers_before, numbers_of};
 ghost use Rattle.salt_devices.specs.Standing.{RestsAs};
 ghost use Rattle.salt_disk.specs.Disks.{HasCause};
 ghost use Rattle.salt_model.specs.Kept.{Kept};
@@ -29,6 +28,29 @@ use salt_storage::{Numbers, OpenErr};
 use salt_values::{Changes, Key};
 use std::alloc::{AllocError, Global};
 
+/// The numbers of a store.
+pub fn numbers_of(store: &Store) -> Numbers
+    ensures { result ≡ numbers_of store.now }
+{
+    Numbers {
+        boot: store.last_boot(),
+        decisions: store.decisions(),
+    }
+}
+
+/// The numbers of a store before what was being written.
+fn numbers_before(store: &Store, pending: &Pending) -> Numbers
+    ensures { result ≡ numbers_before store.now pending.now }
+{
+    match pending {
+        Pending::Decision { before, .. } => Numbers {
+            boot: store.last_boot(),
+            decisions: *before,
+        },
+        _ => numbers_of(store),
+    }
+}
+
 /// Whether the one number comes next behind the other.
 fn is_next(before: u64, found: u64) -> bool
     ensures { IsTrue result ↔ (found ≡ before + 1) }
@@ -45,7 +67,7 @@ fn follow(numbers: Numbers, pending: &Pending, found: Numbers) -> bool
         Pending::Boot => {
             is_next(numbers.boot, found.boot) && found.decisions == numbers.decisions
         }
-        Pending::Definition | Pending::Decision(_) => {
+        Pending::Definition | Pending::Decision { .. } => {
             found.boot == numbers.boot && is_next(numbers.decisions, found.decisions)
         }
     }
@@ -57,25 +79,25 @@ fn is_remembered<F: Fn(PlaceKind, &Key, u32) -> u32>(
     alloc: Global,
     place: &Placement<F>,
     store: &Store,
-    found: Numbers,
     before: &Store,
-    numbers: Numbers,
     pending: &Pending,
 ) -> Result<bool, AllocError>
     requires callable { TakesEachKey (F.pre place.now.place) }
     requires answers { GivesPlaceOf (F.post place.now.place) }
     requires parts { IsParts (shape_of_store store.now).parts }
-    ensures { IfOk result (λ is. (shape : Shape) (a b : Kept) → shape_of_store store.now ≡ shape → Recalls shape before.now numbers pending.now a b
-        → IsTrue is ↔ (IsFoundAgain shape store.now found a ⊎ IsFoundAgain shape store.now found b)) }
+    ensures { IfOk result (λ is. (shape : Shape) (a b : Kept) → shape_of_store store.now ≡ shape → Recalls shape before.now pending.now a b
+        → IsTrue is ↔ (IsFoundAgain shape store.now a ⊎ IsFoundAgain shape store.now b)) }
 {
     let none = Changes::new(alloc);
+    let numbers = numbers_before(before, pending);
+    let found = numbers_of(store);
     if found == numbers {
         return store.has_rows_with(place, before, &none);
     }
     if !follow(numbers, pending, found) {
         return Ok(false);
     }
-    let Pending::Decision(changes) = pending else {
+    let Pending::Decision { changes, .. } = pending else {
         return store.has_rows_with(place, before, &none);
     };
     told_changes(changes.as_slice());
@@ -107,21 +129,20 @@ pub fn open_again<D: Disks, F: Fn(PlaceKind, &Key, u32) -> u32>(
     place: &Placement<F>,
     shape: Shape,
     before: &Store,
-    numbers: Numbers,
     pending: &Pending,
-) -> Result<(Store, Numbers), OpenErr>
+) -> Result<Store, OpenErr>
     requires callable { TakesEachKey (F.pre place.now.place) }
     requires answers { GivesPlaceOf (F.post place.now.place) }
     requires parts { IsParts shape.parts }
     requires room { HasRoom (D.view disks.old) shape.parts }
-    requires left { (a b : Kept) × LeavesAs true (D.view disks.old) shape a b × Remembers shape (Some before.now) numbers pending.now a b }
+    requires left { (a b : Kept) × LeavesAs true (D.view disks.old) shape a b × Remembers shape (Some before.now) pending.now a b }
 
-    ensures ok { IfOk result (λ made. (a b : Kept) → LeavesAs true (D.view disks.old) shape a b → Remembers shape (Some before.now) numbers pending.now a b
-        → IsHeldAgain (D.view disks.new) shape made.0 made.1 a ⊎ IsHeldAgain (D.view disks.new) shape made.0 made.1 b) }
-    ensures plain { IfOk result (λ made. messages_of made.0 ≡ None) }
-    ensures numbers { IfOk result (λ made. are_spent made.1.boot made.1.decisions ≡ false) }
+    ensures ok { IfOk result (λ store. (a b : Kept) → LeavesAs true (D.view disks.old) shape a b → Remembers shape (Some before.now) pending.now a b
+        → IsHeld (D.view disks.new) shape store a ⊎ IsHeld (D.view disks.new) shape store b) }
+    ensures plain { IfOk result (λ store. messages_of store ≡ None) }
+    ensures numbers { IfOk result (λ store. are_spent (last_boot store) (last_decision store) ≡ false) }
     ensures leaves { OnErr result ((a b : Kept) → LeavesAs true (D.view disks.old) shape a b → LeavesEither (D.view disks.new) shape a b) }
-    ensures known { IfErr result (λ e. (a b : Kept) → LeavesAs true (D.view disks.old) shape a b → Remembers shape (Some before.now) numbers pending.now a b → MayFail (RestsAs shape false (D.view disks.new)) a b e) }
+    ensures known { IfErr result (λ e. (a b : Kept) → LeavesAs true (D.view disks.old) shape a b → Remembers shape (Some before.now) pending.now a b → MayFail (RestsAs shape false (D.view disks.new)) a b e) }
     ensures full { (dev : ℕ) → result ≡ Err (OpenErr.Full dev) → ⊥ }
     ensures within { (over : Bool) → StaysWithin (setup_in shape over) (setup_in shape over) (D.view disks.old) (D.view disks.new) }
     ensures cause { HasCause (D.view disks.old) (D.view disks.new) (open_disk_err result) }
@@ -130,19 +151,13 @@ pub fn open_again<D: Disks, F: Fn(PlaceKind, &Key, u32) -> u32>(
         return Err(OpenErr::Memory);
     }
     match open_devices(alloc, disks, place, shape) {
-        Ok((store, found)) => {
-            let found = Numbers {
-                boot: found.boot,
-                decisions: found.decisions,
-            };
-            match is_remembered(alloc, place, &store, found, before, numbers, pending) {
-                Ok(true) => Ok((store, found)),
-                Ok(false) => Err(fault(disks)),
-                Err(e) => Err(e.into()),
-            }
-        }
+        Ok((store, _)) => match is_remembered(alloc, place, &store, before, pending) {
+            Ok(true) => Ok(store),
+            Ok(false) => Err(fault(disks)),
+            Err(e) => Err(e.into()),
+        },
         Err(e) => {
-            if may_answer(e, numbers, pending) {
+            if may_answer(e, numbers_before(before, pending), pending) {
                 return Err(e);
             }
             Err(fault(disks))

@@ -3,7 +3,7 @@
 ghost use Rattle.salt_devices.specs.declared.pending.Pending.TheVariants.{Nothing};
 ghost use Rattle.std.specs.Prelude.{None, true, ◌≡◌};
 
-use crate::again::open_again;
+use crate::again::{numbers_of, open_again};
 use crate::held::{begin_boot, decide_definition, decide_unit, load_rows, put_over};
 use crate::open::open_first;
 use crate::pending::{Pending, pending_opening, pending_unit};
@@ -30,8 +30,6 @@ pub struct Devices {
     // whether the devices were started, and nothing was called since
     started: bool,
     store: Option<Store>,
-    // of what is kept, before what is pending
-    numbers: Numbers,
     pending: Pending,
 }
 
@@ -50,10 +48,6 @@ impl Devices {
             over_net,
             started: true,
             store: None,
-            numbers: Numbers {
-                boot: 0,
-                decisions: 0,
-            },
             pending: Pending::Nothing,
         }
     }
@@ -66,9 +60,9 @@ impl Storage for Devices {
     ghost use Rattle.salt_devices.specs.Standing.{RestsAs, StandsHeld, StandsLeft, StandsStarted};
     ghost use Rattle.salt_devices.specs.declared.pending.Pending.TheVariants.{Opening};
 
-    ghost holds = { λ d x k. StandsHeld x.shape x.started x.store x.numbers x.pending d k };
+    ghost holds = { λ d x k. StandsHeld x.shape x.started x.store x.pending d k };
 
-    ghost leaves = { λ d x a b. StandsLeft x.shape x.started x.store x.numbers x.pending d a b };
+    ghost leaves = { λ d x a b. StandsLeft x.shape x.started x.store x.pending d a b };
 
     ghost rests = { λ d x k. RestsAs x.shape x.started d k };
 
@@ -101,10 +95,6 @@ impl Storage for Devices {
         match open_first(self.alloc, disks, place, self.shape, &self.pending) {
             Ok((store, found)) => {
                 self.store = Some(put_over(store, self.over_net));
-                self.numbers = Numbers {
-                    boot: found.boot,
-                    decisions: found.decisions,
-                };
                 self.pending = Pending::Nothing;
                 Ok(found)
             }
@@ -124,18 +114,10 @@ impl Storage for Devices {
             unreachable!()
         };
         self.started = false;
-        match open_again(
-            self.alloc,
-            disks,
-            place,
-            self.shape,
-            before,
-            self.numbers,
-            &self.pending,
-        ) {
-            Ok((store, found)) => {
+        match open_again(self.alloc, disks, place, self.shape, before, &self.pending) {
+            Ok(store) => {
+                let found = numbers_of(&store);
                 self.store = Some(put_over(store, self.over_net));
-                self.numbers = found;
                 self.pending = Pending::Nothing;
                 Ok(found)
             }
@@ -148,10 +130,7 @@ impl Storage for Devices {
             unreachable!()
         };
         match begin_boot(store, disks) {
-            Ok(boot) => {
-                self.numbers.boot = boot;
-                Ok(boot)
-            }
+            Ok(boot) => Ok(boot),
             Err(e) => {
                 self.pending = Pending::Boot;
                 Err(e)
@@ -186,13 +165,11 @@ impl Storage for Devices {
         let Some(store) = &mut self.store else {
             unreachable!()
         };
+        let before = store.decisions();
         match decide_unit(self.alloc, store, disks, place, unit, changes, made) {
-            Ok(number) => {
-                self.numbers.decisions = number;
-                Ok(number)
-            }
+            Ok(number) => Ok(number),
             Err(e) => {
-                self.pending = pending_unit(self.alloc, e, changes);
+                self.pending = pending_unit(self.alloc, e, before, changes);
                 Err(e)
             }
         }
@@ -208,10 +185,7 @@ impl Storage for Devices {
             unreachable!()
         };
         match decide_definition(store, disks, place, text) {
-            Ok(number) => {
-                self.numbers.decisions = number;
-                Ok(number)
-            }
+            Ok(number) => Ok(number),
             Err(e) => {
                 self.pending = Pending::Definition;
                 Err(e)

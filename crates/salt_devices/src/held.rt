@@ -4,7 +4,7 @@ ghost use Rattle.salt_bytes.specs.declared.moves.Move.{Move};
 ghost use Rattle.law_definitions.specs.Texts.{definition_in};
 ghost use Rattle.salt_devices.specs.Filling.{FillsIn};
 ghost use Rattle.salt_commit.specs.Messages.{IsAtRest, IsNewIn, messages_of, net_of};
-ghost use Rattle.salt_commit.specs.Stores.{rows_of_store};
+ghost use Rattle.salt_commit.specs.Stores.{last_boot, numbers_in, rows_of_store};
 ghost use Rattle.salt_devices.specs.Holding.{IsHeld, IsNewTo};
 ghost use Rattle.salt_devices.specs.Leaving.{LeavesEither};
 ghost use Rattle.salt_disk.specs.Disks.{HasCause, KeepsAll};
@@ -74,6 +74,7 @@ pub fn load_rows<D: Disks, F: Fn(PlaceKind, &Key, u32) -> u32>(
     ensures is_new { OnOk result ((u : Id) → IsNewTo (D.view disks.old) u → IsNewTo (D.view disks.new) u) }
     ensures leaves { OnErr result ((shape : Shape) (k : Kept) → IsHeld (D.view disks.old) shape store.old k → LeavesEither (D.view disks.new) shape k k) }
     ensures stay { rows_of_store store.new ≡ rows_of_store store.old }
+    ensures numbers { numbers_in store.new ≡ numbers_in store.old }
     ensures messages { messages_of store.new ≡ messages_of store.old }
     ensures full { (dev : ℕ) → result ≡ Err (DeviceFull dev) → ⊥ }
     ensures kept { KeepsAll (D.view disks.old) (D.view disks.new) (disk_err result) }
@@ -91,6 +92,7 @@ pub fn begin_boot<D: Disks>(store: &mut Store, disks: &mut D) -> Result<u64, Hal
     ensures is_new { IfOk result (λ boot. (u : Id) → u.boot ≡ boot → IsNewTo (D.view disks.new) u) }
     ensures leaves { (shape : Shape) (k : Kept) → IsHeld (D.view disks.old) shape store.old k → LeavesEither (D.view disks.new) shape k (booted k) }
     ensures stay { rows_of_store store.new ≡ rows_of_store store.old }
+    ensures same { OnErr result (numbers_in store.new ≡ numbers_in store.old) }
     ensures messages { messages_of store.new ≡ messages_of store.old }
     ensures full { (dev : ℕ) → result ≡ Err (DeviceFull dev) → (shape : Shape) (k : Kept) → IsHeld (D.view disks.old) shape store.old k → FillsIn (D.view disks.new) shape OfBoot dev }
     ensures within { (setup : Setup) (k : Kept) → IsHeld (D.view disks.old) setup.shape store.old k → StaysWithin setup setup (D.view disks.old) (D.view disks.new) }
@@ -117,6 +119,7 @@ pub fn decide_definition<D: Disks, F: Fn(PlaceKind, &Key, u32) -> u32>(
     ensures leaves { (shape : Shape) (k : Kept) (d : Definition) → IsHeld (D.view disks.old) shape store.old k → definition_in text.now ≡ Some d → MayDefine k d
         → LeavesEither (D.view disks.new) shape k (defined k d) }
     ensures stay { rows_of_store store.new ≡ rows_of_store store.old }
+    ensures same { OnErr result (numbers_in store.new ≡ numbers_in store.old) }
     ensures messages { messages_of store.new ≡ messages_of store.old }
     ensures full { (dev : ℕ) → result ≡ Err (DeviceFull dev) → (shape : Shape) (k : Kept) → IsHeld (D.view disks.old) shape store.old k → FillsIn (D.view disks.new) shape (OfDefinition text.now) dev }
     ensures within { (setup : Setup) (k : Kept) → IsHeld (D.view disks.old) setup.shape store.old k → StaysWithin setup setup (D.view disks.old) (D.view disks.new) }
@@ -156,6 +159,7 @@ pub fn decide_unit<D: Disks, F: Fn(PlaceKind, &Key, u32) -> u32>(
     ensures net { OnOk result ((shape : Shape) (k : Kept) → IsHeld (D.view disks.old) shape store.old k → net_of store.new ≡ option_map (commits unit (nodes_in shape changes.now)) (net_of store.old)) }
     ensures others_new { OnOk result ((u : Id) → is_same_id u unit ≡ false → IsNewIn store.old u → IsNewIn store.new u) }
     ensures stay { (e : Halt) → result ≡ Err e → e ≢ Memory → rows_of_store store.new ≡ rows_of_store store.old }
+    ensures boot { last_boot store.new ≡ last_boot store.old }
     ensures full { (dev : ℕ) → result ≡ Err (DeviceFull dev) → (shape : Shape) (k : Kept) → IsHeld (D.view disks.old) shape store.old k → FillsIn (D.view disks.new) shape (OfUnit unit changes.now made.now) dev }
     ensures within { (setup : Setup) (k : Kept) → IsHeld (D.view disks.old) setup.shape store.old k → StaysWithin setup setup (D.view disks.old) (D.view disks.new) }
     ensures cause { HasCause (D.view disks.old) (D.view disks.new) (disk_err result) }

@@ -17,8 +17,8 @@ pub enum Pending {
     Opening,
     Boot,
     Definition,
-    /// A unit with these changes.
-    Decision(Changes),
+    /// A unit with these changes, behind so many decisions. It may be counted or not.
+    Decision { before: u64, changes: Changes },
     /// Memory ran out within a unit, and the rows in memory may be of it or not.
     Lost,
 }
@@ -49,15 +49,15 @@ pub fn pending_opening(e: OpenErr) -> Pending
     }
 }
 
-/// What is pending behind this error of a unit's commit.
-pub fn pending_unit(alloc: Global, e: Halt, changes: &[Change]) -> Pending
-    ensures { (result ≡ Lost) ⊎ ((result ≡ Decision changes.now) × (e ≢ Memory)) }
+/// What is pending behind this error of a unit's commit, before which there were so many decisions.
+pub fn pending_unit(alloc: Global, e: Halt, before: u64, changes: &[Change]) -> Pending
+    ensures { (result ≡ Lost) ⊎ ((result ≡ Decision before changes.now) × (e ≢ Memory)) }
 {
     if matches!(e, Halt::Memory) {
         return Pending::Lost;
     }
     match copies(alloc, changes) {
-        Ok(changes) => Pending::Decision(changes),
+        Ok(changes) => Pending::Decision { before, changes },
         Err(_) => Pending::Lost,
     }
 }

@@ -197,20 +197,20 @@ opens-over lies k can_stop early over_net setup net found over begun opens = λ 
 -- an opening of what was found can be opened
 abbrev pub can_open : View → Opening Devices → ℕ → Point → Type 0
 can_open d o room p =
-    opening_lies (λ x k. StandsHeld x.shape x.started x.store x.numbers x.pending d k) (λ x a b. StandsLeft x.shape x.started x.store x.numbers x.pending d a b) d.can_stop o room p ×
+    opening_lies (λ x k. StandsHeld x.shape x.started x.store x.pending d k) (λ x a b. StandsLeft x.shape x.started x.store x.pending d a b) d.can_stop o room p ×
     LiesNet (setup_in o.storage.shape o.storage.over_net) (net_in o.storage.store) o.found p.state
 
 pub begins-found : (k : Kept) (early over_net : Bool) (o : Opening Devices) (y : Devices) (d mid : View) (story : List Event) → o.storage ≡ y → y.over_net ≡ over_net → net_in y.store ≡ net_begun (setup_in y.shape y.over_net) →
-    IsNew early k o.found o.stage o.single o.in_flight → StandsHeld y.shape y.started y.store y.numbers y.pending mid k → IsSoundKept k → IsUnfound story → CountsOpening d mid None [] story →
+    IsNew early k o.found o.stage o.single o.in_flight → StandsHeld y.shape y.started y.store y.pending mid k → IsSoundKept k → IsUnfound story → CountsOpening d mid None [] story →
     (trace : Trace) × IsToBegin (can_open mid o) (flight_of o.in_flight) (start_over k mid.can_stop early over_net) story trace × (armed_by_lines d.armed trace ≡ Some mid.armed)
 begins-found k early over_net o y d mid story same over begun new holding sound unfound counts =
     begins-over k mid.can_stop early over_net (can_open mid o) (flight_of o.in_flight) d mid story unfound sound
-    (opens-over (CanReopenAt (λ k. StandsHeld o.storage.shape o.storage.started o.storage.store o.storage.numbers o.storage.pending mid k)
-    (λ a b. StandsLeft o.storage.shape o.storage.started o.storage.store o.storage.numbers o.storage.pending mid a b) mid.can_stop o.found (opening_books o.stage) o.single o.in_flight) k mid.can_stop early over_net (setup_in o.storage.shape o.storage.over_net) (net_in o.storage.store) o.found (ap (λ (x : Devices). x.over_net) same ∙ over)
+    (opens-over (CanReopenAt (λ k. StandsHeld o.storage.shape o.storage.started o.storage.store o.storage.pending mid k)
+    (λ a b. StandsLeft o.storage.shape o.storage.started o.storage.store o.storage.pending mid a b) mid.can_stop o.found (opening_books o.stage) o.single o.in_flight) k mid.can_stop early over_net (setup_in o.storage.shape o.storage.over_net) (net_in o.storage.store) o.found (ap (λ (x : Devices). x.over_net) same ∙ over)
     (subst (λ (x : Devices). net_in x.store ≡ net_begun (setup_in x.shape x.over_net)) (sym same) begun)
-    (opened-first (λ k. StandsHeld o.storage.shape o.storage.started o.storage.store o.storage.numbers o.storage.pending mid k)
-    (λ a b. StandsLeft o.storage.shape o.storage.started o.storage.store o.storage.numbers o.storage.pending mid a b) mid.can_stop o.found o.stage o.single o.in_flight early over_net k new
-    (subst (λ (x : Devices). StandsHeld x.shape x.started x.store x.numbers x.pending mid k) (sym same) holding) sound)) (ap flight_of new.none) counts
+    (opened-first (λ k. StandsHeld o.storage.shape o.storage.started o.storage.store o.storage.pending mid k)
+    (λ a b. StandsLeft o.storage.shape o.storage.started o.storage.store o.storage.pending mid a b) mid.can_stop o.found o.stage o.single o.in_flight early over_net k new
+    (subst (λ (x : Devices). StandsHeld x.shape x.started x.store x.pending mid k) (sym same) holding) sound)) (ap flight_of new.none) counts
 
 -- AND ENDS
 
@@ -263,10 +263,10 @@ flight-is over_net status trace f told flies is = is ∙ by (over_net && ends_be
 module _ (e : View) where
   -- what the devices hold, and what a stop leaves of them
   abbrev held : Devices → Kept → Type 0
-  held x k = StandsHeld x.shape x.started x.store x.numbers x.pending e k
+  held x k = StandsHeld x.shape x.started x.store x.pending e k
 
   abbrev left : Devices → Kept → Kept → Type 0
-  left x a b = StandsLeft x.shape x.started x.store x.numbers x.pending e a b
+  left x a b = StandsLeft x.shape x.started x.store x.pending e a b
 
   abbrev rested : Devices → Kept → Type 0
   rested x k = RestsAs x.shape x.started e k
@@ -275,7 +275,7 @@ module _ (e : View) where
       IsPlayed trace → EndsFound (CanReopenAt (held x) (left x) e.can_stop found books single i)
       (λ numbers room p. LeavesOnDevices (held x) (left x) (IsSome i) found room p × IsAlone (rested x) numbers room p) (FillsIn e x.shape) status trace → EndsBehind e target status (flight_at status (flight_of i)) trace
   ends-over x target same found books single i status trace played f =
-      subst (λ (s : Shape). EndsBehind e s status (flight_at status (flight_of i)) trace) same (ends-behind x.shape x.started x.store x.numbers x.pending e found books single i status trace played f)
+      subst (λ (s : Shape). EndsBehind e s status (flight_at status (flight_of i)) trace) same (ends-behind x.shape x.started x.store x.pending e found books single i status trace played f)
 
   abbrev LeftIn : Database Devices → Option Numbers → ℕ → Point → Type 0
   LeftIn x numbers room p = database_left held left rested x numbers room p

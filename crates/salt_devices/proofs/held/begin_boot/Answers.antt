@@ -1,3 +1,4 @@
+use Rattle.salt_decisions.proofs.Appended.{on_err}
 use Rattle.salt_devices.proofs.Booting.{boot_is, boot_new, not_spent}
 use Rattle.salt_devices.proofs.Entered.{boot_held, boot_leaves}
 use Rattle.salt_devices.proofs.Filled.{boot_fills}
@@ -47,6 +48,9 @@ returns-clause-leaves g c shape k h =
 pub returns-in_err-boot-clause-leaves : goal.returns-in_err-boot-clause-leaves
 returns-in_err-boot-clause-leaves g c shape k h =
     boot_leaves (g.D.Disks.view c.args.disks.now) (g.D.Disks.view c.boot.new.disks) shape c.args.store.now k h c.in_err-boot.ensures.others.shape (Some c.in_err-boot.field-0.0) c.in_err-boot.ensures.others (λ told. c.in_err-boot.ensures.images h.which h.c h.v h.is told)
+
+pub returns-in_err-boot-clause-same : goal.returns-in_err-boot-clause-same
+returns-in_err-boot-clause-same g c = on_err _ c.in_err-boot.ensures.same
 
 pub returns-in_err-boot-clause-full : goal.returns-in_err-boot-clause-full
 returns-in_err-boot-clause-full g c dev is shape k h =

@@ -1,6 +1,7 @@
 use Rattle.salt_bytes.specs.Coordinator.{Defines, spell_entry}
 use Rattle.salt_commit.specs.Stores.{coordinator_device, coordinator_gate}
 use Rattle.salt_decisions.specs.Decisions.{next_definition}
+use Rattle.salt_decisions.proofs.Appended.{on_err}
 use Rattle.salt_devices.proofs.Booting.{decision_is}
 use Rattle.salt_devices.proofs.Entered.{definition_held, definition_leaves, may_define}
 use Rattle.salt_devices.proofs.Filled.{definition_fills}
@@ -46,6 +47,9 @@ pub returns-in_err-number-clause-leaves : goal.returns-in_err-number-clause-leav
 returns-in_err-number-clause-leaves g c shape k def h reads may =
     definition_leaves (g.D.Disks.view c.args.disks.now) (g.D.Disks.view c.define.new.disks) shape c.args.store.now k h c.in_err-number.ensures.others.shape (Some c.in_err-number.field-0.0) c.in_err-number.ensures.others c.args.text.now def
     (λ told. c.in_err-number.ensures.images h.which h.c h.v def h.is (may_define shape h.c h.v k h.keeps c.args.text.now def reads may) told)
+
+pub returns-in_err-number-clause-same : goal.returns-in_err-number-clause-same
+returns-in_err-number-clause-same g c = on_err _ c.in_err-number.ensures.same
 
 pub returns-in_err-number-clause-full : goal.returns-in_err-number-clause-full
 returns-in_err-number-clause-full g c dev is shape k h =

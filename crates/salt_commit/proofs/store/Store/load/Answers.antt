@@ -42,7 +42,7 @@ loop-after-preserved g c =
     c.in-Some.row (λ which co v is. sym c.in-Some.is ∙ c.in_ok-row.ensures.row which co v is ∙ ap (λ o. next_row c.args.reach.now.table c.args.reach.now.range o (rows_of co v)) c.as_ref.ensures.value)
     (g.D.Disks.view c.next_in.new.disks) (g.D.Disks.view c.judge.new.disks) c.next_in.new.self c.in_ok-put_row.field-0 c.put_row.new.rows.entries
     c.in_ok-row.ensures.kept c.in_ok-row.ensures.cause c.in_ok-row.ensures.stands c.in_ok-judge.ensures.kept c.in_ok-judge.ensures.cause c.in_ok-judge.ensures.meets
-    c.in_ok-put_row.ensures.key c.in_ok-put_row.ensures.entries c.in_ok-row.ensures.stay c.in_ok-row.ensures.messages
+    c.in_ok-put_row.ensures.key c.in_ok-put_row.ensures.entries c.in_ok-row.ensures.stay c.in_ok-row.ensures.numbers c.in_ok-row.ensures.messages
 
 pub returns-in_err-judge-clause-stands : goal.returns-in_err-judge-clause-stands
 returns-in_err-judge-clause-stands g c which co v is =
@@ -81,11 +81,17 @@ returns-clause-stands g c which co v is = c.in_ok-row.ensures.stands which co v 
 pub returns-in_err-row-clause-stay : goal.returns-in_err-row-clause-stay
 returns-in_err-row-clause-stay g c = c.next_in.ensures.stay ∙ c.loop-after.invariant.stay
 
+pub returns-in_err-row-clause-numbers : goal.returns-in_err-row-clause-numbers
+returns-in_err-row-clause-numbers g c = c.next_in.ensures.numbers ∙ c.loop-after.invariant.numbers
+
 pub returns-in_err-row-clause-messages : goal.returns-in_err-row-clause-messages
 returns-in_err-row-clause-messages g c = c.next_in.ensures.messages ∙ c.loop-after.invariant.messages
 
 pub returns-in_err-judge-clause-stay : goal.returns-in_err-judge-clause-stay
 returns-in_err-judge-clause-stay g c = c.next_in.ensures.stay ∙ c.loop-after.invariant.stay
+
+pub returns-in_err-judge-clause-numbers : goal.returns-in_err-judge-clause-numbers
+returns-in_err-judge-clause-numbers g c = c.next_in.ensures.numbers ∙ c.loop-after.invariant.numbers
 
 pub returns-in_err-judge-clause-messages : goal.returns-in_err-judge-clause-messages
 returns-in_err-judge-clause-messages g c = c.next_in.ensures.messages ∙ c.loop-after.invariant.messages
@@ -93,11 +99,17 @@ returns-in_err-judge-clause-messages g c = c.next_in.ensures.messages ∙ c.loop
 pub returns-in_err-put_row-clause-stay : goal.returns-in_err-put_row-clause-stay
 returns-in_err-put_row-clause-stay g c = c.next_in.ensures.stay ∙ c.loop-after.invariant.stay
 
+pub returns-in_err-put_row-clause-numbers : goal.returns-in_err-put_row-clause-numbers
+returns-in_err-put_row-clause-numbers g c = c.next_in.ensures.numbers ∙ c.loop-after.invariant.numbers
+
 pub returns-in_err-put_row-clause-messages : goal.returns-in_err-put_row-clause-messages
 returns-in_err-put_row-clause-messages g c = c.next_in.ensures.messages ∙ c.loop-after.invariant.messages
 
 pub returns-clause-stay : goal.returns-clause-stay
 returns-clause-stay g c = c.next_in.ensures.stay ∙ c.loop-after.invariant.stay
+
+pub returns-clause-numbers : goal.returns-clause-numbers
+returns-clause-numbers g c = c.next_in.ensures.numbers ∙ c.loop-after.invariant.numbers
 
 pub returns-clause-messages : goal.returns-clause-messages
 returns-clause-messages g c = c.next_in.ensures.messages ∙ c.loop-after.invariant.messages

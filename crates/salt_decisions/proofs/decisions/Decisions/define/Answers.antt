@@ -1,9 +1,9 @@
 use Rattle.salt_bytes.specs.Coordinator.{CoordinatorEntry, Defines, NumberedText, spell_entry}
 use Rattle.salt_bytes.specs.Spellable.{IsSpellableEntry}
-use Rattle.salt_decisions.proofs.Appended.{next_told, read_so, spelled_so}
+use Rattle.salt_decisions.proofs.Appended.{next_told, on_err, read_so, spelled_so}
 use Rattle.salt_decisions.proofs.Each.{map_push}
 use Rattle.salt_decisions.proofs.decisions.Decisions.define.Goals as goal
-use Rattle.salt_decisions.specs.Decisions.{IsDecisions, defined, last_decision, next_definition}
+use Rattle.salt_decisions.specs.Decisions.{IsDecisions, defined, last_decision, next_definition, numbers_in}
 use Rattle.salt_decisions.specs.Header.{numbered_of}
 use Rattle.salt_decisions.specs.declared.decisions.Decisions.{Decisions}
 use Rattle.salt_decisions.specs.declared.header.Definition.{Definition}
@@ -18,6 +18,9 @@ returns-in_err-append_entry-clause-images g c which log h =
     spelled_so (g.D.Disks.view c.append_entry.new.disks) (device_of 0 which) ((g.D.Disks.view c.args.disks.now).bytes (device_of 0 which)) (payload_in c.in_ok-frame.frame.items) (spell_entry (Defines t))
     (c.in_ok-frame.ensures.payload ∙ ap (λ (x : Decisions). spell_entry (Defines (next_definition x c.args.text.now))) c.self.view_is)
     (c.in_err-append_entry.ensures.images which log (subst (λ (x : Decisions). IsDecisions (g.D.Disks.view c.args.disks.now) x which log) (sym c.self.view_is) h).counting)
+
+pub returns-in_err-append_entry-clause-same : goal.returns-in_err-append_entry-clause-same
+returns-in_err-append_entry-clause-same g c = on_err _ (ap numbers_in c.self.view_is)
 
 pub returns-clause-images : goal.returns-clause-images
 returns-clause-images g c which log h =

@@ -3,7 +3,7 @@ use Rattle.salt_devices.proofs.Standing.{held_left}
 use Rattle.salt_devices.proofs.devices.DevicesStorage.stands.Goals as goal
 
 pub returns-clause-stays : goal.returns-clause-stays
-returns-clause-stays g c k h = held_left _ _ _ _ _ _ k h
+returns-clause-stays g c k h = held_left _ _ _ _ _ k h
 
 pub returns-clause-finds : goal.returns-clause-finds
 returns-clause-finds g c k settled rests = rests_found (g.D.Disks.view c.args.disks.now) c.args.self.now.shape c.args.self.now.started settled.started_now k rests
