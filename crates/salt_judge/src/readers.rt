@@ -19,7 +19,8 @@ use salt_audit::{Marks, mark_all};
 use salt_books::program_of;
 use salt_eval::ViewErr;
 use salt_model::{End, Event, Reach};
-use salt_values::{Change, Id, Ids, TryCopy, drop_ids, has_id};
+use salt_scheduler::shares;
+use salt_values::{Change, Id, Ids, TryCopy, drop_ids};
 use salt_verdict::{Again, Ledger, add_if, run_again};
 use sqlite_items::Items;
 use std::alloc::{AllocError, Global};
@@ -207,12 +208,6 @@ fn note_sources(
         }
         _ => Ok(()),
     }
-}
-
-fn shares(left: &[Id], right: &[Id]) -> bool
-    ensures { result ≡ shares left.now right.now }
-{
-    left.iter().any(|id| has_id(right, *id))
 }
 
 /// Adds what an early opening passed, if it named one of these.

@@ -21,4 +21,5 @@ mod turns;
 
 pub use judge::line_refusal;
 pub use kinds::is_statement_line;
+pub use refusal::shares;
 pub use scheduler::Scheduler;

@@ -88,7 +88,7 @@ fn calls(line: &Line) -> bool
 }
 
 /// Whether some of these names is among the others.
-fn shares(ids: &[Id], others: &[Id]) -> bool
+pub fn shares(ids: &[Id], others: &[Id]) -> bool
     ensures { result ≡ shares ids.now others.now }
 {
     ids.iter().any(|id| has_id(others, *id))
