@@ -17,7 +17,7 @@ use Rattle.salt_engine.proofs.Going.{flight-decides, line-stays, onwards-line}
 use Rattle.salt_engine.proofs.Halting.{halts, memory-at}
 use Rattle.salt_engine.specs.Flights.{IsInFlight, flight_of}
 use Rattle.salt_engine.specs.Performing.{BreaksOff}
-use Rattle.salt_engine.specs.Standing.{LeavesOnDevices, CanReopenAt}
+use Rattle.salt_engine.specs.Standing.{left_on_devices}
 use Rattle.salt_engine.specs.Stored.{Stored, kept_behind}
 use Rattle.salt_engine.specs.declared.flights.InFlight.{InFlight}
 use Rattle.salt_engine.specs.declared.stage.Stage.{Stage}
@@ -44,7 +44,7 @@ use Rattle.salt_storage.specs.declared.halt.Halt.{Halt}
 use Rattle.salt_storage.specs.declared.halt.Halt.TheVariants.{Memory}
 use Rattle.salt_values.specs.declared.id.Id.{Id}
 use Rattle.std.proofs.Common.{ap, arith, inl, inr, subst, sym, ◌∙◌}
-use Rattle.std.specs.Prelude.{Bool, IsSome, List, None, Option, Some, [], false, refl, true, ℕ, ⊤, ◌++◌, ◌<◌, ◌∷◌, ◌≡◌}
+use Rattle.std.specs.Prelude.{Bool, List, None, Option, Some, [], false, refl, true, ℕ, ◌++◌, ◌<◌, ◌∷◌, ◌≡◌}
 
 never-down : (p : Point) → p.state.units.phase ≡ Opening → p.state.units.phase ≡ Fallen → ⊥
 never-down p opening fallen = let no = sym opening ∙ fallen in cc
@@ -52,17 +52,17 @@ never-down p opening fallen = let no = sym opening ∙ fallen in cc
 -- BEFORE the event was told
 
 pub untold-lost : (x : Recovery) (e : Event) (p : Point) (sound : IsSoundPoint p) (t : State) → HasDoneEvent x e p.state t → p.next ≡ Some e → p.state.units.phase ≡ Opening →
-    (holds : Kept → Type 0) (leaves : Kept → Kept → Type 0) (fills : ToWrite → ℕ → Type 0) (stoppable : Bool) (found : Option Numbers) → found ≡ None → (single : Bool)
+    (holds : Kept → Type 0) (leaves : Kept → Kept → Type 0) (rests : Kept → Type 0) (fills : ToWrite → ℕ → Type 0) (stoppable : Bool) (found : Option Numbers) → found ≡ None → (single : Bool)
     (stage : Stage Recovery) (in_flight : Option InFlight) (story told : List Event) → leaves t.units.kept t.units.kept → stage ≡ at.Lost → IsInFlight in_flight (decision_in (Some e)) p.state.units →
     told ≡ story →
-    BreaksAt (λ p. CanReopenAt holds leaves stoppable found (opening_books stage) single in_flight 0 p) (λ p. LeavesOnDevices holds leaves (IsSome in_flight) found 0 p × ⊤) fills (flight_of in_flight) Memory p e story told
-untold-lost x e p sound t d comes opening holds leaves fills stoppable found unfound single stage in_flight story told left there flies same =
+    BreaksAt (left_on_devices holds leaves rests fills stoppable found (opening_books stage) single in_flight) (flight_of in_flight) Memory p e story told
+untold-lost x e p sound t d comes opening holds leaves rests fills stoppable found unfound single stage in_flight story told left there flies same =
     let flown : IsInFlight in_flight (decision_in p.next) p.state.units = subst (λ (m : Option Event). IsInFlight in_flight (decision_in m) p.state.units) (sym comes) flies in
     let behind : t.units.kept ≡ kept_behind (decision_in p.next) p.state.units =
     ap (λ (s : UnitState). s.kept) d.after.units ∙ kept-decided e p.state.units d.plain ∙ ap (λ (o : Option Event). kept_behind (decision_in o) p.state.units) (sym comes) in
     inl (
       same,
-      memory-at books_of holds leaves fills stoppable found unfound stage single in_flight p t.units.kept (flight-next p sound.trace sound.keeps (never-down p opening)) left
+      memory-at books_of holds leaves rests fills stoppable found unfound stage single in_flight p t.units.kept (flight-next p sound.trace sound.keeps (never-down p opening)) left
           (noted in_flight (decision_in p.next) p.state.units t.units.kept flown (inr (tt, behind))) (record { there = there; flies = inr flown }),
       refl,
     )
@@ -76,24 +76,24 @@ module _ (x : Recovery) (e : Event) (p : Point) (sound : IsSoundPoint p) (t : St
   abbrev pub wanted : Option Event
   wanted = meant x e p sound t d comes going
 
-  pub opens-there : {E : Type 0} (sees : E → Option Event → State → Type 0) (f : E) (given : Event) → sees f (Some given) t → Some given ≡ wanted →
-      (q : Point) × Moves (Say e) p q × IsOpenedOn sees f (Some given) q
-  opens-there sees f given state told =
+  pub opens-there : (stands_for : Option Event → State → Type 0) (given : Event) → stands_for (Some given) t → Some given ≡ wanted →
+      (q : Point) × Moves (Say e) p q × IsOpenedOn stands_for (Some given) q
+  opens-there stands_for given state told =
       (now, moves x e p sound t d comes going, record { state = state; comes = sym told; opening = (stands x e p sound t d comes going).opening })
 
   now-flies : now.flight ≡ decision_in now.next
   now-flies = flight-decides e p.flight wanted d.plain
 
-  pub opens-halts : (holds : Kept → Type 0) (leaves : Kept → Kept → Type 0) (fills : ToWrite → ℕ → Type 0) (halt : Halt) (old stoppable : Bool) (found : Option Numbers) → found ≡ None →
+  pub opens-halts : (holds : Kept → Type 0) (leaves : Kept → Kept → Type 0) (rests : Kept → Type 0) (fills : ToWrite → ℕ → Type 0) (halt : Halt) (old stoppable : Bool) (found : Option Numbers) → found ≡ None →
       (was single : Bool) (stage : Stage Recovery) (in_flight : Option InFlight) (story told : List Event) → BreaksOff leaves fills halt stage in_flight wanted t.units → p.state.can_stop ≡ old → stoppable ≡ old →
       was ≡ is_statement_line p.state.units.line → single ≡ was → IsSoundKept t.units.kept → told ≡ story ++ e ∷ [] →
-      BreaksAt (λ p. CanReopenAt holds leaves stoppable found (opening_books stage) single in_flight 0 p) (λ p. LeavesOnDevices holds leaves (IsSome in_flight) found 0 p × ⊤) fills (flight_of in_flight) halt p e story told
-  opens-halts holds leaves fills halt old stoppable found unfound was single stage in_flight story told b can same lined kept may tells = inr (
+      BreaksAt (left_on_devices holds leaves rests fills stoppable found (opening_books stage) single in_flight) (flight_of in_flight) halt p e story told
+  opens-halts holds leaves rests fills halt old stoppable found unfound was single stage in_flight story told b can same lined kept may tells = inr (
     tells,
     (
       now,
       moves x e p sound t d comes going,
-      halts books_of holds leaves fills halt stoppable found unfound stage single in_flight now b now-flies (d.after.can_stop ∙ can ∙ sym same)
+      halts books_of holds leaves rests fills halt stoppable found unfound stage single in_flight now b now-flies (d.after.can_stop ∙ can ∙ sym same)
           (kept ∙ lined ∙ ap is_statement_line (sym (onwards-line p sound e t d.plain comes d.after))) may,
     ),
   )

@@ -1,15 +1,15 @@
 -- A database is as its opening is, or its engine; and goes from the one to the other.
 use Rattle.salt_ast.specs.declared.lines.Line.{Line}
 use Rattle.salt_books.specs.declared.books.Books.{Books}
-use Rattle.salt_database.specs.Halves.{IsBehind, IsLeftBy, by_half, database_fresh, database_lies, database_net, database_sees, opening_lies, opening_sees}
+use Rattle.salt_database.specs.Halves.{IsBehind, IsLeftBy, by_half, database_fresh, database_can_reopen, database_net, database_stands_for, opening_can_reopen, opening_stands_for}
 use Rattle.salt_database.specs.declared.database.Database.{Database}
 use Rattle.salt_database.specs.declared.database.Database.TheVariants.{Closed, Moving, Open}
 use Rattle.salt_database.specs.declared.opening.Opening.{Opening}
 use Rattle.salt_disk.specs.Disks.{View}
 use Rattle.salt_engine.proofs.Flying.{none-flies}
-use Rattle.salt_engine.specs.Engines.{engine_lies, engine_sees, engine_storage}
+use Rattle.salt_engine.specs.Engines.{engine_can_reopen, engine_stands_for, engine_storage}
 use Rattle.salt_engine.specs.Flights.{IsInFlight}
-use Rattle.salt_engine.specs.Netted.{LiesNet, SeesNet}
+use Rattle.salt_engine.specs.Netted.{CanReopenNet, AgreesWithNet}
 use Rattle.salt_engine.specs.Standing.{AgreesWithState, KnowsUnits, LeavesOnDevices, ServesFrom, StandsAtEventIn}
 use Rattle.salt_engine.specs.declared.engine.Engine.{Engine}
 use Rattle.salt_engine.specs.declared.flights.InFlight.{InFlight}
@@ -32,27 +32,27 @@ use Rattle.std.specs.Prelude.{Bool, IsSome, List, None, Option, Some, ℕ, ◌�
 
 module _ {S : Type 0} (asked : S → Setup) (net : S → Option Turning) (holds : S → Kept → Type 0) (is_new : S → Id → Type 0) (stoppable : Bool) where
   abbrev of_database : Database S → Option Event → State → Type 0
-  of_database x next s = database_sees holds is_new stoppable x next s × database_net asked net x next s
+  of_database x next s = database_stands_for holds is_new stoppable x next s × database_net asked net x next s
 
   abbrev of_engine : Engine S → Option Event → State → Type 0
-  of_engine e next s = engine_sees holds is_new stoppable e next s × SeesNet (asked (engine_storage e)) (net (engine_storage e)) next s
+  of_engine e next s = engine_stands_for holds is_new stoppable e next s × AgreesWithNet (asked (engine_storage e)) (net (engine_storage e)) next s
 
   abbrev of_opening : Opening S → Option Event → State → Type 0
-  of_opening o next s = opening_sees holds is_new stoppable o next s
+  of_opening o next s = opening_stands_for holds is_new stoppable o next s
 
   -- IT IS OPEN
 
   pub open-sees : (x : Database S) (e : Engine S) (next : Option Event) (s : State) → x ≡ Open e → of_database x next s → of_engine e next s
   open-sees x e next s is h = subst (λ (y : Database S). of_database y next s) is h
 
-  pub open-at : (x : Database S) (e : Engine S) (line : Line) (next : Option Event) (p : Point) → x ≡ Open e → IsAt of_database line x next p → IsAt of_engine line e next p
+  pub open-at : (x : Database S) (e : Engine S) (line : Line) (next : Option Event) (p : Point) → x ≡ Open e → IsAt (of_database x) line next p → IsAt (of_engine e) line next p
   open-at x e line next p is h =
       record { state = open-sees x e next p.state is h.state; comes = h.comes; serves = h.serves; line = h.line }
 
-  pub at-open : (e : Engine S) (line : Line) (next : Option Event) (p : Point) → IsAt of_engine line e next p → IsAt of_database line (Open e) next p
+  pub at-open : (e : Engine S) (line : Line) (next : Option Event) (p : Point) → IsAt (of_engine e) line next p → IsAt (of_database (Open e)) line next p
   at-open e line next p h = record { state = h.state; comes = h.comes; serves = h.serves; line = h.line }
 
-  pub open-idle : (x : Database S) (e : Engine S) (p : Point) → x ≡ Open e → IsIdleAt of_database x p → IsIdleAt of_engine e p
+  pub open-idle : (x : Database S) (e : Engine S) (p : Point) → x ≡ Open e → IsIdleAt (of_database x) p → IsIdleAt (of_engine e) p
   open-idle x e p is h = record { state = open-sees x e None p.state is h.state; idle = h.idle }
 
   pub never-open : (x : Database S) (s : State) → ((e : Engine S) → x ≡ Open e → ⊥) → of_database x None s → ⊥
@@ -65,24 +65,24 @@ module _ {S : Type 0} (asked : S → Setup) (net : S → Option Turning) (holds 
   closed-sees : (x : Database S) (o : Opening S) (e : Event) (s : State) → x ≡ Closed o → of_database x (Some e) s → of_database (Closed o) (Some e) s
   closed-sees x o e s is h = subst (λ (y : Database S). of_database y (Some e) s) is h
 
-  pub closed-at : (x : Database S) (o : Opening S) (e : Event) (p : Point) → x ≡ Closed o → IsOpeningAt of_database x (Some e) p → IsOpeningAt of_opening o (Some e) p
+  pub closed-at : (x : Database S) (o : Opening S) (e : Event) (p : Point) → x ≡ Closed o → IsOpeningAt (of_database x) (Some e) p → IsOpeningAt (of_opening o) (Some e) p
   closed-at x o e p is h = record { state = (closed-sees x o e p.state is h.state).0; comes = h.comes; opening = h.opening }
 
-  pub closed-net : (x : Database S) (o : Opening S) (e : Event) (p : Point) → x ≡ Closed o → IsOpeningAt of_database x (Some e) p → SeesNet (asked o.storage) (net o.storage) (Some e) p.state
+  pub closed-net : (x : Database S) (o : Opening S) (e : Event) (p : Point) → x ≡ Closed o → IsOpeningAt (of_database x) (Some e) p → AgreesWithNet (asked o.storage) (net o.storage) (Some e) p.state
   closed-net x o e p is h = (closed-sees x o e p.state is h.state).1
 
-  pub at-closed : (o : Opening S) (e : Event) (p : Point) → IsOpeningAt of_opening o (Some e) p → SeesNet (asked o.storage) (net o.storage) (Some e) p.state → IsOpeningAt of_database (Closed o) (Some e) p
+  pub at-closed : (o : Opening S) (e : Event) (p : Point) → IsOpeningAt (of_opening o) (Some e) p → AgreesWithNet (asked o.storage) (net o.storage) (Some e) p.state → IsOpeningAt (of_database (Closed o)) (Some e) p
   at-closed o e p h sent = record { state = (h.state, sent); comes = h.comes; opening = h.opening }
 
-  pub opens-at : (o : Opening S) (room : ℕ) (p : Point) (story told : List Event) (next : Event) (h : OpensAt of_opening room p story o next told) →
-      SeesNet (asked o.storage) (net o.storage) (Some next) h.has.point.state → OpensAt of_database room p story (Closed o) next told
+  pub opens-at : (o : Opening S) (room : ℕ) (p : Point) (story told : List Event) (next : Event) (h : OpensAt (of_opening o) room p story next told) →
+      AgreesWithNet (asked o.storage) (net o.storage) (Some next) h.has.point.state → OpensAt (of_database (Closed o)) room p story next told
   opens-at o room p story told next h sent = record { has = h.has; stands = at-closed o next h.has.point h.stands sent; tells = h.tells }
 
   -- IT IS OPENED: an engine is made of its opening.
 
   pub engine-sees : (o : Opening S) (x : Scheduler) (e : Engine S) (s : State) → e.storage ≡ o.storage → ((s : State) → StandsForState x s → ServesFrom e.stage s) → e.single ≡ o.single →
       e.in_flight ≡ None → AgreesWithState (StandsAtEventIn (holds o.storage) (is_new o.storage) (at.Going x)) stoppable o.single o.in_flight None s →
-      SeesNet (asked o.storage) (net o.storage) None s → of_engine e None s
+      AgreesWithNet (asked o.storage) (net o.storage) None s → of_engine e None s
   engine-sees o x e s stored serves single none h sent =
       let f = serves s h.seen.0 in (
         record {
@@ -93,19 +93,19 @@ module _ {S : Type 0} (asked : S → Setup) (net : S → Option Turning) (holds 
           line = single ∙ h.line;
           flies = none-flies e.in_flight None s.units none refl;
         },
-        subst (λ (t : S). SeesNet (asked t) (net t) None s) (sym stored) sent,
+        subst (λ (t : S). AgreesWithNet (asked t) (net t) None s) (sym stored) sent,
       )
 
 -- WHAT CAN BE OPENED
 
 module _ {S : Type 0} (asked : S → Setup) (net : S → Option Turning) (holds : S → Kept → Type 0) (leaves : S → Kept → Kept → Type 0) (stoppable : Bool) (room : ℕ) (p : Point) where
   abbrev lies : Database S → Type 0
-  lies x = database_lies holds leaves stoppable x room p × database_fresh asked net x p.state
+  lies x = database_can_reopen holds leaves stoppable x room p × database_fresh asked net x p.state
 
-  pub closed-lies : (x : Database S) (o : Opening S) → x ≡ Closed o → lies x → opening_lies holds leaves stoppable o room p × LiesNet (asked o.storage) (net o.storage) o.found p.state
+  pub closed-lies : (x : Database S) (o : Opening S) → x ≡ Closed o → lies x → opening_can_reopen holds leaves stoppable o room p × CanReopenNet (asked o.storage) (net o.storage) o.found p.state
   closed-lies x o is h = subst lies is h
 
-  behind-lies : (e : Engine S) (o : Opening S) → IsBehind e o → engine_lies holds leaves stoppable e room p → opening_lies holds leaves stoppable o room p
+  behind-lies : (e : Engine S) (o : Opening S) → IsBehind e o → engine_can_reopen holds leaves stoppable e room p → opening_can_reopen holds leaves stoppable o room p
   behind-lies e o b h = record {
     left =
         subst (λ (i : Option InFlight). LeavesOnDevices (holds o.storage) (leaves o.storage) (IsSome i) o.found room p) (sym b.flies)
@@ -118,9 +118,9 @@ module _ {S : Type 0} (asked : S → Setup) (net : S → Option Turning) (holds 
     flies = subst (λ (i : Option InFlight). IsInFlight i p.flight p.state.units) (sym b.flies) h.flies;
   }
 
-  pub left-by : (x : Database S) (o : Opening S) → IsLeftBy x o → lies x → opening_lies holds leaves stoppable o room p × (p.state.over_net ≡ (asked o.storage).over_net)
+  pub left-by : (x : Database S) (o : Opening S) → IsLeftBy x o → lies x → opening_can_reopen holds leaves stoppable o room p × (p.state.over_net ≡ (asked o.storage).over_net)
   left-by (Closed was) o is h =
-      (subst (λ (y : Opening S). opening_lies holds leaves stoppable y room p) (sym is) h.0, h.1.over ∙ ap (λ (y : Opening S). (asked y.storage).over_net) (sym is))
+      (subst (λ (y : Opening S). opening_can_reopen holds leaves stoppable y room p) (sym is) h.0, h.1.over ∙ ap (λ (y : Opening S). (asked y.storage).over_net) (sym is))
   left-by (Open e) o b h = (behind-lies e o b h.0, h.1.over ∙ ap (λ (t : S). (asked t).over_net) (sym b.storage))
   left-by Moving o b h = absurd h.0
 

@@ -19,7 +19,7 @@ use Rattle.salt_engine.proofs.Decided.{named-unit}
 use Rattle.salt_engine.proofs.Netted.{next-sent, told-sent}
 use Rattle.salt_engine.specs.Deciding.{branches_in}
 use Rattle.salt_engine.specs.Flights.{IsInFlight}
-use Rattle.salt_engine.specs.Netted.{LiesNet, SeesNet, net_after}
+use Rattle.salt_engine.specs.Netted.{CanReopenNet, AgreesWithNet, net_after}
 use Rattle.salt_engine.specs.declared.flights.InFlight.TheVariants as asked
 use Rattle.salt_engine.specs.declared.flights.InFlight.{InFlight}
 use Rattle.salt_engine.specs.declared.stage.Stage.{Stage}
@@ -101,7 +101,7 @@ module _ (room : ℕ) (p : Point) (sound : IsSoundPoint p) (i : Option InFlight)
           flown-turned shape s.line s.kept.boot cs no_turns i p.flight p.state.units next (open-boots sound.trace sound.sound p.state.units sound.keeps.state.units) above flies flown
       by (inr rests) = resting-turned shape s.line s.kept.boot cs next no_turns (rests-only s next rests)
 
-  pub opens-net : (setup : Setup) (net : Option Turning) → p.state.over_net ≡ setup.over_net → net ≡ net_begun setup → SeesNet setup net (Some next) has.point.state
+  pub opens-net : (setup : Setup) (net : Option Turning) → p.state.over_net ≡ setup.over_net → net ≡ net_begun setup → AgreesWithNet setup net (Some next) has.point.state
   opens-net setup net over begun = record { over = has.opens.after.over_net ∙ over; sent = begun ∙ by setup.over_net }
     where
       by : (o : Bool) → (if o then Some no_turns else None) ≡ net_after setup (Some next) s (if o then Some (has.point.state.net setup.shape) else None)
@@ -113,7 +113,7 @@ module _ (room : ℕ) (p : Point) (sound : IsSoundPoint p) (i : Option InFlight)
 -- EACH NEXT EVENT, by what is sent of it
 
 pub goes-sent : (setup later : Setup) (net now : Option Turning) (e given : Event) (meant : Option Event) (p q : Point) (t : State) → After e p.state t → Moves (Say e) p q → later ≡ setup → Some given ≡ meant →
-    now ≡ net_after setup meant t.units net → SeesNet setup net (Some e) p.state → SeesNet later now (Some given) q.state
+    now ≡ net_after setup meant t.units net → AgreesWithNet setup net (Some e) p.state → AgreesWithNet later now (Some given) q.state
 goes-sent setup later net now e given meant p q t after moves asked told sent h =
     let behind : After e p.state q.state = moves.0.after in
     next-sent setup later net now meant (Some given) q.state q.state refl refl asked told (sent ∙ ap (λ (u : UnitState). net_after setup meant u net) (after.units ∙ sym behind.units))
@@ -122,12 +122,12 @@ goes-sent setup later net now e given meant p q t after moves asked told sent h 
 -- BROKEN OFF
 
 -- what was found was begun
-pub begun-found : (setup : Setup) (net : Option Turning) (numbers : Option Numbers) (stage : Stage Recovery) (s : State) → IsFoundStage numbers stage → LiesNet setup net numbers s → net ≡ net_begun setup
+pub begun-found : (setup : Setup) (net : Option Turning) (numbers : Option Numbers) (stage : Stage Recovery) (s : State) → IsFoundStage numbers stage → CanReopenNet setup net numbers s → net ≡ net_begun setup
 begun-found setup net None stage s here h = absurd here
 begun-found setup net (Some n) stage s here h = h.begun
 
 -- nothing is found
-pub unfound-lies : (was now : Setup) (net : Option Turning) (numbers : Option Numbers) (s : State) → numbers ≡ None → s.over_net ≡ was.over_net → now ≡ was → LiesNet now net numbers s
+pub unfound-lies : (was now : Setup) (net : Option Turning) (numbers : Option Numbers) (s : State) → numbers ≡ None → s.over_net ≡ was.over_net → now ≡ was → CanReopenNet now net numbers s
 unfound-lies was now net numbers s none over same = record {
   over = over ∙ ap (λ (q : Setup). q.over_net) (sym same);
   begun = subst (λ (o : Option Numbers). IfSome o (λ numbers. net ≡ net_begun now)) (sym none) tt;
@@ -139,7 +139,7 @@ if-some (Some n) P h = h
 
 -- or it was looked for
 pub looked-lies : {T E : Type 0} (r : Result T E) (was now : Setup) (net : Option Turning) (before numbers : Option Numbers) (s : State) → before ≡ None → s.over_net ≡ was.over_net → now ≡ was →
-    OnOk r (net ≡ net_begun now) → OnErr r (numbers ≡ before) → LiesNet now net numbers s
+    OnOk r (net ≡ net_begun now) → OnErr r (numbers ≡ before) → CanReopenNet now net numbers s
 looked-lies (Ok x) was now net before numbers s none over same begun err =
     record { over = over ∙ ap (λ (q : Setup). q.over_net) (sym same); begun = if-some numbers (net ≡ net_begun now) begun }
 looked-lies (Err e) was now net before numbers s none over same begun err = unfound-lies was now net numbers s (err ∙ none) over same

@@ -146,10 +146,10 @@ module _ (p : Point) (sound : IsSoundPoint p) (fallen : p.state.units.phase ≡ 
         flies = o.flies;
       }
 
-  pub opening-at : {E : Type 0} (sees : E → Option Event → State → Type 0) (e : E) (next : Event) (stage : Stage Recovery) (in_flight : Option InFlight) (story told : List Event) → IsOpeningWith p.flight number its stage in_flight next →
-      sees e (Some next) its → told ≡ story ++ Opened boot number ∷ [] → OpensAt sees room p story e next told
+  pub opening-at : (stands_for : Option Event → State → Type 0) (next : Event) (stage : Stage Recovery) (in_flight : Option InFlight) (story told : List Event) → IsOpeningWith p.flight number its stage in_flight next →
+      stands_for (Some next) its → told ≡ story ++ Opened boot number ∷ [] → OpensAt stands_for room p story next told
   unfolding has-opened
-  opening-at sees e next stage in_flight story told o seen tells = record {
+  opening-at stands_for next stage in_flight story told o seen tells = record {
     has = has-opened p sound fallen room k number boot f next_boot;
     stands = record { state = seen; comes = sym o.begins.told; opening = refl };
     tells = tells;

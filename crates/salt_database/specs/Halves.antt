@@ -6,8 +6,8 @@ use Rattle.salt_database.specs.declared.onward.Onward.TheVariants.{Next, Served}
 use Rattle.salt_database.specs.declared.onward.Onward.{Onward}
 use Rattle.salt_database.specs.declared.opening.Opening.{Opening}
 use Rattle.salt_driver.specs.Standing.{IsIdleAt, IsOpeningAt}
-use Rattle.salt_engine.specs.Engines.{engine_books, engine_flight, engine_left, engine_lies, engine_sees, engine_storage}
-use Rattle.salt_engine.specs.Netted.{LiesNet, SeesNet}
+use Rattle.salt_engine.specs.Engines.{engine_books, engine_flight, engine_stands_for_kept, engine_can_reopen, engine_stands_for, engine_storage}
+use Rattle.salt_engine.specs.Netted.{CanReopenNet, AgreesWithNet}
 use Rattle.salt_engine.specs.Flights.{flight_of}
 use Rattle.salt_engine.specs.Standing.{AgreesWithState, CanReopenAt, LeavesOnDevices, StandsAtEventIn}
 use Rattle.salt_engine.specs.Stored.{IsAlone}
@@ -27,14 +27,14 @@ use Rattle.std.specs.Prelude.{Bool, IsSome, None, Option, Some, false, ℕ, ⊤,
 
 -- AN OPENING
 
-abbrev pub opening_sees : {S : Type 0} → (holds : S → Kept → Type 0) (is_new : S → Id → Type 0) → Bool → Opening S → Option Event → State → Type 0
-opening_sees holds is_new stoppable o next s = AgreesWithState (OpensIn (holds o.storage) (is_new o.storage) o.stage) stoppable o.single o.in_flight next s × (o.found ≡ None)
+abbrev pub opening_stands_for : {S : Type 0} → (holds : S → Kept → Type 0) (is_new : S → Id → Type 0) → Bool → Opening S → Option Event → State → Type 0
+opening_stands_for holds is_new stoppable o next s = AgreesWithState (OpensIn (holds o.storage) (is_new o.storage) o.stage) stoppable o.single o.in_flight next s × (o.found ≡ None)
 
-abbrev pub opening_lies : {S : Type 0} → (holds : S → Kept → Type 0) (leaves : S → Kept → Kept → Type 0) → Bool → Opening S → ℕ → Point → Type 0
-opening_lies holds leaves stoppable o room p = CanReopenAt (holds o.storage) (leaves o.storage) stoppable o.found (opening_books o.stage) o.single o.in_flight room p
+abbrev pub opening_can_reopen : {S : Type 0} → (holds : S → Kept → Type 0) (leaves : S → Kept → Kept → Type 0) → Bool → Opening S → ℕ → Point → Type 0
+opening_can_reopen holds leaves stoppable o room p = CanReopenAt (holds o.storage) (leaves o.storage) stoppable o.found (opening_books o.stage) o.single o.in_flight room p
 
-abbrev pub opening_left : {S : Type 0} → (holds : S → Kept → Type 0) (leaves : S → Kept → Kept → Type 0) (rests : S → Kept → Type 0) → Opening S → Option Numbers → ℕ → Point → Type 0
-opening_left holds leaves rests o numbers room p = LeavesOnDevices (holds o.storage) (leaves o.storage) (IsSome o.in_flight) o.found room p × IsAlone (rests o.storage) numbers room p
+abbrev pub opening_stands_for_kept : {S : Type 0} → (holds : S → Kept → Type 0) (leaves : S → Kept → Kept → Type 0) (rests : S → Kept → Type 0) → Opening S → Option Numbers → ℕ → Point → Type 0
+opening_stands_for_kept holds leaves rests o numbers room p = LeavesOnDevices (holds o.storage) (leaves o.storage) (IsSome o.in_flight) o.found room p × IsAlone (rests o.storage) numbers room p
 
 -- what comes next behind an event of it, if it goes on
 abbrev pub next_of : Onward → Option Event
@@ -43,9 +43,9 @@ next_of (Served x) = None
 
 -- with what it gives behind an event it stands at this point: it goes on, or lines are served by a half in memory
 abbrev pub IsOnward : {S : Type 0} → (holds : S → Kept → Type 0) (is_new : S → Id → Type 0) → Bool → Opening S → Onward → Point → Type 0
-IsOnward holds is_new stoppable o (Next e) p = IsOpeningAt (λ x next s. opening_sees holds is_new stoppable x next s) o (Some e) p
+IsOnward holds is_new stoppable o (Next e) p = IsOpeningAt (opening_stands_for holds is_new stoppable o) (Some e) p
 IsOnward holds is_new stoppable o (Served x) p =
-    IsIdleAt (λ y next s. AgreesWithState (StandsAtEventIn (holds y.storage) (is_new y.storage) (Going x)) stoppable y.single y.in_flight next s) o p
+    IsIdleAt (λ next s. AgreesWithState (StandsAtEventIn (holds o.storage) (is_new o.storage) (Going x)) stoppable o.single o.in_flight next s) p
 
 -- A DATABASE is closed, and opened by an opening, or open, and served by an engine.
 
@@ -92,23 +92,23 @@ no_setup = record { shape = record { parts = 1; kind = Remainder }; over_net = f
 -- what its commits have sent, by the half that it is
 abbrev pub database_net : {S : Type 0} → (asked : S → Setup) (net : S → Option Turning) → Database S → Option Event → State → Type 0
 database_net asked net x next s =
-    IfEither (λ o. SeesNet (asked o.storage) (net o.storage) next s) (λ e. SeesNet (asked (engine_storage e)) (net (engine_storage e)) next s) x
+    IfEither (λ o. AgreesWithNet (asked o.storage) (net o.storage) next s) (λ e. AgreesWithNet (asked (engine_storage e)) (net (engine_storage e)) next s) x
 
 abbrev pub database_fresh : {S : Type 0} → (asked : S → Setup) (net : S → Option Turning) → Database S → State → Type 0
 database_fresh asked net x s =
-    IfEither (λ o. LiesNet (asked o.storage) (net o.storage) o.found s) (λ e. LiesNet (asked (engine_storage e)) (net (engine_storage e)) None s) x
+    IfEither (λ o. CanReopenNet (asked o.storage) (net o.storage) o.found s) (λ e. CanReopenNet (asked (engine_storage e)) (net (engine_storage e)) None s) x
 
-abbrev pub database_sees : {S : Type 0} → (holds : S → Kept → Type 0) (is_new : S → Id → Type 0) → Bool → Database S → Option Event → State → Type 0
-database_sees holds is_new stoppable (Open e) next s = engine_sees holds is_new stoppable e next s
-database_sees holds is_new stoppable (Closed o) (Some e) s = opening_sees holds is_new stoppable o (Some e) s
-database_sees holds is_new stoppable x next s = ⊥
+abbrev pub database_stands_for : {S : Type 0} → (holds : S → Kept → Type 0) (is_new : S → Id → Type 0) → Bool → Database S → Option Event → State → Type 0
+database_stands_for holds is_new stoppable (Open e) next s = engine_stands_for holds is_new stoppable e next s
+database_stands_for holds is_new stoppable (Closed o) (Some e) s = opening_stands_for holds is_new stoppable o (Some e) s
+database_stands_for holds is_new stoppable x next s = ⊥
 
-abbrev pub database_lies : {S : Type 0} → (holds : S → Kept → Type 0) (leaves : S → Kept → Kept → Type 0) → Bool → Database S → ℕ → Point → Type 0
-database_lies holds leaves stoppable (Open e) room p = engine_lies holds leaves stoppable e room p
-database_lies holds leaves stoppable (Closed o) room p = opening_lies holds leaves stoppable o room p
-database_lies holds leaves stoppable Moving room p = ⊥
+abbrev pub database_can_reopen : {S : Type 0} → (holds : S → Kept → Type 0) (leaves : S → Kept → Kept → Type 0) → Bool → Database S → ℕ → Point → Type 0
+database_can_reopen holds leaves stoppable (Open e) room p = engine_can_reopen holds leaves stoppable e room p
+database_can_reopen holds leaves stoppable (Closed o) room p = opening_can_reopen holds leaves stoppable o room p
+database_can_reopen holds leaves stoppable Moving room p = ⊥
 
-abbrev pub database_left : {S : Type 0} → (holds : S → Kept → Type 0) (leaves : S → Kept → Kept → Type 0) (rests : S → Kept → Type 0) → Database S → Option Numbers → ℕ → Point → Type 0
-database_left holds leaves rests (Open e) numbers room p = engine_left holds leaves rests e numbers room p
-database_left holds leaves rests (Closed o) numbers room p = opening_left holds leaves rests o numbers room p
-database_left holds leaves rests Moving numbers room p = ⊥
+abbrev pub database_stands_for_kept : {S : Type 0} → (holds : S → Kept → Type 0) (leaves : S → Kept → Kept → Type 0) (rests : S → Kept → Type 0) → Database S → Option Numbers → ℕ → Point → Type 0
+database_stands_for_kept holds leaves rests (Open e) numbers room p = engine_stands_for_kept holds leaves rests e numbers room p
+database_stands_for_kept holds leaves rests (Closed o) numbers room p = opening_stands_for_kept holds leaves rests o numbers room p
+database_stands_for_kept holds leaves rests Moving numbers room p = ⊥

@@ -4,7 +4,7 @@ use Rattle.law_states.specs.Points.{Moves, Point, Say}
 use Rattle.law_states.specs.States.{State}
 use Rattle.salt_books.specs.Coming.{event_meant}
 use Rattle.salt_books.specs.declared.coming.Coming.{Coming}
-use Rattle.salt_database.specs.Halves.{IsOnward, next_of, opening_left, opening_lies, opening_sees}
+use Rattle.salt_database.specs.Halves.{IsOnward, next_of, opening_stands_for_kept, opening_can_reopen, opening_stands_for}
 use Rattle.salt_database.specs.Performing.{GoesOnOpening, IsToOpen}
 use Rattle.salt_database.specs.Standing.{OpensIn}
 use Rattle.salt_database.specs.declared.onward.Onward.{Onward}
@@ -13,9 +13,10 @@ use Rattle.salt_disk.specs.Disks.{View}
 use Rattle.salt_drain.specs.Follows.{comes_behind}
 use Rattle.salt_drain.specs.Recovering.{behind_of}
 use Rattle.salt_drain.specs.declared.recovery.Recovery.{Recovery}
+use Rattle.salt_driver.specs.Devices.{on_devices}
 use Rattle.salt_driver.specs.Standing.{BreaksAt, IsOpeningAt, IsSoundPoint}
 use Rattle.salt_engine.specs.Flights.{flight_of}
-use Rattle.salt_engine.specs.Netted.{LiesNet, SeesNet, net_after}
+use Rattle.salt_engine.specs.Netted.{CanReopenNet, AgreesWithNet, net_after}
 use Rattle.salt_engine.specs.Performing.{ComesOut, Stays}
 use Rattle.salt_model.specs.Kept.{Kept}
 use Rattle.salt_model.specs.Phases.{Fallen}
@@ -26,7 +27,7 @@ use Rattle.salt_storage.specs.Writing.{ToWrite}
 use Rattle.salt_storage.specs.declared.found.Numbers.{Numbers}
 use Rattle.salt_storage.specs.declared.halt.Halt.{Halt}
 use Rattle.salt_values.specs.declared.id.Id.{Id}
-use Rattle.std.specs.Prelude.{Bool, List, None, Option, Result, Some, ℕ, ◌≡◌}
+use Rattle.std.specs.Prelude.{Bool, List, Option, Result, Some, ℕ, ◌≡◌}
 
 -- No call changes what is noted beside the stage, what the storage is asked for, and devices that are not of it.
 abbrev pub StaysOpening : {S : Type 0} → (asked : S → Setup) → (old new : View) (x y : Opening S) → Type 0
@@ -34,16 +35,16 @@ StaysOpening asked old new x y = Stays {A = Bool × Option Numbers} (x.single, x
 
 -- broken off, its commits go over messages still where they did, and nothing was sent since it is found what is kept
 abbrev pub StaysBegun : {S : Type 0} → (asked : S → Setup) (net : S → Option Turning) → (x y : Opening S) → Type 0
-StaysBegun asked net x y = (s : State) → LiesNet (asked x.storage) (net x.storage) x.found s → LiesNet (asked y.storage) (net y.storage) y.found s
+StaysBegun asked net x y = (s : State) → CanReopenNet (asked x.storage) (net x.storage) x.found s → CanReopenNet (asked y.storage) (net y.storage) y.found s
 
 -- BROKEN OFF, it can be opened at a point, or only what it has left is known
 
 module _ {S : Type 0} (holds : View → S → Kept → Type 0) (leaves : View → S → Kept → Kept → Type 0) where
   abbrev pub CanOpenAt : View → Opening S → ℕ → Point → Type 0
-  CanOpenAt d x room p = opening_lies (holds d) (leaves d) d.can_stop x room p
+  CanOpenAt d x room p = opening_can_reopen (holds d) (leaves d) d.can_stop x room p
 
   abbrev pub IsLeftAt : (rests : View → S → Kept → Type 0) → View → Opening S → Option Numbers → ℕ → Point → Type 0
-  IsLeftAt rests d x numbers room p = opening_left (holds d) (leaves d) (rests d) x numbers room p
+  IsLeftAt rests d x numbers room p = opening_stands_for_kept (holds d) (leaves d) (rests d) x numbers room p
 
   -- a sound run has fallen at a point, and can be opened there
   abbrev pub IsFallen : View → Opening S → Type 0
@@ -56,16 +57,16 @@ module _ {S : Type 0} (holds : View → S → Kept → Type 0) (leaves : View �
   -- it was broken off behind an event, or before it for want of memory
   abbrev pub BreaksOver : (rests : View → S → Kept → Type 0) (fills : View → S → ToWrite → ℕ → Type 0) → View → Opening S → Halt → Event → (story told : List Event) → Point → Type 0
   BreaksOver rests fills d x halt event story told p =
-      BreaksAt (CanOpenAt d x 0) (IsLeftAt rests d x None 0) (fills d x.storage) (flight_of x.in_flight) halt p event story told
+      BreaksAt (on_devices (CanOpenAt d x) (IsLeftAt rests d x) (fills d x.storage)) (flight_of x.in_flight) halt p event story told
 
 module _ {S : Type 0} (holds : View → S → Kept → Type 0) (is_new : View → S → Id → Type 0) where
   -- GOING ON: it stands for the state of a point, with the event at hand
 
-  abbrev pub SeesOver : View → Opening S → Option Event → State → Type 0
-  SeesOver d x next s = opening_sees (holds d) (is_new d) d.can_stop x next s
+  abbrev pub StandsForOver : View → Opening S → Option Event → State → Type 0
+  StandsForOver d x next s = opening_stands_for (holds d) (is_new d) d.can_stop x next s
 
   abbrev pub IsOpeningOver : View → Opening S → Event → Point → Type 0
-  IsOpeningOver d x event p = IsOpeningAt (opening_sees (holds d) (is_new d) d.can_stop) x (Some event) p
+  IsOpeningOver d x event p = IsOpeningAt (opening_stands_for (holds d) (is_new d) d.can_stop x) (Some event) p
 
   -- this is so at each sound point at which it does
   abbrev pub WhereOpening : View → Opening S → Event → (Point → Type 0) → Type 0
@@ -108,5 +109,5 @@ module _ {S : Type 0} (holds : View → S → Kept → Type 0) (is_new : View �
 
     -- the event is told: its commits have sent what those of the run have
     abbrev pub SendsOnward : View → (x y : Opening S) → Event → Onward → Type 0
-    SendsOnward d x y event onward = WhereOpening d x event (λ p. SeesNet (asked x.storage) (net x.storage) (Some event) p.state →
-        (q : Point) → Moves (Say event) p q → SeesNet (asked y.storage) (net y.storage) (next_of onward) q.state)
+    SendsOnward d x y event onward = WhereOpening d x event (λ p. AgreesWithNet (asked x.storage) (net x.storage) (Some event) p.state →
+        (q : Point) → Moves (Say event) p q → AgreesWithNet (asked y.storage) (net y.storage) (next_of onward) q.state)

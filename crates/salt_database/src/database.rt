@@ -69,19 +69,18 @@ impl<S: Drop> Database<S> {
 }
 
 impl<S: Storage + Drop> Stepping for Database<S> {
-    ghost use Rattle.salt_database.specs.Halves.{IfEither, by_half, database_flight, database_fresh, database_left, database_lies, database_net, database_sees, no_setup};
+    ghost use Rattle.salt_driver.specs.Devices.{on_devices};
+    ghost use Rattle.salt_database.specs.Halves.{IfEither, by_half, database_flight, database_fresh, database_stands_for_kept, database_can_reopen, database_net, database_stands_for, no_setup};
 
-    ghost sees = { λ d x next s. database_sees (S.holds d) (S.is_new d) d.can_stop x next s × database_net S.asked S.net x next s };
+    ghost stands_for = { λ d x next s. database_stands_for (S.holds d) (S.is_new d) d.can_stop x next s × database_net S.asked S.net x next s };
 
-    ghost lies = { λ d x room p. database_lies (S.holds d) (S.leaves d) d.can_stop x room p × database_fresh S.asked S.net x p.state };
-
-    ghost left = { λ d x numbers room p. database_left (S.holds d) (S.leaves d) (S.rests d) x numbers room p };
+    ghost on_devices = { λ d x. on_devices (λ room p. database_can_reopen (S.holds d) (S.leaves d) d.can_stop x room p × database_fresh S.asked S.net x p.state)
+        (λ numbers room p. database_stands_for_kept (S.holds d) (S.leaves d) (S.rests d) x numbers room p)
+        (λ w dev. IfEither (λ o. S.fills d o.storage w dev) (λ e. S.fills d (engine_storage e) w dev) x) };
 
     ghost flight = { database_flight };
 
     ghost asked = { λ x. by_half (λ o. S.asked o.storage) (λ e. S.asked (engine_storage e)) no_setup x };
-
-    ghost fills = { λ d x w dev. IfEither (λ o. S.fills d o.storage w dev) (λ e. S.fills d (engine_storage e) w dev) x };
 
     ghost waiting = { λ x. by_half (λ o. []) engine_waits [] x };
 

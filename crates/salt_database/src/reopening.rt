@@ -103,7 +103,7 @@ fn fallen(stage: Stage<Recovery>) -> Stage<Recovery>
 
 impl<S: Storage + Drop> Opening<S> {
     ghost use Rattle.salt_database.specs.Halves.{next_of};
-    ghost use Rattle.salt_database.specs.Openings.{BreaksOver, CanOpenAt, IsFallen, IsLeftAt, IsOpeningOver, MovesOn, SeesOver, SendsOnward, StaysBegun, WhereFallen, WhereOpening};
+    ghost use Rattle.salt_database.specs.Openings.{BreaksOver, CanOpenAt, IsFallen, IsLeftAt, IsOpeningOver, MovesOn, StandsForOver, SendsOnward, StaysBegun, WhereFallen, WhereOpening};
 
     /// Finds behind a fall what its devices stand for. What is found already is not looked for again.
     pub(crate) fn find<D: Disks, F: Fn(PlaceKind, &Key, u32) -> u32>(
@@ -116,7 +116,7 @@ impl<S: Storage + Drop> Opening<S> {
         requires settled { CanFind (S.settled (D.view disks.old) self.old.storage) (S.leaves (D.view disks.old) self.old.storage) self.old.found self.old.stage }
         ensures found { OnOk result (IsFoundStage self.new.found self.new.stage) }
         ensures again { (result ≡ Err OpenErr.Memory → ⊥) → WhereFallen S.holds S.leaves (D.view disks.old) self.old (CanOpenAt S.holds S.leaves (D.view disks.new) self.new) }
-        ensures left { WhereFallen S.holds S.leaves (D.view disks.old) self.old (IsLeftAt S.holds S.leaves S.rests (D.view disks.new) self.new (numbers_told result)) }
+        ensures stands { WhereFallen S.holds S.leaves (D.view disks.old) self.old (IsLeftAt S.holds S.leaves S.rests (D.view disks.new) self.new (numbers_told result)) }
         ensures later { IfErr result (λ e. WhereFallen S.holds S.leaves (D.view disks.old) self.old (λ room p. MayFailAt room p e)) }
         ensures flies { flight_of self.new.in_flight ≡ flight_of self.old.in_flight }
         ensures full { (dev : ℕ) → result ≡ Err (OpenErr.Full dev) → ⊥ }
@@ -134,12 +134,12 @@ impl<S: Storage + Drop> Opening<S> {
     /// the story as it was.
     pub(crate) fn open<D: Disks>(&mut self, disks: &mut D, story: &mut Story) -> Result<Event, Halt>
         requires found { IsFoundStage self.old.found self.old.stage }
-        requires lies { IsFallen S.holds S.leaves (D.view disks.old) self.old }
+        requires down { IsFallen S.holds S.leaves (D.view disks.old) self.old }
         ensures opens { IfOk result (λ next. WhereFallen S.holds S.leaves (D.view disks.old) self.old
-            (λ room p. OpensAt (SeesOver S.holds S.is_new (D.view disks.new)) room p story.old self.new next story.new)) }
-        ensures lies { IfErr result (λ halt. (halt ≡ Memory → ⊥) → WhereFallen S.holds S.leaves (D.view disks.old) self.old
+            (λ room p. OpensAt (StandsForOver S.holds S.is_new (D.view disks.new) self.new) room p story.old next story.new)) }
+        ensures reopens { IfErr result (λ halt. (halt ≡ Memory → ⊥) → WhereFallen S.holds S.leaves (D.view disks.old) self.old
             (λ room p. CanOpenAt S.holds S.leaves (D.view disks.new) self.new (room + 1) p)) }
-        ensures left { OnErr result (WhereFallen S.holds S.leaves (D.view disks.old) self.old
+        ensures stands { OnErr result (WhereFallen S.holds S.leaves (D.view disks.old) self.old
             (λ room p. IsLeftAt S.holds S.leaves S.rests (D.view disks.new) self.new None (room + 1) p)) }
         ensures flies { OnErr result (flight_of self.new.in_flight ≡ flight_of self.old.in_flight) }
         ensures untold { OnErr result (story.new ≡ story.old) }
@@ -209,7 +209,7 @@ impl<S: Storage + Drop> Opening<S> {
     /// Falls: the devices are started again.
     pub(crate) fn fall<D: Disks>(&mut self, disks: &mut D)
         requires { (room : ℕ) × ((p : Point) × CanOpenAt S.holds S.leaves (D.view disks.old) self.old room p) }
-        ensures lies { (room : ℕ) (p q : Point) → CanOpenAt S.holds S.leaves (D.view disks.old) self.old room p → IsFallenFrom p q
+        ensures reopens { (room : ℕ) (p q : Point) → CanOpenAt S.holds S.leaves (D.view disks.old) self.old room p → IsFallenFrom p q
             → CanOpenAt S.holds S.leaves (D.view disks.new) self.new room q }
         ensures settled { CanFind (S.settled (D.view disks.new) self.new.storage) (S.leaves (D.view disks.new) self.new.storage) self.new.found self.new.stage }
         ensures flies { flight_of self.new.in_flight ≡ flight_of self.old.in_flight }

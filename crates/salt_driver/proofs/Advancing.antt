@@ -11,15 +11,15 @@ use Rattle.salt_model.specs.Trace.{Asked, Start, Trace, from, lines_asked, start
 use Rattle.salt_model.specs.Words.{Every}
 use Rattle.salt_model.specs.declared.events.Event.{Event}
 use Rattle.salt_model.specs.declared.events.Flight.{Flight}
+use Rattle.salt_driver.specs.Devices.{OnDevices}
 use Rattle.salt_driver.specs.Standing.{Advances, BreaksAt, Finishes, HaltsAt, IsAt, IsInside, IsSoundPoint, RunsShort, StopsWithin}
 use Rattle.salt_storage.specs.Answers.{disk_err_of}
-use Rattle.salt_storage.specs.Writing.{ToWrite}
 use Rattle.salt_storage.specs.declared.halt.Halt.{Halt}
 use Rattle.law_types.specs.Played.{HasKey}
 use Rattle.law_types.specs.Typed.{IsTyped}
 use Rattle.salt_values.specs.declared.id.Id.{Id}
 use Rattle.std.proofs.Common.{ap, inl, inr, subst, sym, ◌∙◌}
-use Rattle.std.specs.Prelude.{List, None, Option, Some, [], false, refl, ℕ, ◌++◌, ◌∷◌, ◌≡◌, ◌⊎◌}
+use Rattle.std.specs.Prelude.{List, None, Option, Some, [], false, refl, ◌++◌, ◌∷◌, ◌≡◌, ◌⊎◌}
 
 pub append-both : (es fs gs : List Event) → (es ++ fs) ++ gs ≡ es ++ (fs ++ gs)
 append-both [] fs gs = refl
@@ -90,27 +90,27 @@ sound-asked asked p q key s n =
     }
 
 -- nothing more is told
-pub stop-at : (lies left : Point → Type 0) (fills : ToWrite → ℕ → Type 0) (flight : Option Flight) (halt : Halt) (q : Point) (told : List Event) → HaltsAt lies left fills flight halt q → StopsWithin lies left fills flight halt q told told
-stop-at lies left fills flight halt q told h = record { moves = []; point = q; runs = refl; inside = tt; tells = sym (no-more told); halts = h }
+pub stop-at : (devices : OnDevices) (flight : Option Flight) (halt : Halt) (q : Point) (told : List Event) → HaltsAt devices flight halt q → StopsWithin devices flight halt q told told
+stop-at devices flight halt q told h = record { moves = []; point = q; runs = refl; inside = tt; tells = sym (no-more told); halts = h }
 
 -- it broke off in the first event
-pub stop-first : (lies left : Point → Type 0) (fills : ToWrite → ℕ → Type 0) (flight : Option Flight) (halt : Halt) (event : Event) (q : Point) (story told : List Event) → BreaksAt lies left fills flight halt q event story told →
-    StopsWithin lies left fills flight halt q story told
-stop-first lies left fills flight halt event q story told (inl short) =
-    subst (λ (es : List Event). StopsWithin lies left fills flight halt q story es) (sym short.0) (stop-at lies left fills flight halt q story short.1)
-stop-first lies left fills flight halt event q story told (inr said) =
+pub stop-first : (devices : OnDevices) (flight : Option Flight) (halt : Halt) (event : Event) (q : Point) (story told : List Event) → BreaksAt devices flight halt q event story told →
+    StopsWithin devices flight halt q story told
+stop-first devices flight halt event q story told (inl short) =
+    subst (λ (es : List Event). StopsWithin devices flight halt q story es) (sym short.0) (stop-at devices flight halt q story short.1)
+stop-first devices flight halt event q story told (inr said) =
     let r = said.1 in record { moves = Say event ∷ []; point = r.0; runs = (r.0, r.1, refl); inside = (tt, tt); tells = said.0; halts = r.2 }
 
-module _ {E : Type 0} (sees : E → Option Event → State → Type 0) (line : Line) where
-  pub advance-none : (p : Point) (story : List Event) (e : E) (next : Option Event) → IsAt sees line e next p → Advances sees line p story e next story
+module _ {E : Type 0} (stands_for : E → Option Event → State → Type 0) (line : Line) where
+  pub advance-none : (p : Point) (story : List Event) (e : E) (next : Option Event) → IsAt (stands_for e) line next p → Advances (stands_for e) line p story next story
   advance-none p story e next at = record { moves = []; point = p; runs = refl; inside = tt; stands = at; tells = sym (no-more story) }
 
-  pub advance-once : (m : TraceStep) → IsInside m → (p q : Point) (told now : List Event) (e : E) (next : Option Event) → Moves m p q → IsAt sees line e next q →
-      now ≡ told ++ told_by (m ∷ []) → Advances sees line p told e next now
+  pub advance-once : (m : TraceStep) → IsInside m → (p q : Point) (told now : List Event) (e : E) (next : Option Event) → Moves m p q → IsAt (stands_for e) line next q →
+      now ≡ told ++ told_by (m ∷ []) → Advances (stands_for e) line p told next now
   advance-once m i p q told now e next moves at tells = record { moves = m ∷ []; point = q; runs = (q, moves, refl); inside = (i, tt); stands = at; tells = tells }
 
   pub advance-on : (old : E → Option Event → State → Type 0) (p : Point) (story told now : List Event) (e new : E) (next later : Option Event) →
-      (a : Advances old line p story e next told) → Advances sees line a.point told new later now → Advances sees line p story new later now
+      (a : Advances (old e) line p story next told) → Advances (stands_for new) line a.point told later now → Advances (stands_for new) line p story later now
   advance-on old p story told now e new next later a b = record {
     moves = a.moves ++ b.moves;
     point = b.point;
@@ -122,8 +122,8 @@ module _ {E : Type 0} (sees : E → Option Event → State → Type 0) (line : L
 
   -- a turn is told, and settles
   pub turn-on : (old : E → Option Event → State → Type 0) (b : Id) (p q : Point) (story told now : List Event) (e new : E) →
-      (a : Advances old line p story e None told) → Moves (Turn b) a.point q →
-      Advances sees line q told new None now → Advances sees line p story new None now
+      (a : Advances (old e) line p story None told) → Moves (Turn b) a.point q →
+      Advances (stands_for new) line q told None now → Advances (stands_for new) line p story None now
   turn-on old b p q story told now e new a m s = record {
     moves = a.moves ++ Turn b ∷ s.moves;
     point = s.point;
@@ -133,23 +133,23 @@ module _ {E : Type 0} (sees : E → Option Event → State → Type 0) (line : L
     tells = tells-both story told now a.moves (Turn b ∷ s.moves) a.tells s.tells;
   }
 
-  pub finish-where : (p : Point) (story told : List Event) (e : E) → (a : Advances sees line p story e None told) → next_turn_of a.point.state ≡ None →
-      Finishes sees line p story e told
+  pub finish-where : (p : Point) (story told : List Event) (e : E) → (a : Advances (stands_for e) line p story None told) → next_turn_of a.point.state ≡ None →
+      Finishes (stands_for e) line p story told
   finish-where p story told e a t = record { advances = a; idle = record { serves = a.stands.serves; next = a.stands.comes; turn = t } }
 
   -- BROKEN OFF
 
   -- for want of memory, before a move
-  pub stop-here : (lies left : Point → Type 0) (fills : ToWrite → ℕ → Type 0) (flight : Option Flight) (halt : Halt) (p : Point) (story told : List Event) (e : E) (next : Option Event) →
-      (a : Advances sees line p story e next told) → HaltsAt lies left fills flight halt a.point → StopsWithin lies left fills flight halt p story told
-  stop-here lies left fills flight halt p story told e next a h = record { moves = a.moves; point = a.point; runs = a.runs; inside = a.inside; tells = a.tells; halts = h }
+  pub stop-here : (devices : OnDevices) (flight : Option Flight) (halt : Halt) (p : Point) (story told : List Event) (e : E) (next : Option Event) →
+      (a : Advances (stands_for e) line p story next told) → HaltsAt devices flight halt a.point → StopsWithin devices flight halt p story told
+  stop-here devices flight halt p story told e next a h = record { moves = a.moves; point = a.point; runs = a.runs; inside = a.inside; tells = a.tells; halts = h }
 
   -- in telling an event
-  pub stop-saying : (lies left : Point → Type 0) (fills : ToWrite → ℕ → Type 0) (flight : Option Flight) (halt : Halt) (e : E) (event : Event) (p : Point) (story told now : List Event) →
-      (a : Advances sees line p story e (Some event) told) → BreaksAt lies left fills flight halt a.point event told now → StopsWithin lies left fills flight halt p story now
-  stop-saying lies left fills flight halt e event p story told now a (inl same) =
-      subst (λ es. StopsWithin lies left fills flight halt p story es) (sym same.0) (stop-here lies left fills flight halt p story told e (Some event) a same.1)
-  stop-saying lies left fills flight halt e event p story told now a (inr said) =
+  pub stop-saying : (devices : OnDevices) (flight : Option Flight) (halt : Halt) (e : E) (event : Event) (p : Point) (story told now : List Event) →
+      (a : Advances (stands_for e) line p story (Some event) told) → BreaksAt devices flight halt a.point event told now → StopsWithin devices flight halt p story now
+  stop-saying devices flight halt e event p story told now a (inl same) =
+      subst (λ es. StopsWithin devices flight halt p story es) (sym same.0) (stop-here devices flight halt p story told e (Some event) a same.1)
+  stop-saying devices flight halt e event p story told now a (inr said) =
       let r = said.1 in
       record {
         moves = a.moves ++ Say event ∷ [];
@@ -161,9 +161,9 @@ module _ {E : Type 0} (sees : E → Option Event → State → Type 0) (line : L
       }
 
   -- in a turn
-  pub stop-turned : (lies left : Point → Type 0) (fills : ToWrite → ℕ → Type 0) (flight : Option Flight) (halt : Halt) (b : Id) (p q : Point) (story told now : List Event) (e : E) →
-      (a : Advances sees line p story e None told) → Moves (Turn b) a.point q → StopsWithin lies left fills flight halt q told now → StopsWithin lies left fills flight halt p story now
-  stop-turned lies left fills flight halt b p q story told now e a m s = record {
+  pub stop-turned : (devices : OnDevices) (flight : Option Flight) (halt : Halt) (b : Id) (p q : Point) (story told now : List Event) (e : E) →
+      (a : Advances (stands_for e) line p story None told) → Moves (Turn b) a.point q → StopsWithin devices flight halt q told now → StopsWithin devices flight halt p story now
+  stop-turned devices flight halt b p q story told now e a m s = record {
     moves = a.moves ++ Turn b ∷ s.moves;
     point = s.point;
     runs = runs-both a.moves (Turn b ∷ s.moves) p a.point s.point a.runs (q, m, s.runs);
@@ -173,18 +173,18 @@ module _ {E : Type 0} (sees : E → Option Event → State → Type 0) (line : L
   }
 
   -- for want of memory before it, or at its first event
-  pub stop-turning : (lies left : Point → Type 0) (fills : ToWrite → ℕ → Type 0) (flight : Option Flight) (halt : Halt) (b : Id) (p : Point) (story told : List Event) (e : E) →
-      (a : Advances sees line p story e None told) →
-      RunsShort lies left fills flight halt a.point ⊎ ((q : Point) × Moves (Turn b) a.point q × HaltsAt lies left fills flight halt q) → StopsWithin lies left fills flight halt p story told
-  stop-turning lies left fills flight halt b p story told e a (inl short) = stop-here lies left fills flight halt p story told e None a short.1
-  stop-turning lies left fills flight halt b p story told e a (inr r) = stop-turned lies left fills flight halt b p r.0 story told told e a r.1 (stop-at lies left fills flight halt r.0 told r.2)
+  pub stop-turning : (devices : OnDevices) (flight : Option Flight) (halt : Halt) (b : Id) (p : Point) (story told : List Event) (e : E) →
+      (a : Advances (stands_for e) line p story None told) →
+      RunsShort devices flight halt a.point ⊎ ((q : Point) × Moves (Turn b) a.point q × HaltsAt devices flight halt q) → StopsWithin devices flight halt p story told
+  stop-turning devices flight halt b p story told e a (inl short) = stop-here devices flight halt p story told e None a short.1
+  stop-turning devices flight halt b p story told e a (inr r) = stop-turned devices flight halt b p r.0 story told told e a r.1 (stop-at devices flight halt r.0 told r.2)
 
 pub none-of : {A : Type 0} (o : Option A) → ((x : A) → o ≡ Some x → ⊥) → o ≡ None
 none-of None h = refl
 none-of (Some x) h = absurd (h x refl)
 
 -- what broken off in an event tells of the story
-pub broken-by : (lies left : Point → Type 0) (fills : ToWrite → ℕ → Type 0) (flight : Option Flight) (halt : Halt) (p : Point) (e : Event) (story told : List Event) →
-    BreaksAt lies left fills flight halt p e story told → ((told ≡ story) × (Some (disk_err_of halt) ≡ Some disk.Memory)) ⊎ ((told ≡ story ++ e ∷ []) × (is_of_run e ≡ false))
-broken-by lies left fills flight halt p e story told (inl h) = inl (h.0, ap (λ x. Some (disk_err_of x)) h.2)
-broken-by lies left fills flight halt p e story told (inr h) = inr (h.0, h.1.1.1)
+pub broken-by : (devices : OnDevices) (flight : Option Flight) (halt : Halt) (p : Point) (e : Event) (story told : List Event) →
+    BreaksAt devices flight halt p e story told → ((told ≡ story) × (Some (disk_err_of halt) ≡ Some disk.Memory)) ⊎ ((told ≡ story ++ e ∷ []) × (is_of_run e ≡ false))
+broken-by devices flight halt p e story told (inl h) = inl (h.0, ap (λ x. Some (disk_err_of x)) h.2)
+broken-by devices flight halt p e story told (inr h) = inr (h.0, h.1.1.1)

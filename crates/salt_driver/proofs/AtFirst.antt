@@ -16,6 +16,7 @@ use Rattle.law_openings.proofs.Leaving.{leaves}
 use Rattle.law_openings.proofs.Opening.{falls-again, start-point}
 use Rattle.salt_driver.proofs.Falling.{fallen_point}
 use Rattle.salt_driver.proofs.StartNames.{start-names}
+use Rattle.salt_driver.specs.Devices.{OnDevices}
 use Rattle.salt_driver.specs.Opening.{FailsToFind, FindsFirst, IsOpenedFirst, IsUnfound, IsUnopened, fallen_often, start_over, starting}
 use Rattle.salt_driver.specs.Serving.{IsDown}
 use Rattle.salt_stands.specs.Stands.{are_spent}
@@ -50,7 +51,7 @@ often-unspent : (start : Start) (times : ℕ) → Each OpensUnspent (fallen_ofte
 often-unspent start zero = tt
 often-unspent start (suc times) = (often-unspent start times, tt)
 
--- it lies there as it fell first
+-- it is there as it fell first
 unfound-point : (k : Kept) (can_stop early over : Bool) → WellKept k → (times : ℕ) →
     (p : Point) × KeepsPoint p (fallen_often (start_over k can_stop early over) times) × IsSound (fallen_often (start_over k can_stop early over) times) × IsUnopened k can_stop early over p
 unfolding fallen_point
@@ -83,9 +84,9 @@ unfound-point k can_stop early over well (suc times) =
     )
 
 -- over what was found then it is down
-pub down-at-first : (k : Kept) (can_stop early over : Bool) (lies : ℕ → Point → Type 0) (flies : Option Flight) (story : List Event) → IsUnfound story → IsSoundKept k →
-    IsOpenedFirst lies k can_stop early over → flies ≡ None → (trace : Trace) × IsDown lies flies (start_over k can_stop early over) story trace × (lines_asked trace ≡ [])
-down-at-first k can_stop early over lies flies story u sound opens none =
+pub down-at-first : (k : Kept) (can_stop early over : Bool) (devices : OnDevices) (flies : Option Flight) (story : List Event) → IsUnfound story → IsSoundKept k →
+    IsOpenedFirst devices.can_reopen_at k can_stop early over → flies ≡ None → (trace : Trace) × IsDown devices flies (start_over k can_stop early over) story trace × (lines_asked trace ≡ [])
+down-at-first k can_stop early over devices flies story u sound opens none =
     let start = start_over k can_stop early over in
     let times = u.0 in
     let trace = fallen_often start times in

@@ -12,9 +12,9 @@ use Rattle.law_openings.specs.Draining.{CanDrain, rests_behind, statements_at}
 use Rattle.salt_model.specs.Rests.{statements_in, statements_told}
 use Rattle.salt_driver.proofs.Advancing.{inside-both, runs-both, tells-both, told-both}
 use Rattle.salt_driver.proofs.Openings.{opening-on}
+use Rattle.salt_driver.specs.Devices.{OnDevices}
 use Rattle.salt_driver.specs.Draining.{BreaksWithin, CountsOff, CountsSteps, MayTick, units_in, units_told}
 use Rattle.salt_driver.specs.Standing.{BreaksAt, IsOpenedOn, IsOpeningAt, IsSoundPoint, OpensOn}
-use Rattle.salt_storage.specs.Writing.{ToWrite}
 use Rattle.salt_storage.specs.declared.halt.Halt.{Halt}
 use Rattle.std.proofs.Common.{ap, arith, get_or, inl, inr, sym, take, ◌∙◌}
 use Rattle.std.proofs.lemmas.List.{take_more}
@@ -68,26 +68,26 @@ one-at-hand None = omega arith
 one-at-hand (Some e) = one-at-most e
 
 -- by the events of an opening it has come from a point to where it stands, with the steps for them and for what is at hand
-pub record Drains {E : Type 0} (sees : E → Option Event → State → Type 0) (p : Point) (first : Event) (story : List Event) (e : E) (next : Option Event)
+pub record Drains {E : Type 0} (stands_for : E → Option Event → State → Type 0) (p : Point) (first : Event) (story : List Event) (e : E) (next : Option Event)
     (told : List Event) (old new : ℕ) : Type 0 where
-  pub on : OpensOn sees p story e next told
+  pub on : OpensOn (stands_for e) p story next told
   pub ticks : new + statements_in first ≡ old + statements_told (told_by on.moves) + statements_at next
   pub most : CanDrain (units_after first p.state.units).kept → new ≤ old + rests_behind first p.state.units
 
-pub drains-none : {E : Type 0} (sees : E → Option Event → State → Type 0) (p : Point) (first : Event) (story : List Event) (e : E) (steps : ℕ) → IsOpeningAt sees e (Some first) p →
-    Drains sees p first story e (Some first) story steps steps
-drains-none sees p first story e steps at = record {
+pub drains-none : {E : Type 0} (stands_for : E → Option Event → State → Type 0) (p : Point) (first : Event) (story : List Event) (e : E) (steps : ℕ) → IsOpeningAt (stands_for e) (Some first) p →
+    Drains stands_for p first story e (Some first) story steps steps
+drains-none stands_for p first story e steps at = record {
   on = record { moves = []; point = p; runs = refl; inside = tt; stands = at; tells = sym (no-more story) };
   ticks = omega arith;
   most = λ can. omega arith;
 }
 
-pub drains-counted : {E : Type 0} (sees : E → Option Event → State → Type 0) (p : Point) (first : Event) (story : List Event) (e : E) (told : List Event) (old new : ℕ) →
-    Drains sees p first story e None told old new → CountsSteps first story told old new 0
-drains-counted sees p first story e told old new d = record { more = told_by d.on.moves; grows = d.on.tells; ticks = d.ticks }
+pub drains-counted : {E : Type 0} (stands_for : E → Option Event → State → Type 0) (p : Point) (first : Event) (story : List Event) (e : E) (told : List Event) (old new : ℕ) →
+    Drains stands_for p first story e None told old new → CountsSteps first story told old new 0
+drains-counted stands_for p first story e told old new d = record { more = told_by d.on.moves; grows = d.on.tells; ticks = d.ticks }
 
-module _ {E : Type 0} (sees : E → Option Event → State → Type 0) (p : Point) (sound : IsSoundPoint p) (first : Event) (comes : p.next ≡ Some first) (opening : p.state.units.phase ≡ Opening)
-    (story : List Event) (e : E) (event : Event) (told : List Event) (old steps : ℕ) (d : Drains sees p first story e (Some event) told old steps) where
+module _ {E : Type 0} (stands_for : E → Option Event → State → Type 0) (p : Point) (sound : IsSoundPoint p) (first : Event) (comes : p.next ≡ Some first) (opening : p.state.units.phase ≡ Opening)
+    (story : List Event) (e : E) (event : Event) (told : List Event) (old steps : ℕ) (d : Drains stands_for p first story e (Some event) told old steps) where
   -- the moves with this one
   abbrev pub moves-on : List TraceStep
   moves-on = d.on.moves ++ Say event ∷ []
@@ -107,7 +107,7 @@ module _ {E : Type 0} (sees : E → Option Event → State → Type 0) (p : Poin
       omega arith
 
   pub drains-on : {F : Type 0} (now : F → Option Event → State → Type 0) (f : F) (next : Option Event) (new_told : List Event) (new : ℕ) → (q : Point) → Moves (Say event) d.on.point q →
-      IsOpenedOn now f next q → new_told ≡ told ++ event ∷ [] → new ≡ steps + statements_at next → Drains now p first story f next new_told old new
+      IsOpenedOn (now f) next q → new_told ≡ told ++ event ∷ [] → new ≡ steps + statements_at next → Drains now p first story f next new_told old new
   drains-on now f next new_told new q m stands tells same = record {
     on = record {
       moves = moves-on;
@@ -121,15 +121,15 @@ module _ {E : Type 0} (sees : E → Option Event → State → Type 0) (p : Poin
     most = λ can. most-on can q m next (comes-next next stands) new same;
   }
     where
-      comes-next : (o : Option Event) → IsOpenedOn now f o q → q.next ≡ o
+      comes-next : (o : Option Event) → IsOpenedOn (now f) o q → q.next ≡ o
       comes-next None h = h.idle.next
       comes-next (Some g) h = h.comes
 
   -- IT BREAKS OFF
 
-  pub drains-breaks : (lies left : Point → Type 0) (fills : ToWrite → ℕ → Type 0) (flight : Option Flight) (halt : Halt) (now : List Event) →
-      BreaksAt lies left fills flight halt d.on.point event told now → BreaksWithin lies left fills flight halt p story now
-  drains-breaks lies left fills flight halt now b = record {
+  pub drains-breaks : (devices : OnDevices) (flight : Option Flight) (halt : Halt) (now : List Event) →
+      BreaksAt devices flight halt d.on.point event told now → BreaksWithin devices flight halt p story now
+  drains-breaks devices flight halt now b = record {
     moves = d.on.moves;
     point = d.on.point;
     event = event;
@@ -144,13 +144,13 @@ module _ {E : Type 0} (sees : E → Option Event → State → Type 0) (p : Poin
   grows-on : (now : List Event) → now ≡ told ++ event ∷ [] → now ≡ story ++ told_by moves-on
   grows-on now tells = tells-both story told now d.on.moves (Say event ∷ []) d.on.tells tells
 
-  pub drains-short : (lies left : Point → Type 0) (fills : ToWrite → ℕ → Type 0) (flight : Option Flight) (halt : Halt) (now : List Event) (new : ℕ) →
-      BreaksAt lies left fills flight halt d.on.point event told now → MayTick d.on.point event told now steps new → CountsOff first story now old new
-  drains-short lies left fills flight halt now new (inl short) (inl same) =
+  pub drains-short : (devices : OnDevices) (flight : Option Flight) (halt : Halt) (now : List Event) (new : ℕ) →
+      BreaksAt devices flight halt d.on.point event told now → MayTick d.on.point event told now steps new → CountsOff first story now old new
+  drains-short devices flight halt now new (inl short) (inl same) =
       (statements_in event, one-at-most event, record { more = told_by d.on.moves; grows = short.0 ∙ d.on.tells; ticks = let ticks = d.ticks in omega arith })
-  drains-short lies left fills flight halt now new (inr said) (inl same) =
+  drains-short devices flight halt now new (inr said) (inl same) =
       (0, omega arith, record { more = told_by moves-on; grows = grows-on now said.0; ticks = let count = statements-on d.on.moves event in let ticks = d.ticks in omega arith })
-  drains-short lies left fills flight halt now new b (inr moved) = (
+  drains-short devices flight halt now new b (inr moved) = (
     statements_at moved.1.0.next,
     one-at-hand moved.1.0.next,
     record {

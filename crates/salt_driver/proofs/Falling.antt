@@ -21,12 +21,11 @@ use Rattle.law_openings.proofs.Opening.{falls-again, falls-in-opening}
 use Rattle.law_openings.specs.Openings.{FallsInOpening, Leaves}
 use Rattle.salt_driver.proofs.Along.{along-behind, says-along, stays-along}
 use Rattle.salt_driver.proofs.Segments.{sound-of}
+use Rattle.salt_driver.specs.Devices.{OnDevices}
 use Rattle.salt_driver.specs.Opening.{IsFallenFrom, halt_of}
 use Rattle.salt_driver.specs.Reopening.{BreaksOpening, EndsWithin, FallsAnew, NotBegun, Reopens, WithinOpening}
 use Rattle.salt_driver.specs.Serving.{GainsEvents, Halts, IsDown, IsFitting}
 use Rattle.salt_storage.specs.Answers.{halted_by, numbers_of}
-use Rattle.salt_storage.specs.Writing.{ToWrite}
-use Rattle.salt_storage.specs.declared.found.Numbers.{Numbers}
 use Rattle.salt_storage.specs.declared.halt.Halt.TheVariants as halt
 use Rattle.salt_storage.specs.declared.halt.Halt.{Halt}
 use Rattle.salt_storage.specs.OpenErr.{OpenErr}
@@ -57,11 +56,11 @@ appended [] fs gs = refl
 appended (e ∷ es) fs gs = ap (λ l. e ∷ l) (appended es fs gs)
 
 -- a trace that goes on by a Down, at whose end the run can be opened
-pub down-behind : (why : Why) (lies : ℕ → Point → Type 0) (flies : Option Flight) (start : Start) (told now : List Event) (trace : Trace) (q : Point) (room : ℕ) →
+pub down-behind : (why : Why) (devices : OnDevices) (flies : Option Flight) (start : Start) (told now : List Event) (trace : Trace) (q : Point) (room : ℕ) →
     start_of trace ≡ start → story_of trace ≡ told → IsFitting start trace → KeepsPoint q (trace says Down why) × IsSound (trace says Down why) →
-    now ≡ told ++ Down why ∷ [] → room ≤ downs trace + (if has_opened trace then 0 else 1) → lies room q → flies ≡ flight_told q.flight →
-    IsDown lies flies start now (trace says Down why)
-down-behind why lies flies start told now trace q room begins tells fits k grows boots again known = record {
+    now ≡ told ++ Down why ∷ [] → room ≤ downs trace + (if has_opened trace then 0 else 1) → devices.can_reopen_at room q → flies ≡ flight_told q.flight →
+    IsDown devices flies start now (trace says Down why)
+down-behind why devices flies start told now trace q room begins tells fits k grows boots again known = record {
   tells = record { begins = begins; told = ap (λ es. es ++ Down why ∷ []) tells ∙ sym grows; played = k.1.played };
   fallen = refl;
   fits = record { well = fits.well; typed = fits.typed; named = fits.named; keyed = fits.keyed; unspent = (fits.unspent, tt) };
@@ -92,10 +91,10 @@ not-memory e a b = cc
 no-memory : (h : Halt) → h ≡ halt.Stopped → h ≡ halt.Memory → ⊥
 no-memory h a b = cc
 
-module _ (lies : ℕ → Point → Type 0) (left : Option Numbers → ℕ → Point → Type 0) (again : ℕ → Point → Type 0) (fills : ToWrite → ℕ → Type 0) (flies known : Option Flight) (e : OpenErr) (start : Start) (trace : Trace) (story told now : List Event)
-    (stopped : e ≡ opening.Stopped) (falls : (room : ℕ) (p q : Point) → lies room p → IsFallenFrom p q → again room q) (same : known ≡ flies)
+module _ (devices again : OnDevices) (flies known : Option Flight) (e : OpenErr) (start : Start) (trace : Trace) (story told now : List Event)
+    (stopped : e ≡ opening.Stopped) (falls : (room : ℕ) (p q : Point) → devices.can_reopen_at room p → IsFallenFrom p q → again.can_reopen_at room q) (same : known ≡ flies)
     (grows : now ≡ told ++ Down Stopped ∷ []) where
-  anew : (b : BreaksOpening lies left fills flies e start trace story told) → IsDown again known start now (b.after says Down Stopped) → FallsAnew again known start trace story now
+  anew : (b : BreaksOpening devices flies e start trace story told) → IsDown again known start now (b.after says Down Stopped) → FallsAnew again known start trace story now
   anew b down = record {
     after = b.after says Down Stopped;
     lines = b.lines;
@@ -104,7 +103,7 @@ module _ (lies : ℕ → Point → Type 0) (left : Option Numbers → ℕ → Po
     along = along-behind trace b.after (b.after says Down Stopped) b.grows.0 (Down Stopped ∷ []) b.along (says-along b.after (Down Stopped));
   }
 
-  not-begun : (b : BreaksOpening lies left fills flies e start trace story told) → NotBegun lies left fills flies e b.after b.point → IsDown again known start now (b.after says Down Stopped)
+  not-begun : (b : BreaksOpening devices flies e start trace story told) → NotBegun devices flies e b.after b.point → IsDown again known start now (b.after says Down Stopped)
   unfolding fallen_point
   not-begun b n =
       let sound = sound-of start b.after b.tells.begins b.tells.played b.fits in
@@ -114,7 +113,7 @@ module _ (lies : ℕ → Point → Type 0) (left : Option Numbers → ℕ → Po
       (falls-again b.point q b.after b.keeps sound (record { fallen = sym b.keeps.state.units.phase ∙ n.fallen; after = l.after; next = refl; flight = refl }))
       grows n.boots (falls n.room b.point q (n.again (not-memory e stopped)) (fell-from Stopped b.point l)) (same ∙ n.flies)
 
-  within-at : (b : BreaksOpening lies left fills flies e start trace story told) (w : WithinOpening lies left fills flies e b.after b.point) (at : EndsWithin b.after) (ev : Event) →
+  within-at : (b : BreaksOpening devices flies e start trace story told) (w : WithinOpening devices flies e b.after b.point) (at : EndsWithin b.after) (ev : Event) →
       b.point.next ≡ Some ev → at_devices_in b.point.state.units ev ≡ true → flies ≡ flight_told b.point.flight → IsDown again known start now (b.after says Down Stopped)
   unfolding fallen_point
   within-at b w at ev comes devices flown =
@@ -127,7 +126,7 @@ module _ (lies : ℕ → Point → Type 0) (left : Option Numbers → ℕ → Po
       down-behind Stopped again known start told now b.after q 0 b.tells.begins b.tells.told b.fits back grows (omega arith)
       (falls 0 b.point q (w.halts.again (no-memory w.halt (halted-so e w.halt w.halted stopped))) (fell-from Stopped b.point l)) (same ∙ flown)
 
-  within : (b : BreaksOpening lies left fills flies e start trace story told) → WithinOpening lies left fills flies e b.after b.point → IsDown again known start now (b.after says Down Stopped)
+  within : (b : BreaksOpening devices flies e start trace story told) → WithinOpening devices flies e b.after b.point → IsDown again known start now (b.after says Down Stopped)
   within b w = by w.place w.halts.reason w.halts.flies
     where
       is : w.halt ≡ halt.Stopped
@@ -140,26 +139,26 @@ module _ (lies : ℕ → Point → Type 0) (left : Option Numbers → ℕ → Po
       by (inr at) (inr r) (inl m) = absurd (no-memory w.halt is m.0)
       by (inr at) (inr r) (inr f) = within-at b w at r.0 r.1 r.2 f
 
-  pub falls-anew : BreaksOpening lies left fills flies e start trace story told → FallsAnew again known start trace story now
+  pub falls-anew : BreaksOpening devices flies e start trace story told → FallsAnew again known start trace story now
   falls-anew b = anew b (by b.stops)
     where
-      by : NotBegun lies left fills flies e b.after b.point ⊎ WithinOpening lies left fills flies e b.after b.point → IsDown again known start now (b.after says Down Stopped)
+      by : NotBegun devices flies e b.after b.point ⊎ WithinOpening devices flies e b.after b.point → IsDown again known start now (b.after says Down Stopped)
       by (inl n) = not-begun b n
       by (inr w) = within b w
 
 -- where it was stopped it can be opened
-pub lies-somewhere : (lies : ℕ → Point → Type 0) (left : Option Numbers → ℕ → Point → Type 0) (fills : ToWrite → ℕ → Type 0) (flies : Option Flight) (e : OpenErr) (start : Start) (trace : Trace) (story told : List Event) →
-    e ≡ opening.Stopped → BreaksOpening lies left fills flies e start trace story told → (room : ℕ) × ((p : Point) × lies room p)
-lies-somewhere lies left fills flies e start trace story told stopped b = by b.stops
+pub reopens-somewhere : (devices : OnDevices) (flies : Option Flight) (e : OpenErr) (start : Start) (trace : Trace) (story told : List Event) →
+    e ≡ opening.Stopped → BreaksOpening devices flies e start trace story told → (room : ℕ) × ((p : Point) × devices.can_reopen_at room p)
+reopens-somewhere devices flies e start trace story told stopped b = by b.stops
   where
-    by : NotBegun lies left fills flies e b.after b.point ⊎ WithinOpening lies left fills flies e b.after b.point → (room : ℕ) × ((p : Point) × lies room p)
+    by : NotBegun devices flies e b.after b.point ⊎ WithinOpening devices flies e b.after b.point → (room : ℕ) × ((p : Point) × devices.can_reopen_at room p)
     by (inl n) = (n.room, (b.point, n.again (not-memory e stopped)))
     by (inr w) = (0, (b.point, w.halts.again (no-memory w.halt (halted-so e w.halt w.halted stopped))))
 
 -- for want of memory it does not even fall
-pub breaks-short : (lies : ℕ → Point → Type 0) (left : Option Numbers → ℕ → Point → Type 0) (fills : ToWrite → ℕ → Type 0) (flies : Option Flight) (e : OpenErr) (start : Start) (trace : Trace) (story told now : List Event) →
-    e ≡ opening.Stopped → now ≡ told → BreaksOpening lies left fills flies e start trace story told → BreaksOpening lies left fills flies opening.Memory start trace story now
-breaks-short lies left fills flies e start trace story told now stopped is b = record {
+pub breaks-short : (devices : OnDevices) (flies : Option Flight) (e : OpenErr) (start : Start) (trace : Trace) (story told now : List Event) →
+    e ≡ opening.Stopped → now ≡ told → BreaksOpening devices flies e start trace story told → BreaksOpening devices flies opening.Memory start trace story now
+breaks-short devices flies e start trace story told now stopped is b = record {
   after = b.after;
   lines = b.lines;
   tells = record { begins = b.tells.begins; told = b.tells.told ∙ sym is; played = b.tells.played };
@@ -176,8 +175,8 @@ breaks-short lies left fills flies e start trace story told now stopped is b = r
     flown h a (inl m) = absurd (no-memory h a m.0)
     flown h a (inr f) = f
 
-    by : NotBegun lies left fills flies e b.after b.point ⊎ WithinOpening lies left fills flies e b.after b.point →
-        NotBegun lies left fills flies opening.Memory b.after b.point ⊎ WithinOpening lies left fills flies opening.Memory b.after b.point
+    by : NotBegun devices flies e b.after b.point ⊎ WithinOpening devices flies e b.after b.point →
+        NotBegun devices flies opening.Memory b.after b.point ⊎ WithinOpening devices flies opening.Memory b.after b.point
     by (inl n) = inl (record {
       fallen = n.fallen;
       room = n.room;
@@ -185,7 +184,7 @@ breaks-short lies left fills flies e start trace story told now stopped is b = r
       fails = tt;
       full = λ dev is. absurd (memory-is-not-full dev is);
       again = λ some. absurd (some refl);
-      stays = subst (λ (x : OpenErr). left (numbers_of x) n.room b.point) stopped n.stays;
+      stays = subst (λ (x : OpenErr). devices.stands_for_kept (numbers_of x) n.room b.point) stopped n.stays;
       flies = n.flies;
     })
     by (inr w) = inr (record {
@@ -207,9 +206,9 @@ pub no-short-fall : (why : Why) → halt_of why ≡ halt.Memory → ⊥
 no-short-fall Stopped h = cc
 no-short-fall Fault h = cc
 
-module _ (lies left : Point → Type 0) (fills : ToWrite → ℕ → Type 0) (flies : Option Flight) (why : Why) (start : Start) (trace : Trace) (story : List Event)
-    (h : Halts lies left fills flies (halt_of why) start story trace) where
-  pub falls-served : (again : ℕ → Point → Type 0) (known : Option Flight) (now : List Event) → ((p q : Point) → lies p → IsFallenFrom p q → again 0 q) → known ≡ flies →
+module _ (devices : OnDevices) (flies : Option Flight) (why : Why) (start : Start) (trace : Trace) (story : List Event)
+    (h : Halts devices flies (halt_of why) start story trace) where
+  pub falls-served : (again : OnDevices) (known : Option Flight) (now : List Event) → ((p q : Point) → devices.can_reopen_at 0 p → IsFallenFrom p q → again.can_reopen_at 0 q) → known ≡ flies →
       now ≡ story ++ Down why ∷ [] → FallsAnew again known start trace story now
   unfolding fallen_point
   falls-served again known now falls same grows =
@@ -229,9 +228,9 @@ module _ (lies left : Point → Type 0) (fills : ToWrite → ℕ → Type 0) (fl
           (falls h.point q (h.halts.again (no-short-fall why)) (fell-from why h.point l)) (same ∙ f)
 
 -- for want of memory it does not fall
-pub halted-short : (lies : ℕ → Point → Type 0) (left : Option Numbers → ℕ → Point → Type 0) (fills filled : ToWrite → ℕ → Type 0) (flies : Option Flight) (why : Why) (start : Start) (trace : Trace) (story now : List Event) → now ≡ story →
-    Halts (lies 0) (left None 0) fills flies (halt_of why) start story trace → BreaksOpening lies left filled flies opening.Memory start trace story now
-halted-short lies left fills filled flies why start trace story now same h = record {
+pub halted-short : (devices : OnDevices) (flies : Option Flight) (why : Why) (start : Start) (trace : Trace) (story now : List Event) → now ≡ story →
+    Halts devices flies (halt_of why) start story trace → BreaksOpening devices flies opening.Memory start trace story now
+halted-short devices flies why start trace story now same h = record {
   after = trace;
   lines = refl;
   tells = record { begins = h.tells.begins; told = h.tells.told ∙ sym same; played = h.tells.played };
@@ -262,19 +261,19 @@ halted-short lies left fills filled flies why start trace story now same h = rec
 -- THROUGH SEVERAL FALLS
 
 -- before the first
-pub not-fallen : (lies : ℕ → Point → Type 0) (flies : Option Flight) (start : Start) (trace : Trace) (story : List Event) → IsDown lies flies start story trace → FallsAnew lies flies start trace story story
-not-fallen lies flies start trace story down = record { after = trace; lines = refl; down = down; grows = ([], sym (append-nil story)); along = stays-along trace }
+pub not-fallen : (devices : OnDevices) (flies : Option Flight) (start : Start) (trace : Trace) (story : List Event) → IsDown devices flies start story trace → FallsAnew devices flies start trace story story
+not-fallen devices flies start trace story down = record { after = trace; lines = refl; down = down; grows = ([], sym (append-nil story)); along = stays-along trace }
 
 grows-both : (story told now : List Event) → (a : GainsEvents story told) → (b : GainsEvents told now) → now ≡ story ++ (a.0 ++ b.0)
 grows-both story told now a b = b.1 ∙ ap (λ es. es ++ b.0) a.1 ∙ appended story a.0 b.0
 
-module _ (lies again : ℕ → Point → Type 0) (flies known : Option Flight) (start : Start) (trace : Trace) (story told now : List Event)
-    (f : FallsAnew lies flies start trace story told) where
+module _ (devices again : OnDevices) (flies known : Option Flight) (start : Start) (trace : Trace) (story told now : List Event)
+    (f : FallsAnew devices flies start trace story told) where
   pub falls-behind : FallsAnew again known start f.after told now → FallsAnew again known start trace story now
   falls-behind g = record { after = g.after; lines = g.lines ∙ f.lines; down = g.down; grows = (f.grows.0 ++ g.grows.0, grows-both story told now f.grows g.grows); along = along-behind trace f.after g.after f.grows.0 g.grows.0 f.along g.along }
 
-  pub breaks-behind : (left : Option Numbers → ℕ → Point → Type 0) (fills : ToWrite → ℕ → Type 0) (e : OpenErr) → BreaksOpening again left fills known e start f.after told now → BreaksOpening again left fills known e start trace story now
-  breaks-behind left fills e b = record {
+  pub breaks-behind : (e : OpenErr) → BreaksOpening again known e start f.after told now → BreaksOpening again known e start trace story now
+  breaks-behind e b = record {
     after = b.after;
     lines = b.lines ∙ f.lines;
     tells = b.tells;
@@ -287,5 +286,5 @@ module _ (lies again : ℕ → Point → Type 0) (flies known : Option Flight) (
     stops = b.stops;
   }
 
-  pub reopens-behind : {E : Type 0} → (sees : E → Option Event → State → Type 0) (e : E) → Reopens sees start f.after told e now → Reopens sees start trace story e now
-  reopens-behind sees e r = record { after = r.after; lines = r.lines ∙ f.lines; serves = r.serves; grows = (f.grows.0 ++ r.grows.0, grows-both story told now f.grows r.grows); along = along-behind trace f.after r.after f.grows.0 r.grows.0 f.along r.along }
+  pub reopens-behind : {E : Type 0} → (stands_for : E → Option Event → State → Type 0) (e : E) → Reopens (stands_for e) start f.after told now → Reopens (stands_for e) start trace story now
+  reopens-behind stands_for e r = record { after = r.after; lines = r.lines ∙ f.lines; serves = r.serves; grows = (f.grows.0 ++ r.grows.0, grows-both story told now f.grows r.grows); along = along-behind trace f.after r.after f.grows.0 r.grows.0 f.along r.along }

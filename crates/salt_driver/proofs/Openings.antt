@@ -23,6 +23,7 @@ use Rattle.law_openings.proofs.Opening.{opens-point}
 use Rattle.salt_driver.proofs.Advancing.{append-both, inside-both, lines-on, runs-both, tells-both}
 use Rattle.salt_driver.proofs.Along.{along-behind, goes-along, says-along, stays-along}
 use Rattle.salt_driver.proofs.Segments.{sound-at, sound-of, unspent-on}
+use Rattle.salt_driver.specs.Devices.{OnDevices}
 use Rattle.salt_driver.specs.Draining.{BreaksWithin}
 use Rattle.salt_driver.specs.Opening.{HasOpened, MayFailAt}
 use Rattle.salt_driver.specs.Reopening.{BreaksOpening, EndsWithin, Reopens}
@@ -31,8 +32,7 @@ use Rattle.salt_driver.specs.Along.{GoesAlong}
 use Rattle.salt_driver.specs.Standing.{BreaksAt, HaltsAt, IsInside, IsSoundPoint, OpensOn}
 use Rattle.salt_storage.proofs.Halted.{halted_later, no_numbers, same_halt}
 use Rattle.salt_storage.specs.Answers.{IsLater, halted_by, numbers_of}
-use Rattle.salt_storage.specs.Writing.{OfBoot, ToWrite}
-use Rattle.salt_storage.specs.declared.found.Numbers.{Numbers}
+use Rattle.salt_storage.specs.Writing.{OfBoot}
 use Rattle.salt_storage.specs.declared.halt.Halt.TheVariants.{DeviceFull, DiskFault, Memory, Stopped}
 use Rattle.salt_storage.specs.declared.halt.Halt.{Halt}
 use Rattle.salt_storage.specs.OpenErr.TheVariants as opening
@@ -43,18 +43,18 @@ use Rattle.law_types.specs.Typed.{IsTyped}
 use Rattle.std.proofs.Common.{ap, arith, inl, inr, subst, sym, ◌∙◌}
 use Rattle.std.specs.Prelude.{Bool, Err, IsSome, List, None, Option, Result, Some, [], false, if◌then◌else◌, refl, true, ℕ, ◌+◌, ◌++◌, ◌<◌, ◌∷◌, ◌≡◌, ◌≤◌, ◌⊎◌}
 
-pub down-sound : (lies : ℕ → Point → Type 0) (flight : Option Flight) (start : Start) (story : List Event) (trace : Trace) → (d : IsDown lies flight start story trace) →
+pub down-sound : (devices : OnDevices) (flight : Option Flight) (start : Start) (story : List Event) (trace : Trace) → (d : IsDown devices flight start story trace) →
     IsSoundPoint d.point
-down-sound lies flight start story trace d = sound-at start trace d.point d.tells.begins d.tells.played d.fits d.keeps
+down-sound devices flight start story trace d = sound-at start trace d.point d.tells.begins d.tells.played d.fits d.keeps
 
-pub down-fallen : (lies : ℕ → Point → Type 0) (flight : Option Flight) (start : Start) (story : List Event) (trace : Trace) → (d : IsDown lies flight start story trace) →
+pub down-fallen : (devices : OnDevices) (flight : Option Flight) (start : Start) (story : List Event) (trace : Trace) → (d : IsDown devices flight start story trace) →
     d.point.state.units.phase ≡ Fallen
-down-fallen lies flight start story trace d = sym d.keeps.state.units.phase ∙ d.fallen
+down-fallen devices flight start story trace d = sym d.keeps.state.units.phase ∙ d.fallen
 
 -- it may be opened so
-may-open : (lies : ℕ → Point → Type 0) (flies : Option Flight) (start : Start) (story : List Event) (trace : Trace) → (d : IsDown lies flies start story trace) →
+may-open : (devices : OnDevices) (flies : Option Flight) (start : Start) (story : List Event) (trace : Trace) → (d : IsDown devices flies start story trace) →
     (h : HasOpened d.room d.point) → MayOpen Fallen trace h.boot h.number
-may-open lies flies start story trace d h = (above, most, by h.stands_for)
+may-open devices flies start story trace d h = (above, most, by h.stands_for)
   where
     same : kept trace ≡ d.point.state.units.kept
     same = d.keeps.state.units.kept
@@ -72,15 +72,15 @@ may-open lies flies start story trace d h = (above, most, by h.stands_for)
     by (inl e) = inl (subst (λ (k : Kept). h.number ≡ k.decisions) (sym same) e)
     by (inr e) = inr (subst (λ (f : Option Event). IsSome f) (sym d.keeps.flight) e.0, subst (λ (k : Kept). h.number ≡ k.decisions + 1) (sym same) e.1)
 
-opened-keeps : (lies : ℕ → Point → Type 0) (flies : Option Flight) (start : Start) (story : List Event) (trace : Trace) → (d : IsDown lies flies start story trace) →
+opened-keeps : (devices : OnDevices) (flies : Option Flight) (start : Start) (story : List Event) (trace : Trace) → (d : IsDown devices flies start story trace) →
     (h : HasOpened d.room d.point) → KeepsPoint h.point (trace says Opened h.boot h.number) × IsSound (trace says Opened h.boot h.number)
-opened-keeps lies flies start story trace d h =
-    opens-point h.boot h.number d.point h.point trace d.keeps (sound-of start trace d.tells.begins d.tells.played d.fits) (may-open lies flies start story trace d h) h.opens
+opened-keeps devices flies start story trace d h =
+    opens-point h.boot h.number d.point h.point trace d.keeps (sound-of start trace d.tells.begins d.tells.played d.fits) (may-open devices flies start story trace d h) h.opens
 
-pub opened-sound : (lies : ℕ → Point → Type 0) (flies : Option Flight) (start : Start) (story : List Event) (trace : Trace) → (d : IsDown lies flies start story trace) →
+pub opened-sound : (devices : OnDevices) (flies : Option Flight) (start : Start) (story : List Event) (trace : Trace) → (d : IsDown devices flies start story trace) →
     (h : HasOpened d.room d.point) → IsSoundPoint h.point
-opened-sound lies flies start story trace d h =
-    let k = opened-keeps lies flies start story trace d h in
+opened-sound devices flies start story trace d h =
+    let k = opened-keeps devices flies start story trace d h in
     record {
       trace = trace says Opened h.boot h.number;
       keeps = k.0;
@@ -118,7 +118,7 @@ opening-on e p q event opening m comes = by (ends_opening e) refl
     by true is = let none = end-rests e p q is m in cc
     by false is = ap (λ (s : UnitState). s.phase) m.0.after.units ∙ phase-stays e p.state.units m.1 is opening
 
-module _ (lies : ℕ → Point → Type 0) (flies : Option Flight) (start : Start) (story : List Event) (trace : Trace) (d : IsDown lies flies start story trace) where
+module _ (devices : OnDevices) (flies : Option Flight) (start : Start) (story : List Event) (trace : Trace) (d : IsDown devices flies start story trace) where
   -- the trace with moves of the opening
   abbrev behind : HasOpened d.room d.point → List TraceStep → Trace
   behind h ms = trace_on (trace says Opened h.boot h.number) ms
@@ -134,7 +134,7 @@ module _ (lies : ℕ → Point → Type 0) (flies : Option Flight) (start : Star
 
   behind-keeps : (h : HasOpened d.room d.point) (ms : List TraceStep) (q : Point) → Runs h.point ms q → KeepsPoint q (behind h ms) × IsSound (behind h ms)
   behind-keeps h ms q runs =
-      let k = opened-keeps lies flies start story trace d h in
+      let k = opened-keeps devices flies start story trace d h in
       runs-point ms h.point q (trace says Opened h.boot h.number) k.0 k.1 runs
 
   behind-told : (h : HasOpened d.room d.point) (ms : List TraceStep) (told : List Event) → told ≡ (story ++ Opened h.boot h.number ∷ []) ++ told_by ms → story_of (behind h ms) ≡ told
@@ -151,13 +151,13 @@ module _ (lies : ℕ → Point → Type 0) (flies : Option Flight) (start : Star
       (goes-along ms (trace says Opened h.boot h.number) inside)
 
   -- what is told behind the Opened is told behind what was told before
-  pub behind-opened : {E : Type 0} (sees : E → Option Event → State → Type 0) (h : HasOpened d.room d.point) (e : E) (opened told : List Event) → opened ≡ story ++ Opened h.boot h.number ∷ [] →
-      OpensOn sees h.point opened e None told → OpensOn sees h.point (story ++ Opened h.boot h.number ∷ []) e None told
-  behind-opened sees h e opened told tells on = subst (λ es. OpensOn sees h.point es e None told) tells on
+  pub behind-opened : {E : Type 0} (stands_for : E → Option Event → State → Type 0) (h : HasOpened d.room d.point) (e : E) (opened told : List Event) → opened ≡ story ++ Opened h.boot h.number ∷ [] →
+      OpensOn (stands_for e) h.point opened None told → OpensOn (stands_for e) h.point (story ++ Opened h.boot h.number ∷ []) None told
+  behind-opened stands_for h e opened told tells on = subst (λ es. OpensOn (stands_for e) h.point es None told) tells on
 
-  pub opening-ends : {E : Type 0} (sees : E → Option Event → State → Type 0) (h : HasOpened d.room d.point) (e : E) (told : List Event) →
-      OpensOn sees h.point (story ++ Opened h.boot h.number ∷ []) e None told → Reopens sees start trace story e told
-  opening-ends sees h e told on =
+  pub opening-ends : {E : Type 0} (stands_for : E → Option Event → State → Type 0) (h : HasOpened d.room d.point) (e : E) (told : List Event) →
+      OpensOn (stands_for e) h.point (story ++ Opened h.boot h.number ∷ []) None told → Reopens (stands_for e) start trace story told
+  opening-ends stands_for h e told on =
       let ms = on.moves in
       let k = behind-keeps h ms on.point on.runs in
       record {
@@ -183,10 +183,10 @@ module _ (lies : ℕ → Point → Type 0) (flies : Option Flight) (start : Star
   halted-fails room p (DeviceFull dev) = tt
   halted-fails room p Memory = tt
 
-  pub opening-fails : (now : ℕ → Point → Type 0) (left : Option Numbers → ℕ → Point → Type 0) (fills : ToWrite → ℕ → Type 0) (flight : Option Flight) (halt : Halt) (told : List Event) → told ≡ story → flight ≡ flies →
-      ((dev : ℕ) → halt ≡ DeviceFull dev → fills OfBoot dev) → ((halt ≡ Memory → ⊥) → now (d.room + 1) d.point) → left None (d.room + 1) d.point →
-      BreaksOpening now left fills flight (halted_by halt) start trace story told
-  opening-fails now left fills flight halt told same keeps full again stays = record {
+  pub opening-fails : (now : OnDevices) (flight : Option Flight) (halt : Halt) (told : List Event) → told ≡ story → flight ≡ flies →
+      ((dev : ℕ) → halt ≡ DeviceFull dev → now.fills_device OfBoot dev) → ((halt ≡ Memory → ⊥) → now.can_reopen_at (d.room + 1) d.point) → now.stands_for_kept None (d.room + 1) d.point →
+      BreaksOpening now flight (halted_by halt) start trace story told
+  opening-fails now flight halt told same keeps full again stays = record {
     after = trace;
     lines = refl;
     tells = record { begins = d.tells.begins; told = d.tells.told ∙ sym same; played = d.tells.played };
@@ -203,17 +203,17 @@ module _ (lies : ℕ → Point → Type 0) (flies : Option Flight) (start : Star
       fails = halted-fails (d.room + 1) d.point halt;
       full = λ dev is. full dev (same_halt halt (DeviceFull dev) is);
       again = λ some. again (λ is. some (ap halted_by is));
-      stays = subst (λ numbers. left numbers (d.room + 1) d.point) (sym (no_numbers halt)) stays;
+      stays = subst (λ numbers. now.stands_for_kept numbers (d.room + 1) d.point) (sym (no_numbers halt)) stays;
       flies = keeps ∙ d.flies;
     });
   }
 
   -- or at an event
 
-  breaks-here : (now : ℕ → Point → Type 0) (left : Option Numbers → ℕ → Point → Type 0) (fills : ToWrite → ℕ → Type 0) (flight : Option Flight) (halt : Halt) (h : HasOpened d.room d.point) (ms : List TraceStep) (q : Point) (told : List Event) →
-      Runs h.point ms q → Every IsInside ms → told ≡ (story ++ Opened h.boot h.number ∷ []) ++ told_by ms → HaltsAt (now 0) (left None 0) fills flight halt q →
-      (halt ≡ Memory) ⊎ EndsWithin (behind h ms) → BreaksOpening now left fills flight (halted_by halt) start trace story told
-  breaks-here now left fills flight halt h ms q told runs inside tells halts place =
+  breaks-here : (now : OnDevices) (flight : Option Flight) (halt : Halt) (h : HasOpened d.room d.point) (ms : List TraceStep) (q : Point) (told : List Event) →
+      Runs h.point ms q → Every IsInside ms → told ≡ (story ++ Opened h.boot h.number ∷ []) ++ told_by ms → HaltsAt now flight halt q →
+      (halt ≡ Memory) ⊎ EndsWithin (behind h ms) → BreaksOpening now flight (halted_by halt) start trace story told
+  breaks-here now flight halt h ms q told runs inside tells halts place =
       let k = behind-keeps h ms q runs in
       record {
         after = behind h ms;
@@ -235,9 +235,9 @@ module _ (lies : ℕ → Point → Type 0) (flies : Option Flight) (start : Star
       go t [] = refl
       go t (m ∷ ms) = go (stepped t m) ms
 
-  pub opening-breaks : (now : ℕ → Point → Type 0) (left : Option Numbers → ℕ → Point → Type 0) (fills : ToWrite → ℕ → Type 0) (flight : Option Flight) (halt : Halt) (h : HasOpened d.room d.point) (opened told : List Event) →
-      opened ≡ story ++ Opened h.boot h.number ∷ [] → BreaksWithin (now 0) (left None 0) fills flight halt h.point opened told → BreaksOpening now left fills flight (halted_by halt) start trace story told
-  opening-breaks now left fills flight halt h opened told same b = by b.breaks
+  pub opening-breaks : (now : OnDevices) (flight : Option Flight) (halt : Halt) (h : HasOpened d.room d.point) (opened told : List Event) →
+      opened ≡ story ++ Opened h.boot h.number ∷ [] → BreaksWithin now flight halt h.point opened told → BreaksOpening now flight (halted_by halt) start trace story told
+  opening-breaks now flight halt h opened told same b = by b.breaks
     where
       tells : b.before ≡ (story ++ Opened h.boot h.number ∷ []) ++ told_by b.moves
       tells = b.tells ∙ ap (λ es. es ++ told_by b.moves) same
@@ -253,10 +253,10 @@ module _ (lies : ℕ → Point → Type 0) (flies : Option Flight) (start : Star
         plain = m.1;
       })
 
-      by : BreaksAt (now 0) (left None 0) fills flight halt b.point b.event b.before told → BreaksOpening now left fills flight (halted_by halt) start trace story told
+      by : BreaksAt now flight halt b.point b.event b.before told → BreaksOpening now flight (halted_by halt) start trace story told
       by (inl short) =
-          subst (λ es. BreaksOpening now left fills flight (halted_by halt) start trace story es) (sym short.0)
-          (breaks-here now left fills flight halt h b.moves b.point b.before b.runs b.inside tells short.1 (inl short.2))
+          subst (λ es. BreaksOpening now flight (halted_by halt) start trace story es) (sym short.0)
+          (breaks-here now flight halt h b.moves b.point b.before b.runs b.inside tells short.1 (inl short.2))
       by (inr said) =
           let q = said.1.0 in
           let m = said.1.1 in
@@ -264,7 +264,7 @@ module _ (lies : ℕ → Point → Type 0) (flies : Option Flight) (start : Star
           let runs = runs-both b.moves (Say b.event ∷ []) h.point b.point q b.runs (q, m, refl) in
           let inside = inside-both b.moves (Say b.event ∷ []) b.inside (tt, tt) in
           let k = behind-keeps h ms q runs in
-          breaks-here now left fills flight halt h ms q told runs inside
+          breaks-here now flight halt h ms q told runs inside
           (tells-both (story ++ Opened h.boot h.number ∷ []) b.before told b.moves (Say b.event ∷ []) tells said.0) said.1.2 (place q k.0 m said.1.2.reason)
 
 -- FINDING what devices stand for
@@ -275,10 +275,10 @@ same-err a b h = cc
 pub not-short : {A : Type 0} (e : OpenErr) → (e ≡ opening.Memory → ⊥) → ◌≡◌ {A = Result A OpenErr} (Err e) (Err opening.Memory) → ⊥
 not-short e some is = some (same-err e opening.Memory is)
 
-pub found-down : (lies now : ℕ → Point → Type 0) (flies known : Option Flight) (start : Start) (story : List Event) (trace : Trace) →
-    (d : IsDown lies flies start story trace) → ((room : ℕ) (p : Point) → IsSoundPoint p → p.state.units.phase ≡ Fallen → lies room p → now room p) → known ≡ flies →
+pub found-down : (devices now : OnDevices) (flies known : Option Flight) (start : Start) (story : List Event) (trace : Trace) →
+    (d : IsDown devices flies start story trace) → ((room : ℕ) (p : Point) → IsSoundPoint p → p.state.units.phase ≡ Fallen → devices.can_reopen_at room p → now.can_reopen_at room p) → known ≡ flies →
     IsDown now known start story trace
-found-down lies now flies known start story trace d found same = record {
+found-down devices now flies known start story trace d found same = record {
   tells = d.tells;
   fallen = d.fallen;
   fits = d.fits;
@@ -286,7 +286,7 @@ found-down lies now flies known start story trace d found same = record {
   keeps = d.keeps;
   room = d.room;
   boots = d.boots;
-  again = found d.room d.point (down-sound lies flies start story trace d) (down-fallen lies flies start story trace d) d.again;
+  again = found d.room d.point (down-sound devices flies start story trace d) (down-fallen devices flies start story trace d) d.again;
   flies = same ∙ d.flies;
 }
 
@@ -299,15 +299,15 @@ fails-later room p opening.Stopped h = tt
 fails-later room p (opening.Full dev) h = tt
 fails-later room p opening.Memory h = tt
 
-pub finding-fails : (lies now : ℕ → Point → Type 0) (left : Option Numbers → ℕ → Point → Type 0) (fills : ToWrite → ℕ → Type 0) (flies known : Option Flight) (e : OpenErr) (start : Start) (story : List Event) (trace : Trace) →
-    (d : IsDown lies flies start story trace) →
-    ((e ≡ opening.Memory → ⊥) → (room : ℕ) (p : Point) → IsSoundPoint p → p.state.units.phase ≡ Fallen → lies room p → now room p) →
-    ((room : ℕ) (p : Point) → IsSoundPoint p → p.state.units.phase ≡ Fallen → lies room p → left (numbers_of e) room p) → known ≡ flies →
-    ((room : ℕ) (p : Point) → IsSoundPoint p → p.state.units.phase ≡ Fallen → lies room p → MayFailAt room p e) →
-    ((dev : ℕ) → e ≡ opening.Full dev → ⊥) → BreaksOpening now left fills known e start trace story story
-finding-fails lies now left fills flies known e start story trace d found stays same fails full =
-    let sound = down-sound lies flies start story trace d in
-    let fallen = down-fallen lies flies start story trace d in
+pub finding-fails : (devices now : OnDevices) (flies known : Option Flight) (e : OpenErr) (start : Start) (story : List Event) (trace : Trace) →
+    (d : IsDown devices flies start story trace) →
+    ((e ≡ opening.Memory → ⊥) → (room : ℕ) (p : Point) → IsSoundPoint p → p.state.units.phase ≡ Fallen → devices.can_reopen_at room p → now.can_reopen_at room p) →
+    ((room : ℕ) (p : Point) → IsSoundPoint p → p.state.units.phase ≡ Fallen → devices.can_reopen_at room p → now.stands_for_kept (numbers_of e) room p) → known ≡ flies →
+    ((room : ℕ) (p : Point) → IsSoundPoint p → p.state.units.phase ≡ Fallen → devices.can_reopen_at room p → MayFailAt room p e) →
+    ((dev : ℕ) → e ≡ opening.Full dev → ⊥) → BreaksOpening now known e start trace story story
+finding-fails devices now flies known e start story trace d found stays same fails full =
+    let sound = down-sound devices flies start story trace d in
+    let fallen = down-fallen devices flies start story trace d in
     record {
       after = trace;
       lines = refl;

@@ -11,6 +11,7 @@ use Rattle.law_states.specs.Readings.{WatchReading}
 use Rattle.law_states.specs.States.{State}
 use Rattle.law_states.specs.Steps.{to_go_by, units_after}
 use Rattle.salt_driver.proofs.Refusing.{refused-asked}
+use Rattle.salt_driver.specs.Devices.{OnDevices}
 use Rattle.salt_driver.specs.Standing.{Finishes, IsInside, IsSoundPoint, StopsWithin}
 use Rattle.salt_model.specs.Phases.{Serving}
 use Rattle.salt_model.specs.Trace.{Trace, Tree, ◌asks◌, ◌turns◌}
@@ -20,14 +21,13 @@ use Rattle.salt_model.specs.declared.events.Event.TheVariants.{Began, Defined, D
 use Rattle.salt_model.specs.declared.events.Event.{Event}
 use Rattle.salt_model.specs.declared.events.Flight.{Flight}
 use Rattle.salt_model.specs.declared.events.Refusal.{Refusal}
-use Rattle.salt_storage.specs.Writing.{ToWrite}
 use Rattle.salt_storage.specs.declared.halt.Halt.{Halt}
 use Rattle.salt_values.specs.declared.id.Id.{Id}
 use Rattle.std.proofs.Common.{ap, append-nil, inl, inr, sym, ◌∙◌}
 use Rattle.std.proofs.lemmas.List.{append_cancel_left}
 use Rattle.std.specs.List.{find}
 use Rattle.std.specs.Option.{option_or}
-use Rattle.std.specs.Prelude.{Bool, Err, IfErr, List, None, Ok, OnOk, Option, Result, Some, [], cond, false, is_some, refl, ℕ, ◌&&◌, ◌++◌, ◌∷◌, ◌≡◌, ◌⊎◌}
+use Rattle.std.specs.Prelude.{Bool, Err, IfErr, List, None, Ok, OnOk, Option, Result, Some, [], cond, false, is_some, refl, ◌&&◌, ◌++◌, ◌∷◌, ◌≡◌, ◌⊎◌}
 
 -- no move within a segment but a line's own is one that a Refused follows
 turned-not : (r : Refusal) (ms : List TraceStep) (p q : Point) (before : Trace) (b : Id) → KeepsPoint p (before turns b) → IsSound (before turns b) → p.state.units.phase ≡ Serving →
@@ -137,17 +137,17 @@ pub record Gains (p : Point) (story told : List Event) : Type 0 where
   pub inside : Every IsInside moves
   pub tells : told ≡ story ++ told_by moves
 
-pub gains : {E A : Type 0} (sees : E → Option Event → State → Type 0) (line : Line) (lies left : Point → Type 0) (fills : ToWrite → ℕ → Type 0) (flight : Option Flight) (p : Point)
-    (story told : List Event) (e : E) (result : Result A Halt) → OnOk result (Finishes sees line p story e told) → IfErr result (λ halt. StopsWithin lies left fills flight halt p story told) →
+pub gains : {E A : Type 0} (stands_for : E → Option Event → State → Type 0) (line : Line) (devices : OnDevices) (flight : Option Flight) (p : Point)
+    (story told : List Event) (e : E) (result : Result A Halt) → OnOk result (Finishes (stands_for e) line p story told) → IfErr result (λ halt. StopsWithin devices flight halt p story told) →
     Gains p story told
-gains sees line lies left fills flight p story told e (Ok done) finishes stops = record {
+gains stands_for line devices flight p story told e (Ok done) finishes stops = record {
   moves = finishes.advances.moves;
   point = finishes.advances.point;
   runs = finishes.advances.runs;
   inside = finishes.advances.inside;
   tells = finishes.advances.tells;
 }
-gains sees line lies left fills flight p story told e (Err halt) finishes stops = record {
+gains stands_for line devices flight p story told e (Err halt) finishes stops = record {
   moves = stops.moves;
   point = stops.point;
   runs = stops.runs;

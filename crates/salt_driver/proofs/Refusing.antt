@@ -133,9 +133,9 @@ refused-last r p q s sound a m =
 pub refused-done : (r : Refusal) (event : Event) (p q s : Point) → IsSoundPoint p → Moves (Ask (Rejected r)) p q → q.next ≡ Some event → Moves (Say event) q s → IsIdle s
 refused-done r event p q s sound a comes m = refused-last r p q s sound a (subst (λ (f : Event). Moves (Say f) q s) (refused-first r event p q a comes) m)
 
-pub refused-whole : {E : Type 0} (sees : E → Option Event → State → Type 0) (r : Refusal) (event : Event) (p q : Point) (story told : List Event) (e : E) (later : Option Event) → IsSoundPoint p →
-    Moves (Ask (Rejected r)) p q → q.next ≡ Some event → ((s : Point) × Moves (Say event) q s × IsAt sees Nothing e later s) → told ≡ story ++ event ∷ [] → Finishes sees Nothing q story e told
-refused-whole sees r event p q story told e later sound a comes x tells =
+pub refused-whole : {E : Type 0} (stands_for : E → Option Event → State → Type 0) (r : Refusal) (event : Event) (p q : Point) (story told : List Event) (e : E) (later : Option Event) → IsSoundPoint p →
+    Moves (Ask (Rejected r)) p q → q.next ≡ Some event → ((s : Point) × Moves (Say event) q s × IsAt (stands_for e) Nothing later s) → told ≡ story ++ event ∷ [] → Finishes (stands_for e) Nothing q story told
+refused-whole stands_for r event p q story told e later sound a comes x tells =
     let s = x.0 in
     let idle = refused-done r event p q s sound a comes x.1 in
     record {
@@ -144,7 +144,7 @@ refused-whole sees r event p q story told e later sound a comes x tells =
         point = s;
         runs = (s, x.1, refl);
         inside = (tt, tt);
-        stands = subst (λ (o : Option Event). IsAt sees Nothing e o s) (sym x.2.comes ∙ idle.next) x.2;
+        stands = subst (λ (o : Option Event). IsAt (stands_for e) Nothing o s) (sym x.2.comes ∙ idle.next) x.2;
         tells = tells;
       };
       idle = idle;

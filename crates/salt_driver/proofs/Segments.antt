@@ -16,15 +16,15 @@ use Rattle.salt_model.specs.declared.events.Event.TheVariants.{Down, Early, Open
 use Rattle.salt_model.specs.declared.events.Flight.{Flight}
 use Rattle.salt_stands.specs.Unspent.{OpensUnspent}
 use Rattle.salt_driver.proofs.Advancing.{every-last, lines-on, stop-at}
+use Rattle.salt_driver.specs.Devices.{OnDevices}
 use Rattle.salt_driver.specs.Serving.{Breaks, Goes, IsFitting, Serves}
 use Rattle.salt_driver.specs.Standing.{Finishes, HaltsAt, IsInside, IsSoundPoint, RunsShort, StopsWithin}
-use Rattle.salt_storage.specs.Writing.{ToWrite}
 use Rattle.salt_storage.specs.declared.halt.Halt.{Halt}
 use Rattle.law_types.specs.Played.{HasKey}
 use Rattle.law_types.specs.Typed.{IsTyped}
 use Rattle.salt_driver.proofs.Along.{arms-on}
 use Rattle.std.proofs.Common.{ap, inl, inr, subst, sym, ◌∙◌}
-use Rattle.std.specs.Prelude.{List, Option, [], false, refl, ℕ, ◌++◌, ◌∷◌, ◌≡◌, ◌⊎◌}
+use Rattle.std.specs.Prelude.{List, Option, [], false, refl, ◌++◌, ◌∷◌, ◌≡◌, ◌⊎◌}
 
 -- an event of a line begins no segment, and takes no run down
 
@@ -86,13 +86,13 @@ fits-on start trace asked ms p q runs inside key f = record {
   unspent = unspent-on ms p q (trace asks asked) runs f.unspent;
 }
 
-module _ {E : Type 0} (old_sees new_sees : E → Option Event → State → Type 0) (start : Start) where
+module _ {E : Type 0} (old_stands_for new_stands_for : E → Option Event → State → Type 0) (start : Start) where
   -- where it serves, its point is that of the trace
-  pub serves-at : (e : E) (story : List Event) (trace : Trace) → (s : Serves old_sees start e story trace) → IsSoundPoint s.point
+  pub serves-at : (e : E) (story : List Event) (trace : Trace) → (s : Serves (old_stands_for e) start story trace) → IsSoundPoint s.point
   serves-at e story trace s = sound-at start trace s.point s.tells.begins s.tells.played s.fits s.keeps
 
-  pub goes-by : (trace : Trace) (asked : Asked) (line : Line) (old new : E) (story told : List Event) → (s : Serves old_sees start old story trace) → (q : Point) →
-      HasKey asked → Moves (Ask asked) s.point q → Finishes new_sees line q story new told → Goes new_sees start trace asked story new told
+  pub goes-by : (trace : Trace) (asked : Asked) (line : Line) (old new : E) (story told : List Event) → (s : Serves (old_stands_for old) start story trace) → (q : Point) →
+      HasKey asked → Moves (Ask asked) s.point q → Finishes (new_stands_for new) line q story told → Goes (new_stands_for new) start trace asked story told
   goes-by trace asked line old new story told s q key m f =
       let a = f.advances in
       let ms = Ask asked ∷ a.moves in
@@ -114,10 +114,10 @@ module _ {E : Type 0} (old_sees new_sees : E → Option Event → State → Type
       }
 
   -- broken off after some events
-  pub breaks-by : (lies left : Point → Type 0) (fills : ToWrite → ℕ → Type 0) (flight : Option Flight) (halt : Halt) (trace : Trace) (asked : Asked) (old : E) (story told : List Event) →
-      (s : Serves old_sees start old story trace) → (q : Point) → HasKey asked → Moves (Ask asked) s.point q → StopsWithin lies left fills flight halt q story told →
-      Breaks lies left fills flight halt start trace asked story told
-  breaks-by lies left fills flight halt trace asked old story told s q key m a =
+  pub breaks-by : (devices : OnDevices) (flight : Option Flight) (halt : Halt) (trace : Trace) (asked : Asked) (old : E) (story told : List Event) →
+      (s : Serves (old_stands_for old) start story trace) → (q : Point) → HasKey asked → Moves (Ask asked) s.point q → StopsWithin devices flight halt q story told →
+      Breaks devices flight halt start trace asked story told
+  breaks-by devices flight halt trace asked old story told s q key m a =
       let ms = Ask asked ∷ a.moves in
       let k = runs-point ms s.point a.point trace s.keeps (sound-of start trace s.tells.begins s.tells.played s.fits) (q, m, a.runs) in
       record {
@@ -137,10 +137,10 @@ module _ {E : Type 0} (old_sees new_sees : E → Option Event → State → Type
       }
 
   -- before the line, or at its first event
-  pub breaks-untold : (lies left : Point → Type 0) (fills : ToWrite → ℕ → Type 0) (flight : Option Flight) (halt : Halt) (trace : Trace) (asked : Asked) (old : E) (story : List Event) →
-      (s : Serves old_sees start old story trace) → HasKey asked →
-      RunsShort lies left fills flight halt s.point ⊎ ((q : Point) × Moves (Ask asked) s.point q × HaltsAt lies left fills flight halt q) → Breaks lies left fills flight halt start trace asked story story
-  breaks-untold lies left fills flight halt trace asked old story s key (inl short) = record {
+  pub breaks-untold : (devices : OnDevices) (flight : Option Flight) (halt : Halt) (trace : Trace) (asked : Asked) (old : E) (story : List Event) →
+      (s : Serves (old_stands_for old) start story trace) → HasKey asked →
+      RunsShort devices flight halt s.point ⊎ ((q : Point) × Moves (Ask asked) s.point q × HaltsAt devices flight halt q) → Breaks devices flight halt start trace asked story story
+  breaks-untold devices flight halt trace asked old story s key (inl short) = record {
     after = trace;
     asks = inr (short.0, refl);
     before = inr refl;
@@ -148,4 +148,4 @@ module _ {E : Type 0} (old_sees new_sees : E → Option Event → State → Type
     grows = ([], sym (no-more story));
     armed = λ first. refl;
   }
-  breaks-untold lies left fills flight halt trace asked old story s key (inr r) = breaks-by lies left fills flight halt trace asked old story story s r.0 key r.1 (stop-at lies left fills flight halt r.0 story r.2)
+  breaks-untold devices flight halt trace asked old story s key (inr r) = breaks-by devices flight halt trace asked old story story s r.0 key r.1 (stop-at devices flight halt r.0 story r.2)

@@ -7,8 +7,8 @@ use Rattle.salt_model.specs.declared.events.Event.{Event}
 use Rattle.salt_model.specs.declared.events.Flight.{Flight}
 use Rattle.law_openings.specs.Draining.{statements_at}
 use Rattle.salt_model.specs.Rests.{statements_in, statements_told}
+use Rattle.salt_driver.specs.Devices.{OnDevices}
 use Rattle.salt_driver.specs.Standing.{BreaksAt, IsInside}
-use Rattle.salt_storage.specs.Writing.{ToWrite}
 use Rattle.salt_storage.specs.declared.halt.Halt.{Halt}
 use Rattle.std.specs.Prelude.{List, Option, [], ℕ, ◌++◌, ◌+◌, ◌∷◌, ◌≡◌, ◌≤◌, ◌⊎◌}
 
@@ -37,7 +37,7 @@ abbrev pub CountsOff : Event → (story told : List Event) → (old new : ℕ) �
 CountsOff first story told old new = (untold : ℕ) × (untold ≤ 1) × CountsSteps first story told old new untold
 
 -- an opening breaks off in telling an event, to which it has come from a point by moves of it
-pub record BreaksWithin (lies left : Point → Type 0) (fills : ToWrite → ℕ → Type 0) (flight : Option Flight) (halt : Halt) (p : Point) (story told : List Event) : Type 0 where
+pub record BreaksWithin (devices : OnDevices) (flight : Option Flight) (halt : Halt) (p : Point) (story told : List Event) : Type 0 where
   pub moves : List TraceStep
   pub point : Point
   pub event : Event
@@ -46,4 +46,4 @@ pub record BreaksWithin (lies left : Point → Type 0) (fills : ToWrite → ℕ 
   pub inside : Every IsInside moves
   pub opening : point.state.units.phase ≡ Opening
   pub tells : before ≡ story ++ told_by moves
-  pub breaks : BreaksAt lies left fills flight halt point event before told
+  pub breaks : BreaksAt devices flight halt point event before told

@@ -1,4 +1,5 @@
 pub mod Writing
+pub mod Devices
 pub mod Standing
 pub mod Draining
 pub mod Opening

@@ -46,10 +46,10 @@ pub record HasOpened (room : ℕ) (p : Point) : Type 0 where
   pub unspent : are_spent (boot - 1) number ≡ false
 
 -- by an engine, which tells it
-pub record OpensAt {E : Type 0} (sees : E → Option Event → State → Type 0) (room : ℕ) (p : Point) (story : List Event) (e : E)
+pub record OpensAt (stands_for : Option Event → State → Type 0) (room : ℕ) (p : Point) (story : List Event)
     (next : Event) (told : List Event) : Type 0 where
   pub has : HasOpened room p
-  pub stands : IsOpeningAt sees e (Some next) has.point
+  pub stands : IsOpeningAt stands_for (Some next) has.point
   pub tells : told ≡ story ++ Opened has.boot has.number ∷ []
 
 -- The numbers of a run that fell at this point are spent: the boot is the last one, or later by no more than the openings that failed;
@@ -94,8 +94,8 @@ pub record FindsFirst (finds holds : Kept → Type 0) (x : Found) : Type 0 where
   pub unspent : are_spent x.boot x.decisions ≡ false
 
 -- a run over that, in which nothing is told but that it fell, can be opened
-abbrev pub IsOpenedFirst : (lies : ℕ → Point → Type 0) → Kept → (can_stop early over_net : Bool) → Type 0
-IsOpenedFirst lies k can_stop early over_net = (p : Point) → IsUnopened k can_stop early over_net p → lies 0 p
+abbrev pub IsOpenedFirst : (can_reopen_at : ℕ → Point → Type 0) → Kept → (can_stop early over_net : Bool) → Type 0
+IsOpenedFirst can_reopen_at k can_stop early over_net = (p : Point) → IsUnopened k can_stop early over_net p → can_reopen_at 0 p
 
 -- the halt by which a run falls
 abbrev pub halt_of : Why → Halt

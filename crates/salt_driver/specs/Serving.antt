@@ -14,8 +14,8 @@ use Rattle.salt_model.specs.declared.events.Event.{Event}
 use Rattle.salt_model.specs.declared.events.Flight.{Flight}
 use Rattle.salt_stands.specs.Unspent.{OpensUnspent}
 use Rattle.salt_driver.specs.Along.{ArmsAlong}
+use Rattle.salt_driver.specs.Devices.{OnDevices}
 use Rattle.salt_driver.specs.Standing.{HaltsAt, IsIdleAt}
-use Rattle.salt_storage.specs.Writing.{ToWrite}
 use Rattle.salt_storage.specs.declared.halt.Halt.TheVariants.{Memory}
 use Rattle.salt_storage.specs.declared.halt.Halt.{Halt}
 use Rattle.law_types.specs.Played.{HasKey}
@@ -32,61 +32,60 @@ pub record IsFitting (start : Start) (trace : Trace) : Type 0 where
   pub unspent : Each OpensUnspent trace
 
 -- the engine and the story are those of a trace that is played from this start and complete
-pub record Serves {E : Type 0} (sees : E → Option Event → State → Type 0) (start : Start) (e : E) (story : List Event) (trace : Trace) : Type 0 where
+pub record Serves (stands_for : Option Event → State → Type 0) (start : Start) (story : List Event) (trace : Trace) : Type 0 where
   pub tells : Tells start trace story
   pub complete : IsComplete trace
   pub fits : IsFitting start trace
   pub point : Point
   pub keeps : KeepsPoint point trace
-  pub stands : IsIdleAt sees e point
+  pub stands : IsIdleAt stands_for point
 
 -- the story has gained events, if any
 abbrev pub GainsEvents : List Event → List Event → Type 0
 GainsEvents story told = (more : List Event) × (told ≡ story ++ more)
 
 -- a trace goes on by a line and its whole segment
-pub record Goes {E : Type 0} (sees : E → Option Event → State → Type 0) (start : Start) (trace : Trace) (asked : Asked) (story : List Event)
-    (new : E) (told : List Event) : Type 0 where
+pub record Goes (stands_for : Option Event → State → Type 0) (start : Start) (trace : Trace) (asked : Asked) (story : List Event)
+    (told : List Event) : Type 0 where
   pub after : Trace
   pub asks : lines_asked after ≡ lines_asked trace ++ asked ∷ []
   pub before : story_before after ≡ story
-  pub serves : Serves sees start new told after
+  pub serves : Serves stands_for start told after
   pub grows : GainsEvents story told
   pub armed : ArmsAlong (line_asked asked) trace after grows.0
 
 -- it breaks off in a line: the story is that of a played trace, at whose end what is left of the devices stands, and from which the run
 -- can be opened anew, unless memory ran out
-pub record Halts (lies left : Point → Type 0) (fills : ToWrite → ℕ → Type 0) (flight : Option Flight) (halt : Halt) (start : Start) (told : List Event) (trace : Trace) : Type 0 where
+pub record Halts (devices : OnDevices) (flight : Option Flight) (halt : Halt) (start : Start) (told : List Event) (trace : Trace) : Type 0 where
   pub tells : Tells start trace told
   pub fits : IsFitting start trace
   pub point : Point
   pub keeps : KeepsPoint point trace
   pub serving : phase trace ≡ Serving
-  pub halts : HaltsAt lies left fills flight halt point
+  pub halts : HaltsAt devices flight halt point
 
 -- by a line and a front of its segment; or before it, for want of memory
-pub record Breaks (lies left : Point → Type 0) (fills : ToWrite → ℕ → Type 0) (flight : Option Flight) (halt : Halt) (start : Start) (trace : Trace)
+pub record Breaks (devices : OnDevices) (flight : Option Flight) (halt : Halt) (start : Start) (trace : Trace)
     (asked : Asked) (story told : List Event) : Type 0 where
   pub after : Trace
   pub asks : (lines_asked after ≡ lines_asked trace ++ asked ∷ []) ⊎ ((halt ≡ Memory) × (after ≡ trace))
   pub before : (story_before after ≡ story) ⊎ (told ≡ story)
-  pub halts : Halts lies left fills flight halt start told after
+  pub halts : Halts devices flight halt start told after
   pub grows : GainsEvents story told
   pub armed : ArmsAlong (line_asked asked) trace after grows.0
 
 -- each trace of the engine and the story goes on by the line
-abbrev pub GoesOn : {E : Type 0} → (old_sees new_sees : E → Option Event → State → Type 0) → E → List Event → Asked → E → List Event → Type 0
-GoesOn old_sees new_sees old story asked new told =
-    (start : Start) (trace : Trace) → Serves old_sees start old story trace → Goes new_sees start trace asked story new told
+abbrev pub GoesOn : (old new : Option Event → State → Type 0) → (story : List Event) → Asked → (told : List Event) → Type 0
+GoesOn old new story asked told = (start : Start) (trace : Trace) → Serves old start story trace → Goes new start trace asked story told
 
 -- or breaks off in it
-abbrev pub BreaksOff : {E : Type 0} → (E → Option Event → State → Type 0) → (lies left : Point → Type 0) → (ToWrite → ℕ → Type 0) → Option Flight → Halt → E → List Event → Asked → List Event → Type 0
-BreaksOff sees lies left fills flight halt old story asked told =
-    (start : Start) (trace : Trace) → Serves sees start old story trace → Breaks lies left fills flight halt start trace asked story told
+abbrev pub BreaksOff : (Option Event → State → Type 0) → OnDevices → Option Flight → Halt → (story : List Event) → Asked → (told : List Event) → Type 0
+BreaksOff stands_for devices flight halt story asked told =
+    (start : Start) (trace : Trace) → Serves stands_for start story trace → Breaks devices flight halt start trace asked story told
 
 -- The run is down, or has not begun: the engine can be opened at the trace's end. Between the boot that is kept there and that of the
 -- devices lie no more boots than openings that failed.
-pub record IsDown (lies : ℕ → Point → Type 0) (flight : Option Flight) (start : Start) (story : List Event) (trace : Trace) : Type 0 where
+pub record IsDown (devices : OnDevices) (flight : Option Flight) (start : Start) (story : List Event) (trace : Trace) : Type 0 where
   pub tells : Tells start trace story
   pub fallen : phase trace ≡ Fallen
   pub fits : IsFitting start trace
@@ -94,5 +93,5 @@ pub record IsDown (lies : ℕ → Point → Type 0) (flight : Option Flight) (st
   pub keeps : KeepsPoint point trace
   pub room : ℕ
   pub boots : room + 1 ≤ downs trace + (if has_opened trace then 0 else 1)
-  pub again : lies room point
+  pub again : devices.can_reopen_at room point
   pub flies : flight ≡ flight_told point.flight

@@ -12,6 +12,7 @@ use Rattle.salt_model.specs.Trace.{Trace, from, lines_asked, start_of}
 use Rattle.salt_model.specs.Words.{Every}
 use Rattle.salt_model.specs.declared.events.Event.{Event}
 use Rattle.salt_model.specs.declared.events.Flight.{Flight}
+use Rattle.salt_driver.specs.Devices.{OnDevices}
 use Rattle.salt_driver.specs.Writing.{IsWrittenAt}
 use Rattle.salt_storage.specs.Writing.{ToWrite}
 use Rattle.salt_storage.specs.declared.halt.Halt.TheVariants.{DeviceFull, Memory}
@@ -32,47 +33,47 @@ pub record IsSoundPoint (p : Point) : Type 0 where
   pub keyed : Every HasKey (lines_asked trace)
 
 -- it serves this line, and what comes next of it is at hand
-pub record IsAt {E : Type 0} (sees : E → Option Event → State → Type 0) (served : Line) (e : E) (next : Option Event) (p : Point) : Type 0 where
-  pub state : sees e next p.state
+pub record IsAt (stands_for : Option Event → State → Type 0) (served : Line) (next : Option Event) (p : Point) : Type 0 where
+  pub state : stands_for next p.state
   pub comes : p.next ≡ next
   pub serves : p.state.units.phase ≡ Serving
   pub line : p.state.units.line ≡ served
 
 -- nothing is missing of the last line's segment
-pub record IsIdleAt {E : Type 0} (sees : E → Option Event → State → Type 0) (e : E) (p : Point) : Type 0 where
-  pub state : sees e None p.state
+pub record IsIdleAt (stands_for : Option Event → State → Type 0) (p : Point) : Type 0 where
+  pub state : stands_for None p.state
   pub idle : IsIdle p
 
 -- it is in an opening, and what comes next of that is at hand
-pub record IsOpeningAt {E : Type 0} (sees : E → Option Event → State → Type 0) (e : E) (next : Option Event) (p : Point) : Type 0 where
-  pub state : sees e next p.state
+pub record IsOpeningAt (stands_for : Option Event → State → Type 0) (next : Option Event) (p : Point) : Type 0 where
+  pub state : stands_for next p.state
   pub comes : p.next ≡ next
   pub opening : p.state.units.phase ≡ Opening
 
 -- the opening goes on, or nothing is missing of it
-abbrev pub IsOpenedOn : {E : Type 0} → (E → Option Event → State → Type 0) → E → Option Event → Point → Type 0
-IsOpenedOn sees e None p = IsIdleAt sees e p
-IsOpenedOn sees e (Some event) p = IsOpeningAt sees e (Some event) p
+abbrev pub IsOpenedOn : (Option Event → State → Type 0) → Option Event → Point → Type 0
+IsOpenedOn stands_for None p = IsIdleAt stands_for p
+IsOpenedOn stands_for (Some event) p = IsOpeningAt stands_for (Some event) p
 
 -- Broken off at a point: unless for want of memory, what comes next there is at the devices, and what is in flight is known. A device
 -- is told to be full by what was to be written there. What is left of the devices stands there, and unless memory ran out the run can
 -- be opened behind it.
-pub record HaltsAt (lies left : Point → Type 0) (fills : ToWrite → ℕ → Type 0) (flight : Option Flight) (halt : Halt) (p : Point) : Type 0 where
+pub record HaltsAt (devices : OnDevices) (flight : Option Flight) (halt : Halt) (p : Point) : Type 0 where
   pub reason : (halt ≡ Memory) ⊎ ((e : Event) × (p.next ≡ Some e) × (at_devices_in p.state.units e ≡ true))
   pub flies : ((halt ≡ Memory) × (flight ≡ None)) ⊎ (flight ≡ flight_told p.flight)
-  pub full : (dev : ℕ) → halt ≡ DeviceFull dev → (w : ToWrite) × IsWrittenAt p w × fills w dev
-  pub again : (halt ≡ Memory → ⊥) → lies p
-  pub stays : left p
+  pub full : (dev : ℕ) → halt ≡ DeviceFull dev → (w : ToWrite) × IsWrittenAt p w × devices.fills_device w dev
+  pub again : (halt ≡ Memory → ⊥) → devices.can_reopen_at 0 p
+  pub stays : devices.stands_for_kept None 0 p
 
 -- in telling an event: before it was told, for want of memory, or behind it
-abbrev pub BreaksAt : (lies left : Point → Type 0) → (ToWrite → ℕ → Type 0) → Option Flight → Halt → Point → Event → (story told : List Event) → Type 0
-BreaksAt lies left fills flight halt p e story told =
-    ((told ≡ story) × HaltsAt lies left fills flight halt p × (halt ≡ Memory)) ⊎
-    ((told ≡ story ++ e ∷ []) × ((q : Point) × Moves (Say e) p q × HaltsAt lies left fills flight halt q))
+abbrev pub BreaksAt : OnDevices → Option Flight → Halt → Point → Event → (story told : List Event) → Type 0
+BreaksAt devices flight halt p e story told =
+    ((told ≡ story) × HaltsAt devices flight halt p × (halt ≡ Memory)) ⊎
+    ((told ≡ story ++ e ∷ []) × ((q : Point) × Moves (Say e) p q × HaltsAt devices flight halt q))
 
 -- for want of memory a move was not made
-abbrev pub RunsShort : (lies left : Point → Type 0) → (ToWrite → ℕ → Type 0) → Option Flight → Halt → Point → Type 0
-RunsShort lies left fills flight halt p = (halt ≡ Memory) × HaltsAt lies left fills flight halt p
+abbrev pub RunsShort : OnDevices → Option Flight → Halt → Point → Type 0
+RunsShort devices flight halt p = (halt ≡ Memory) × HaltsAt devices flight halt p
 
 -- what is still to come, by these units and that event, as a number
 abbrev pub left_to_come : List Id → Option Event → ℕ
@@ -85,36 +86,36 @@ IsInside (Ask asked) = ⊥
 IsInside m = ⊤
 
 -- from a point, where this story was told, it has come by moves of one segment to where it stands, and its story has gained their events
-pub record Advances {E : Type 0} (sees : E → Option Event → State → Type 0) (line : Line) (p : Point) (story : List Event) (e : E)
+pub record Advances (stands_for : Option Event → State → Type 0) (line : Line) (p : Point) (story : List Event)
     (next : Option Event) (told : List Event) : Type 0 where
   pub moves : List TraceStep
   pub point : Point
   pub runs : Runs p moves point
   pub inside : Every IsInside moves
-  pub stands : IsAt sees line e next point
+  pub stands : IsAt stands_for line next point
   pub tells : told ≡ story ++ told_by moves
 
 -- it has come so to the end of the segment
-pub record Finishes {E : Type 0} (sees : E → Option Event → State → Type 0) (line : Line) (p : Point) (story : List Event) (e : E)
+pub record Finishes (stands_for : Option Event → State → Type 0) (line : Line) (p : Point) (story : List Event)
     (told : List Event) : Type 0 where
-  pub advances : Advances sees line p story e None told
+  pub advances : Advances stands_for line p story None told
   pub idle : IsIdle advances.point
 
 -- or it broke off: the story has gained the events of such moves, and the engine is to be opened anew
-pub record StopsWithin (lies left : Point → Type 0) (fills : ToWrite → ℕ → Type 0) (flight : Option Flight) (halt : Halt) (p : Point) (story told : List Event) : Type 0 where
+pub record StopsWithin (devices : OnDevices) (flight : Option Flight) (halt : Halt) (p : Point) (story told : List Event) : Type 0 where
   pub moves : List TraceStep
   pub point : Point
   pub runs : Runs p moves point
   pub inside : Every IsInside moves
   pub tells : told ≡ story ++ told_by moves
-  pub halts : HaltsAt lies left fills flight halt point
+  pub halts : HaltsAt devices flight halt point
 
 -- it has come by events of an opening to where it stands
-pub record OpensOn {E : Type 0} (sees : E → Option Event → State → Type 0) (p : Point) (story : List Event) (e : E)
+pub record OpensOn (stands_for : Option Event → State → Type 0) (p : Point) (story : List Event)
     (next : Option Event) (told : List Event) : Type 0 where
   pub moves : List TraceStep
   pub point : Point
   pub runs : Runs p moves point
   pub inside : Every IsInside moves
-  pub stands : IsOpenedOn sees e next point
+  pub stands : IsOpenedOn stands_for next point
   pub tells : told ≡ story ++ told_by moves

@@ -12,10 +12,10 @@ ghost use Rattle.salt_model.specs.declared.events.Event.{Event};
 ghost use Rattle.salt_model.specs.declared.events.Flight.{Flight};
 ghost use Rattle.salt_model.specs.declared.events.Refusal.{Refusal};
 ghost use Rattle.salt_driver.specs.Counting.{CountsStops, armed_told};
+ghost use Rattle.salt_driver.specs.Devices.{OnDevices};
 ghost use Rattle.salt_driver.specs.Standing.{BreaksAt, HaltsAt, IsAt, IsIdleAt, IsSoundPoint, RunsShort, left_to_come};
 ghost use Rattle.salt_storage.specs.Answers.{disk_err};
 ghost use Rattle.salt_storage.specs.Staying.{Setup, StaysWithin};
-ghost use Rattle.salt_storage.specs.Writing.{ToWrite};
 ghost use Rattle.salt_storage.specs.declared.found.Numbers.{Numbers};
 ghost use Rattle.salt_place.specs.Placement.{GivesPlaceOf, TakesEachKey};
 ghost use Rattle.salt_values.specs.declared.id.Id.{Id};
@@ -33,24 +33,16 @@ use salt_values::{Id, Key};
 /// it falls, and is opened anew before it is asked again; after want of memory it is not asked again.
 pub trait Stepping {
     /// With the event at hand it stands for the state before that event.
-    ghost sees: { View → Self → Option Event → State → Type 0 };
+    ghost stands_for: { View → Self → Option Event → State → Type 0 };
 
-    /// It can be opened at this point, which is that of a run that falls: the devices may be above the boot of what is kept there
-    /// by so many boots.
-    ghost lies: { View → Self → ℕ → Point → Type 0 };
-
-    /// Whatever a stop leaves of its devices stands for what is kept at this point, or, where a flight is told, for that with the
-    /// flight; with so many boots more. Where numbers are told, it is one of these alone, and they are its own.
-    ghost left: { View → Self → Option Numbers → ℕ → Point → Type 0 };
+    /// What is left on its devices: where it can be opened, and what they stand for behind a stop.
+    ghost on_devices: { View → Self → OnDevices };
 
     /// What was in flight where it was broken off.
     ghost flight: { Self → Option Flight };
 
     /// The shape that its devices are asked for, and whether its commits go over messages.
     ghost asked: { Self → Setup };
-
-    /// What is written next would pass the limit of this device.
-    ghost fills: { View → Self → ToWrite → ℕ → Type 0 };
 
     /// Its waiting units, behind the event at hand.
     ghost waiting: { Self → List Id };
@@ -71,13 +63,13 @@ pub trait Stepping {
         requires callable { TakesEachKey (F.pre place.now.place) }
         requires answers { GivesPlaceOf (F.post place.now.place) }
         requires served { serves line.now }
-        requires stands { (p : Point) × IsSoundPoint p × IsIdleAt (sees (D.view disks.old)) self.old p }
-        ensures moves { IfOk result (λ next. (p : Point) → IsSoundPoint p → IsIdleAt (sees (D.view disks.old)) self.old p →
-            (q : Point) × Moves (Ask (Tree line.now)) p q × IsAt (sees (D.view disks.new)) line.now self.new next q) }
+        requires stands { (p : Point) × IsSoundPoint p × IsIdleAt (stands_for (D.view disks.old) self.old) p }
+        ensures moves { IfOk result (λ next. (p : Point) → IsSoundPoint p → IsIdleAt (stands_for (D.view disks.old) self.old) p →
+            (q : Point) × Moves (Ask (Tree line.now)) p q × IsAt (stands_for (D.view disks.new) self.new) line.now next q) }
         ensures refused { (refusal : Refusal) → result ≡ Ok (Some (Refused refusal)) → disks.new ≡ disks.old }
-        ensures halts { IfErr result (λ halt. (p : Point) → IsSoundPoint p → IsIdleAt (sees (D.view disks.old)) self.old p →
-            RunsShort (lies (D.view disks.new) self.new 0) (left (D.view disks.new) self.new None 0) (fills (D.view disks.new) self.new) (flight self.new) halt p ⊎
-            ((q : Point) × Moves (Ask (Tree line.now)) p q × HaltsAt (lies (D.view disks.new) self.new 0) (left (D.view disks.new) self.new None 0) (fills (D.view disks.new) self.new) (flight self.new) halt q)) }
+        ensures halts { IfErr result (λ halt. (p : Point) → IsSoundPoint p → IsIdleAt (stands_for (D.view disks.old) self.old) p →
+            RunsShort (on_devices (D.view disks.new) self.new) (flight self.new) halt p ⊎
+            ((q : Point) × Moves (Ask (Tree line.now)) p q × HaltsAt (on_devices (D.view disks.new) self.new) (flight self.new) halt q)) }
         ensures within { StaysWithin (asked self.old) (asked self.new) (D.view disks.old) (D.view disks.new) }
         ensures counts { CountsStops (D.view disks.old) (D.view disks.new) (disk_err result) (armed_told line.now result) 0 };
 
@@ -87,19 +79,19 @@ pub trait Stepping {
         disks: &mut D,
         refusal: Refusal,
     ) -> Result<Option<Event>, Halt>
-        requires { (p : Point) × IsSoundPoint p × IsIdleAt (sees (D.view disks.old)) self.old p }
+        requires { (p : Point) × IsSoundPoint p × IsIdleAt (stands_for (D.view disks.old) self.old) p }
         ensures unwritten { disks.new ≡ disks.old }
-        ensures moves { IfOk result (λ next. (p : Point) → IsSoundPoint p → IsIdleAt (sees (D.view disks.old)) self.old p →
-            (q : Point) × Moves (Ask (Rejected refusal)) p q × IsAt (sees (D.view disks.new)) Nothing self.new next q) }
-        ensures halts { IfErr result (λ halt. (p : Point) → IsSoundPoint p → IsIdleAt (sees (D.view disks.old)) self.old p →
-            RunsShort (lies (D.view disks.new) self.new 0) (left (D.view disks.new) self.new None 0) (fills (D.view disks.new) self.new) (flight self.new) halt p ⊎
-            ((q : Point) × Moves (Ask (Rejected refusal)) p q × HaltsAt (lies (D.view disks.new) self.new 0) (left (D.view disks.new) self.new None 0) (fills (D.view disks.new) self.new) (flight self.new) halt q)) }
+        ensures moves { IfOk result (λ next. (p : Point) → IsSoundPoint p → IsIdleAt (stands_for (D.view disks.old) self.old) p →
+            (q : Point) × Moves (Ask (Rejected refusal)) p q × IsAt (stands_for (D.view disks.new) self.new) Nothing next q) }
+        ensures halts { IfErr result (λ halt. (p : Point) → IsSoundPoint p → IsIdleAt (stands_for (D.view disks.old) self.old) p →
+            RunsShort (on_devices (D.view disks.new) self.new) (flight self.new) halt p ⊎
+            ((q : Point) × Moves (Ask (Rejected refusal)) p q × HaltsAt (on_devices (D.view disks.new) self.new) (flight self.new) halt q)) }
         ensures within { StaysWithin (asked self.old) (asked self.new) (D.view disks.old) (D.view disks.new) }
         ensures counts { CountsStops (D.view disks.old) (D.view disks.new) (disk_err result) (armed_told Nothing result) 0 };
 
     /// The program whose turn behind the line comes next.
     fn next_turn<D: Disks>(&self, disks: &D) -> Option<Id>
-        ensures { (p : Point) → IsSoundPoint p → sees (D.view disks.now) self.now None p.state → result ≡ next_turn_of p.state };
+        ensures { (p : Point) → IsSoundPoint p → stands_for (D.view disks.now) self.now None p.state → result ≡ next_turn_of p.state };
 
     /// Turns to it, and gives the first event of the turn.
     fn turn<D: Disks, F: Fn(PlaceKind, &Key, u32) -> u32>(
@@ -111,12 +103,12 @@ pub trait Stepping {
     ) -> Result<Option<Event>, Halt>
         requires callable { TakesEachKey (F.pre place.now.place) }
         requires answers { GivesPlaceOf (F.post place.now.place) }
-        requires stands { (p : Point) × IsSoundPoint p × IsAt (sees (D.view disks.old)) line.now self.old None p × (next_turn_of p.state ≡ Some base) }
-        ensures moves { IfOk result (λ next. (p : Point) → IsSoundPoint p → IsAt (sees (D.view disks.old)) line.now self.old None p → next_turn_of p.state ≡ Some base →
-            (q : Point) × Moves (Turn base) p q × IsAt (sees (D.view disks.new)) line.now self.new next q) }
-        ensures halts { IfErr result (λ halt. (p : Point) → IsSoundPoint p → IsAt (sees (D.view disks.old)) line.now self.old None p → next_turn_of p.state ≡ Some base →
-            RunsShort (lies (D.view disks.new) self.new 0) (left (D.view disks.new) self.new None 0) (fills (D.view disks.new) self.new) (flight self.new) halt p ⊎
-            ((q : Point) × Moves (Turn base) p q × HaltsAt (lies (D.view disks.new) self.new 0) (left (D.view disks.new) self.new None 0) (fills (D.view disks.new) self.new) (flight self.new) halt q)) }
+        requires stands { (p : Point) × IsSoundPoint p × IsAt (stands_for (D.view disks.old) self.old) line.now None p × (next_turn_of p.state ≡ Some base) }
+        ensures moves { IfOk result (λ next. (p : Point) → IsSoundPoint p → IsAt (stands_for (D.view disks.old) self.old) line.now None p → next_turn_of p.state ≡ Some base →
+            (q : Point) × Moves (Turn base) p q × IsAt (stands_for (D.view disks.new) self.new) line.now next q) }
+        ensures halts { IfErr result (λ halt. (p : Point) → IsSoundPoint p → IsAt (stands_for (D.view disks.old) self.old) line.now None p → next_turn_of p.state ≡ Some base →
+            RunsShort (on_devices (D.view disks.new) self.new) (flight self.new) halt p ⊎
+            ((q : Point) × Moves (Turn base) p q × HaltsAt (on_devices (D.view disks.new) self.new) (flight self.new) halt q)) }
         ensures fewer { OnOk result (turns self.new < turns self.old) }
         ensures within { StaysWithin (asked self.old) (asked self.new) (D.view disks.old) (D.view disks.new) }
         ensures counts { CountsStops (D.view disks.old) (D.view disks.new) (disk_err result) (armed_told line.now result) 0 };
@@ -132,13 +124,13 @@ pub trait Stepping {
     ) -> Result<Option<Event>, Halt>
         requires callable { TakesEachKey (F.pre place.now.place) }
         requires answers { GivesPlaceOf (F.post place.now.place) }
-        requires stands { (p : Point) × IsSoundPoint p × IsAt (sees (D.view disks.old)) line.now self.old (Some event) p }
-        ensures moves { IfOk result (λ next. (p : Point) → IsSoundPoint p → IsAt (sees (D.view disks.old)) line.now self.old (Some event) p →
-            (q : Point) × Moves (Say event) p q × IsAt (sees (D.view disks.new)) line.now self.new next q) }
+        requires stands { (p : Point) × IsSoundPoint p × IsAt (stands_for (D.view disks.old) self.old) line.now (Some event) p }
+        ensures moves { IfOk result (λ next. (p : Point) → IsSoundPoint p → IsAt (stands_for (D.view disks.old) self.old) line.now (Some event) p →
+            (q : Point) × Moves (Say event) p q × IsAt (stands_for (D.view disks.new) self.new) line.now next q) }
         ensures tells { OnOk result (story.new ≡ story.old ++ event ∷ []) }
         ensures refused { (refusal : Refusal) → event ≡ Refused refusal → disks.new ≡ disks.old }
-        ensures halts { IfErr result (λ halt. (p : Point) → IsSoundPoint p → IsAt (sees (D.view disks.old)) line.now self.old (Some event) p →
-            BreaksAt (lies (D.view disks.new) self.new 0) (left (D.view disks.new) self.new None 0) (fills (D.view disks.new) self.new) (flight self.new) halt p event story.old story.new) }
+        ensures halts { IfErr result (λ halt. (p : Point) → IsSoundPoint p → IsAt (stands_for (D.view disks.old) self.old) line.now (Some event) p →
+            BreaksAt (on_devices (D.view disks.new) self.new) (flight self.new) halt p event story.old story.new) }
         ensures less { IfOk result (λ next. left_to_come (waiting self.new) next < left_to_come (waiting self.old) (Some event)) }
         ensures turns { OnOk result (turns self.new ≤ turns self.old) }
         ensures within { StaysWithin (asked self.old) (asked self.new) (D.view disks.old) (D.view disks.new) }
@@ -147,8 +139,9 @@ pub trait Stepping {
     /// A law: between lines it can be opened anew, and nothing is in flight; where it can be opened, what is left of its devices
     /// stands; and so it does where numbers are told.
     fn stands<D: Disks>(&self, disks: &D)
-        ensures idle { (p : Point) → IsSoundPoint p → IsIdleAt (sees (D.view disks.now)) self.now p → lies (D.view disks.now) self.now 0 p }
-        ensures flown { (p : Point) → IsSoundPoint p → IsIdleAt (sees (D.view disks.now)) self.now p → flight self.now ≡ None }
-        ensures left { (room : ℕ) (p : Point) → lies (D.view disks.now) self.now room p → left (D.view disks.now) self.now None room p }
-        ensures told { (numbers : Numbers) (room : ℕ) (p : Point) → left (D.view disks.now) self.now (Some numbers) room p → left (D.view disks.now) self.now None room p };
+        ensures idle { (p : Point) → IsSoundPoint p → IsIdleAt (stands_for (D.view disks.now) self.now) p → (on_devices (D.view disks.now) self.now).can_reopen_at 0 p }
+        ensures flown { (p : Point) → IsSoundPoint p → IsIdleAt (stands_for (D.view disks.now) self.now) p → flight self.now ≡ None }
+        ensures reopens { (room : ℕ) (p : Point) → (on_devices (D.view disks.now) self.now).can_reopen_at room p → (on_devices (D.view disks.now) self.now).stands_for_kept None room p }
+        ensures told { (numbers : Numbers) (room : ℕ) (p : Point) → (on_devices (D.view disks.now) self.now).stands_for_kept (Some numbers) room p →
+            (on_devices (D.view disks.now) self.now).stands_for_kept None room p };
 }

@@ -55,10 +55,10 @@ pub trait Openable: Stepping {
         requires answers { GivesPlaceOf (F.post place.now.place) }
         requires settled { settled (D.view disks.old) self.old }
         ensures found { OnOk result (is_found (D.view disks.new) self.new) }
-        ensures again { (result ≡ Err OpenErr.Memory → ⊥) → (room : ℕ) (p : Point) → IsSoundPoint p → p.state.units.phase ≡ Fallen → Self.lies (D.view disks.old) self.old room p →
-            Self.lies (D.view disks.new) self.new room p }
-        ensures left { (room : ℕ) (p : Point) → IsSoundPoint p → p.state.units.phase ≡ Fallen → Self.lies (D.view disks.old) self.old room p → Self.left (D.view disks.new) self.new (numbers_told result) room p }
-        ensures later { IfErr result (λ e. (room : ℕ) (p : Point) → IsSoundPoint p → p.state.units.phase ≡ Fallen → Self.lies (D.view disks.old) self.old room p → MayFailAt room p e) }
+        ensures again { (result ≡ Err OpenErr.Memory → ⊥) → (room : ℕ) (p : Point) → IsSoundPoint p → p.state.units.phase ≡ Fallen → (Self.on_devices (D.view disks.old) self.old).can_reopen_at room p →
+            (Self.on_devices (D.view disks.new) self.new).can_reopen_at room p }
+        ensures stands { (room : ℕ) (p : Point) → IsSoundPoint p → p.state.units.phase ≡ Fallen → (Self.on_devices (D.view disks.old) self.old).can_reopen_at room p → (Self.on_devices (D.view disks.new) self.new).stands_for_kept (numbers_told result) room p }
+        ensures later { IfErr result (λ e. (room : ℕ) (p : Point) → IsSoundPoint p → p.state.units.phase ≡ Fallen → (Self.on_devices (D.view disks.old) self.old).can_reopen_at room p → MayFailAt room p e) }
         ensures flies { Self.flight self.new ≡ Self.flight self.old }
         ensures full { (dev : ℕ) → result ≡ Err (OpenErr.Full dev) → ⊥ }
         ensures within { StaysWithin (Self.asked self.old) (Self.asked self.new) (D.view disks.old) (D.view disks.new) }
@@ -68,16 +68,16 @@ pub trait Openable: Stepping {
     /// the story as it was.
     fn open<D: Disks>(&mut self, disks: &mut D, story: &mut Story) -> Result<Event, Halt>
         requires found { is_found (D.view disks.old) self.old }
-        requires lies { (room : ℕ) × (p : Point) × IsSoundPoint p × (p.state.units.phase ≡ Fallen) × Self.lies (D.view disks.old) self.old room p }
-        ensures opens { IfOk result (λ next. (room : ℕ) (p : Point) → IsSoundPoint p → p.state.units.phase ≡ Fallen → Self.lies (D.view disks.old) self.old room p →
-            OpensAt (Self.sees (D.view disks.new)) room p story.old self.new next story.new) }
-        ensures lies { IfErr result (λ halt. (halt ≡ Memory → ⊥) → (room : ℕ) (p : Point) → IsSoundPoint p → p.state.units.phase ≡ Fallen → Self.lies (D.view disks.old) self.old room p →
-            Self.lies (D.view disks.new) self.new (room + 1) p) }
-        ensures left { OnErr result ((room : ℕ) (p : Point) → IsSoundPoint p → p.state.units.phase ≡ Fallen → Self.lies (D.view disks.old) self.old room p →
-            Self.left (D.view disks.new) self.new None (room + 1) p) }
+        requires down { (room : ℕ) × (p : Point) × IsSoundPoint p × (p.state.units.phase ≡ Fallen) × (Self.on_devices (D.view disks.old) self.old).can_reopen_at room p }
+        ensures opens { IfOk result (λ next. (room : ℕ) (p : Point) → IsSoundPoint p → p.state.units.phase ≡ Fallen → (Self.on_devices (D.view disks.old) self.old).can_reopen_at room p →
+            OpensAt (Self.stands_for (D.view disks.new) self.new) room p story.old next story.new) }
+        ensures reopens { IfErr result (λ halt. (halt ≡ Memory → ⊥) → (room : ℕ) (p : Point) → IsSoundPoint p → p.state.units.phase ≡ Fallen → (Self.on_devices (D.view disks.old) self.old).can_reopen_at room p →
+            (Self.on_devices (D.view disks.new) self.new).can_reopen_at (room + 1) p) }
+        ensures stands { OnErr result ((room : ℕ) (p : Point) → IsSoundPoint p → p.state.units.phase ≡ Fallen → (Self.on_devices (D.view disks.old) self.old).can_reopen_at room p →
+            (Self.on_devices (D.view disks.new) self.new).stands_for_kept None (room + 1) p) }
         ensures flies { OnErr result (Self.flight self.new ≡ Self.flight self.old) }
         ensures untold { OnErr result (story.new ≡ story.old) }
-        ensures full { (dev : ℕ) → result ≡ Err (DeviceFull dev) → Self.fills (D.view disks.new) self.new OfBoot dev }
+        ensures full { (dev : ℕ) → result ≡ Err (DeviceFull dev) → (Self.on_devices (D.view disks.new) self.new).fills_device OfBoot dev }
         ensures within { StaysWithin (Self.asked self.old) (Self.asked self.new) (D.view disks.old) (D.view disks.new) }
         ensures unarmed { IfOk result (λ next. stops_armed Nothing next ≡ []) }
         ensures counts { CountsStops (D.view disks.old) (D.view disks.new) (disk_err result) [] 0 };
@@ -94,14 +94,14 @@ pub trait Openable: Stepping {
     ) -> Result<Option<Event>, Halt>
         requires callable { TakesEachKey (F.pre place.now.place) }
         requires answers { GivesPlaceOf (F.post place.now.place) }
-        requires stands { (p : Point) × IsSoundPoint p × IsOpeningAt (Self.sees (D.view disks.old)) self.old (Some event) p }
-        ensures moves { IfOk result (λ next. (p : Point) → IsSoundPoint p → IsOpeningAt (Self.sees (D.view disks.old)) self.old (Some event) p →
-            (q : Point) × Moves (Say event) p q × IsOpenedOn (Self.sees (D.view disks.new)) self.new next q) }
+        requires stands { (p : Point) × IsSoundPoint p × IsOpeningAt (Self.stands_for (D.view disks.old) self.old) (Some event) p }
+        ensures moves { IfOk result (λ next. (p : Point) → IsSoundPoint p → IsOpeningAt (Self.stands_for (D.view disks.old) self.old) (Some event) p →
+            (q : Point) × Moves (Say event) p q × IsOpenedOn (Self.stands_for (D.view disks.new) self.new) next q) }
         ensures tells { OnOk result (story.new ≡ story.old ++ event ∷ []) }
-        ensures halts { IfErr result (λ halt. (p : Point) → IsSoundPoint p → IsOpeningAt (Self.sees (D.view disks.old)) self.old (Some event) p →
-            BreaksAt (Self.lies (D.view disks.new) self.new 0) (Self.left (D.view disks.new) self.new None 0) (Self.fills (D.view disks.new) self.new) (Self.flight self.new) halt p event story.old story.new) }
+        ensures halts { IfErr result (λ halt. (p : Point) → IsSoundPoint p → IsOpeningAt (Self.stands_for (D.view disks.old) self.old) (Some event) p →
+            BreaksAt (Self.on_devices (D.view disks.new) self.new) (Self.flight self.new) halt p event story.old story.new) }
         ensures ticks { IfOk result (λ next. steps.new ≡ steps.old + statements_at next) }
-        ensures short { OnErr result ((p : Point) → IsSoundPoint p → IsOpeningAt (Self.sees (D.view disks.old)) self.old (Some event) p →
+        ensures short { OnErr result ((p : Point) → IsSoundPoint p → IsOpeningAt (Self.stands_for (D.view disks.old) self.old) (Some event) p →
             MayTick p event story.old story.new steps.old steps.new) }
         ensures less { IfOk result (λ next. to_open self.new next < to_open self.old (Some event)) }
         ensures within { StaysWithin (Self.asked self.old) (Self.asked self.new) (D.view disks.old) (D.view disks.new) }
@@ -110,8 +110,8 @@ pub trait Openable: Stepping {
 
     /// Falls: the devices are started again.
     fn fall<D: Disks>(&mut self, disks: &mut D)
-        requires { (room : ℕ) × ((p : Point) × Self.lies (D.view disks.old) self.old room p) }
-        ensures lies { (room : ℕ) (p q : Point) → Self.lies (D.view disks.old) self.old room p → IsFallenFrom p q → Self.lies (D.view disks.new) self.new room q }
+        requires { (room : ℕ) × ((p : Point) × (Self.on_devices (D.view disks.old) self.old).can_reopen_at room p) }
+        ensures reopens { (room : ℕ) (p q : Point) → (Self.on_devices (D.view disks.old) self.old).can_reopen_at room p → IsFallenFrom p q → (Self.on_devices (D.view disks.new) self.new).can_reopen_at room q }
         ensures settled { settled (D.view disks.new) self.new }
         ensures flies { Self.flight self.new ≡ Self.flight self.old }
         ensures within { StaysWithin (Self.asked self.old) (Self.asked self.new) (D.view disks.old) (D.view disks.new) }
@@ -120,9 +120,9 @@ pub trait Openable: Stepping {
 
     /// The tables that are defined, unless memory ran out.
     fn schema<D: Disks>(&self, disks: &D) -> &Schema
-        requires left { (room : ℕ) × ((p : Point) × Self.left (D.view disks.now) self.now None room p) }
-        ensures serves { (p : Point) → IsSoundPoint p → Self.sees (D.view disks.now) self.now None p.state → result.now ≡ schema_of p.state.units.kept }
-        ensures lies { (room : ℕ) (p : Point) → IsSoundPoint p → Self.lies (D.view disks.now) self.now room p → result.now ≡ schema_of p.state.units.kept };
+        requires stands { (room : ℕ) × ((p : Point) × (Self.on_devices (D.view disks.now) self.now).stands_for_kept None room p) }
+        ensures serves { (p : Point) → IsSoundPoint p → Self.stands_for (D.view disks.now) self.now None p.state → result.now ≡ schema_of p.state.units.kept }
+        ensures down { (room : ℕ) (p : Point) → IsSoundPoint p → (Self.on_devices (D.view disks.now) self.now).can_reopen_at room p → result.now ≡ schema_of p.state.units.kept };
 
     /// It is given up: what was in flight where it was broken off.
     fn flight(self) -> Option<Flight>
@@ -131,6 +131,6 @@ pub trait Openable: Stepping {
     /// It is given up where nothing is missing of the last line: the net that its commits have gone over since the last opening, where
     /// they go over messages.
     fn into_net<D: Disks>(self, disks: &D) -> Option<Net>
-        requires { (s : State) × Self.sees (D.view disks.now) self None s }
-        ensures { (s : State) → Self.sees (D.view disks.now) self None s → result ≡ option_map (λ t. t.events) (net_told (Self.asked self) s.net) };
+        requires { (s : State) × Self.stands_for (D.view disks.now) self None s }
+        ensures { (s : State) → Self.stands_for (D.view disks.now) self None s → result ≡ option_map (λ t. t.events) (net_told (Self.asked self) s.net) };
 }

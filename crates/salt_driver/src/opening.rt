@@ -71,16 +71,16 @@ pub fn drain<E: Openable, D: Disks, F: Fn(PlaceKind, &Key, u32) -> u32, L: Ledge
 ) -> Result<u64, Halt>
     requires callable { TakesEachKey (F.pre place.now.place) }
     requires answers { GivesPlaceOf (F.post place.now.place) }
-    requires stands { (p : Point) × IsSoundPoint p × IsOpeningAt (E.sees (D.view disks.old)) database.old (Some first) p }
+    requires stands { (p : Point) × IsSoundPoint p × IsOpeningAt (E.stands_for (D.view disks.old) database.old) (Some first) p }
     requires unarmed { stops_armed Nothing first ≡ [] }
-    ensures ok { OnOk result ((p : Point) → IsSoundPoint p → IsOpeningAt (E.sees (D.view disks.old)) database.old (Some first) p →
-        OpensOn (E.sees (D.view disks.new)) p story.old database.new None story.new) }
-    ensures err { IfErr result (λ halt. (p : Point) → IsSoundPoint p → IsOpeningAt (E.sees (D.view disks.old)) database.old (Some first) p →
-        BreaksWithin (E.lies (D.view disks.new) database.new 0) (E.left (D.view disks.new) database.new None 0) (E.fills (D.view disks.new) database.new) (E.flight database.new) halt p story.old story.new) }
+    ensures ok { OnOk result ((p : Point) → IsSoundPoint p → IsOpeningAt (E.stands_for (D.view disks.old) database.old) (Some first) p →
+        OpensOn (E.stands_for (D.view disks.new) database.new) p story.old None story.new) }
+    ensures err { IfErr result (λ halt. (p : Point) → IsSoundPoint p → IsOpeningAt (E.stands_for (D.view disks.old) database.old) (Some first) p →
+        BreaksWithin (E.on_devices (D.view disks.new) database.new) (E.flight database.new) halt p story.old story.new) }
     ensures units { IfOk result (λ units. (more : List Event) → story.new ≡ story.old ++ more → units ≡ units_told more) }
     ensures ticks { OnOk result (CountsSteps first story.old story.new steps.old steps.new 0) }
     ensures short { OnErr result (CountsOff first story.old story.new steps.old steps.new) }
-    ensures most { (p : Point) → IsSoundPoint p → IsOpeningAt (E.sees (D.view disks.old)) database.old (Some first) p →
+    ensures most { (p : Point) → IsSoundPoint p → IsOpeningAt (E.stands_for (D.view disks.old) database.old) (Some first) p →
         CanDrain (units_after first p.state.units).kept → steps.new ≤ steps.old + rests_behind first p.state.units }
     ensures within { StaysWithin (E.asked database.old) (E.asked database.new) (D.view disks.old) (D.view disks.new) }
     ensures counts { CountsOpening (D.view disks.old) (D.view disks.new) (disk_err result) story.old story.new }
@@ -104,15 +104,15 @@ fn finish_opening<E: Openable, D: Disks, F: Fn(PlaceKind, &Key, u32) -> u32, L: 
 ) -> Result<(), Halt>
     requires callable { TakesEachKey (F.pre place.now.place) }
     requires answers { GivesPlaceOf (F.post place.now.place) }
-    requires stands { (p : Point) × IsSoundPoint p × IsOpeningAt (E.sees (D.view disks.old)) database.old (Some first) p }
+    requires stands { (p : Point) × IsSoundPoint p × IsOpeningAt (E.stands_for (D.view disks.old) database.old) (Some first) p }
     requires unarmed { stops_armed Nothing first ≡ [] }
     requires name { blank.name ≡ L.name }
     requires parts { blank.parts ≡ L.parts }
     requires some { 0 < blank.parts }
-    ensures ok { OnOk result ((p : Point) → IsSoundPoint p → IsOpeningAt (E.sees (D.view disks.old)) database.old (Some first) p →
-        OpensOn (E.sees (D.view disks.new)) p story.old database.new None story.new) }
-    ensures err { IfErr result (λ halt. (p : Point) → IsSoundPoint p → IsOpeningAt (E.sees (D.view disks.old)) database.old (Some first) p →
-        BreaksWithin (E.lies (D.view disks.new) database.new 0) (E.left (D.view disks.new) database.new None 0) (E.fills (D.view disks.new) database.new) (E.flight database.new) halt p story.old story.new) }
+    ensures ok { OnOk result ((p : Point) → IsSoundPoint p → IsOpeningAt (E.stands_for (D.view disks.old) database.old) (Some first) p →
+        OpensOn (E.stands_for (D.view disks.new) database.new) p story.old None story.new) }
+    ensures err { IfErr result (λ halt. (p : Point) → IsSoundPoint p → IsOpeningAt (E.stands_for (D.view disks.old) database.old) (Some first) p →
+        BreaksWithin (E.on_devices (D.view disks.new) database.new) (E.flight database.new) halt p story.old story.new) }
     ensures within { StaysWithin (E.asked database.old) (E.asked database.new) (D.view disks.old) (D.view disks.new) }
     ensures counts { CountsOpening (D.view disks.old) (D.view disks.new) (disk_err result) story.old story.new }
 {
@@ -131,11 +131,11 @@ pub fn open_found<E: Openable, D: Disks, F: Fn(PlaceKind, &Key, u32) -> u32>(
     requires callable { TakesEachKey (F.pre place.now.place) }
     requires answers { GivesPlaceOf (F.post place.now.place) }
     requires found { E.is_found (D.view disks.old) database.old }
-    requires down { (start : Start) × (trace : Trace) × IsDown (E.lies (D.view disks.old) database.old) (E.flight database.old) start story.old trace }
-    ensures ok { OnOk result ((start : Start) (trace : Trace) → IsDown (E.lies (D.view disks.old) database.old) (E.flight database.old) start story.old trace →
-        Reopens (E.sees (D.view disks.new)) start trace story.old database.new story.new) }
-    ensures err { IfErr result (λ halt. (start : Start) (trace : Trace) → IsDown (E.lies (D.view disks.old) database.old) (E.flight database.old) start story.old trace →
-        BreaksOpening (E.lies (D.view disks.new) database.new) (E.left (D.view disks.new) database.new) (E.fills (D.view disks.new) database.new) (E.flight database.new) (halted_by halt) start trace story.old story.new) }
+    requires down { (start : Start) × (trace : Trace) × IsDown (E.on_devices (D.view disks.old) database.old) (E.flight database.old) start story.old trace }
+    ensures ok { OnOk result ((start : Start) (trace : Trace) → IsDown (E.on_devices (D.view disks.old) database.old) (E.flight database.old) start story.old trace →
+        Reopens (E.stands_for (D.view disks.new) database.new) start trace story.old story.new) }
+    ensures err { IfErr result (λ halt. (start : Start) (trace : Trace) → IsDown (E.on_devices (D.view disks.old) database.old) (E.flight database.old) start story.old trace →
+        BreaksOpening (E.on_devices (D.view disks.new) database.new) (E.flight database.new) (halted_by halt) start trace story.old story.new) }
     ensures within { StaysWithin (E.asked database.old) (E.asked database.new) (D.view disks.old) (D.view disks.new) }
     ensures counts { CountsOpening (D.view disks.old) (D.view disks.new) (disk_err result) story.old story.new }
 {
@@ -153,11 +153,11 @@ fn open_once<E: Openable, D: Disks, F: Fn(PlaceKind, &Key, u32) -> u32>(
     requires callable { TakesEachKey (F.pre place.now.place) }
     requires answers { GivesPlaceOf (F.post place.now.place) }
     requires settled { E.settled (D.view disks.old) database.old }
-    requires down { (start : Start) × (trace : Trace) × IsDown (E.lies (D.view disks.old) database.old) (E.flight database.old) start story.old trace }
-    ensures ok { OnOk result ((start : Start) (trace : Trace) → IsDown (E.lies (D.view disks.old) database.old) (E.flight database.old) start story.old trace →
-        Reopens (E.sees (D.view disks.new)) start trace story.old database.new story.new) }
-    ensures err { IfErr result (λ e. (start : Start) (trace : Trace) → IsDown (E.lies (D.view disks.old) database.old) (E.flight database.old) start story.old trace →
-        BreaksOpening (E.lies (D.view disks.new) database.new) (E.left (D.view disks.new) database.new) (E.fills (D.view disks.new) database.new) (E.flight database.new) e start trace story.old story.new) }
+    requires down { (start : Start) × (trace : Trace) × IsDown (E.on_devices (D.view disks.old) database.old) (E.flight database.old) start story.old trace }
+    ensures ok { OnOk result ((start : Start) (trace : Trace) → IsDown (E.on_devices (D.view disks.old) database.old) (E.flight database.old) start story.old trace →
+        Reopens (E.stands_for (D.view disks.new) database.new) start trace story.old story.new) }
+    ensures err { IfErr result (λ e. (start : Start) (trace : Trace) → IsDown (E.on_devices (D.view disks.old) database.old) (E.flight database.old) start story.old trace →
+        BreaksOpening (E.on_devices (D.view disks.new) database.new) (E.flight database.new) e start trace story.old story.new) }
     ensures within { StaysWithin (E.asked database.old) (E.asked database.new) (D.view disks.old) (D.view disks.new) }
     ensures counts { CountsOpening (D.view disks.old) (D.view disks.new) (open_disk_err result) story.old story.new }
 {
@@ -176,13 +176,13 @@ fn try_open<E: Openable, D: Disks, F: Fn(PlaceKind, &Key, u32) -> u32>(
     requires callable { TakesEachKey (F.pre place.now.place) }
     requires answers { GivesPlaceOf (F.post place.now.place) }
     requires settled { E.settled (D.view disks.old) database.old }
-    requires down { (start : Start) × (trace : Trace) × IsDown (E.lies (D.view disks.old) database.old) (E.flight database.old) start story.old trace }
-    ensures ok { IfOk result (λ opened. (start : Start) (trace : Trace) → IsDown (E.lies (D.view disks.old) database.old) (E.flight database.old) start story.old trace →
-        OpensOrFalls opened (E.sees (D.view disks.new)) (E.lies (D.view disks.new) database.new) (E.flight database.new) start trace story.old database.new story.new) }
+    requires down { (start : Start) × (trace : Trace) × IsDown (E.on_devices (D.view disks.old) database.old) (E.flight database.old) start story.old trace }
+    ensures ok { IfOk result (λ opened. (start : Start) (trace : Trace) → IsDown (E.on_devices (D.view disks.old) database.old) (E.flight database.old) start story.old trace →
+        OpensOrFalls opened (E.stands_for (D.view disks.new) database.new) (E.on_devices (D.view disks.new) database.new) (E.flight database.new) start trace story.old story.new) }
     ensures settled { result ≡ Ok false → E.settled (D.view disks.new) database.new }
     ensures fewer { result ≡ Ok false → stops_left (D.view disks.new) < stops_left (D.view disks.old) }
-    ensures err { IfErr result (λ e. (start : Start) (trace : Trace) → IsDown (E.lies (D.view disks.old) database.old) (E.flight database.old) start story.old trace →
-        BreaksOpening (E.lies (D.view disks.new) database.new) (E.left (D.view disks.new) database.new) (E.fills (D.view disks.new) database.new) (E.flight database.new) e start trace story.old story.new) }
+    ensures err { IfErr result (λ e. (start : Start) (trace : Trace) → IsDown (E.on_devices (D.view disks.old) database.old) (E.flight database.old) start story.old trace →
+        BreaksOpening (E.on_devices (D.view disks.new) database.new) (E.flight database.new) e start trace story.old story.new) }
     ensures unstopped { result ≡ Err OpenErr.Stopped → ⊥ }
     ensures within { StaysWithin (E.asked database.old) (E.asked database.new) (D.view disks.old) (D.view disks.new) }
     ensures counts { CountsOpening (D.view disks.old) (D.view disks.new) (open_disk_err result) story.old story.new }
@@ -209,11 +209,11 @@ pub fn open<E: Openable, D: Disks, F: Fn(PlaceKind, &Key, u32) -> u32>(
     requires callable { TakesEachKey (F.pre place.now.place) }
     requires answers { GivesPlaceOf (F.post place.now.place) }
     requires settled { E.settled (D.view disks.old) database.old }
-    requires down { (start : Start) × (trace : Trace) × IsDown (E.lies (D.view disks.old) database.old) (E.flight database.old) start story.old trace }
-    ensures ok { OnOk result ((start : Start) (trace : Trace) → IsDown (E.lies (D.view disks.old) database.old) (E.flight database.old) start story.old trace →
-        Reopens (E.sees (D.view disks.new)) start trace story.old database.new story.new) }
-    ensures err { IfErr result (λ e. (start : Start) (trace : Trace) → IsDown (E.lies (D.view disks.old) database.old) (E.flight database.old) start story.old trace →
-        BreaksOpening (E.lies (D.view disks.new) database.new) (E.left (D.view disks.new) database.new) (E.fills (D.view disks.new) database.new) (E.flight database.new) e start trace story.old story.new) }
+    requires down { (start : Start) × (trace : Trace) × IsDown (E.on_devices (D.view disks.old) database.old) (E.flight database.old) start story.old trace }
+    ensures ok { OnOk result ((start : Start) (trace : Trace) → IsDown (E.on_devices (D.view disks.old) database.old) (E.flight database.old) start story.old trace →
+        Reopens (E.stands_for (D.view disks.new) database.new) start trace story.old story.new) }
+    ensures err { IfErr result (λ e. (start : Start) (trace : Trace) → IsDown (E.on_devices (D.view disks.old) database.old) (E.flight database.old) start story.old trace →
+        BreaksOpening (E.on_devices (D.view disks.new) database.new) (E.flight database.new) e start trace story.old story.new) }
     ensures unstopped { result ≡ Err OpenErr.Stopped → ⊥ }
     ensures within { StaysWithin (E.asked database.old) (E.asked database.new) (D.view disks.old) (D.view disks.new) }
     ensures counts { CountsOpening (D.view disks.old) (D.view disks.new) (open_disk_err result) story.old story.new }
@@ -233,11 +233,11 @@ pub fn recover<E: Openable, D: Disks, F: Fn(PlaceKind, &Key, u32) -> u32>(
 ) -> Result<(), OpenErr>
     requires callable { TakesEachKey (F.pre place.now.place) }
     requires answers { GivesPlaceOf (F.post place.now.place) }
-    requires halted { (start : Start) × (trace : Trace) × Halts (E.lies (D.view disks.old) database.old 0) (E.left (D.view disks.old) database.old None 0) (E.fills (D.view disks.old) database.old) (E.flight database.old) (halt_of why) start story.old trace }
-    ensures ok { OnOk result ((start : Start) (trace : Trace) → Halts (E.lies (D.view disks.old) database.old 0) (E.left (D.view disks.old) database.old None 0) (E.fills (D.view disks.old) database.old) (E.flight database.old) (halt_of why) start story.old trace →
-        Reopens (E.sees (D.view disks.new)) start trace story.old database.new story.new) }
-    ensures err { IfErr result (λ e. (start : Start) (trace : Trace) → Halts (E.lies (D.view disks.old) database.old 0) (E.left (D.view disks.old) database.old None 0) (E.fills (D.view disks.old) database.old) (E.flight database.old) (halt_of why) start story.old trace →
-        BreaksOpening (E.lies (D.view disks.new) database.new) (E.left (D.view disks.new) database.new) (E.fills (D.view disks.new) database.new) (E.flight database.new) e start trace story.old story.new) }
+    requires halted { (start : Start) × (trace : Trace) × Halts (E.on_devices (D.view disks.old) database.old) (E.flight database.old) (halt_of why) start story.old trace }
+    ensures ok { OnOk result ((start : Start) (trace : Trace) → Halts (E.on_devices (D.view disks.old) database.old) (E.flight database.old) (halt_of why) start story.old trace →
+        Reopens (E.stands_for (D.view disks.new) database.new) start trace story.old story.new) }
+    ensures err { IfErr result (λ e. (start : Start) (trace : Trace) → Halts (E.on_devices (D.view disks.old) database.old) (E.flight database.old) (halt_of why) start story.old trace →
+        BreaksOpening (E.on_devices (D.view disks.new) database.new) (E.flight database.new) e start trace story.old story.new) }
     ensures unstopped { result ≡ Err OpenErr.Stopped → ⊥ }
     ensures within { StaysWithin (E.asked database.old) (E.asked database.new) (D.view disks.old) (D.view disks.new) }
     ensures counts { CountsFall why (D.view disks.old) (D.view disks.new) (open_disk_err result) story.old story.new }

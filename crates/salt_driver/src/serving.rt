@@ -33,11 +33,11 @@ fn settle<E: Stepping, D: Disks, F: Fn(PlaceKind, &Key, u32) -> u32>(
 ) -> Result<(), Halt>
     requires callable { TakesEachKey (F.pre place.now.place) }
     requires answers { GivesPlaceOf (F.post place.now.place) }
-    requires stands { (p : Point) × IsSoundPoint p × IsAt (E.sees (D.view disks.old)) line.now engine.old first p }
-    ensures ok { OnOk result ((p : Point) → IsSoundPoint p → IsAt (E.sees (D.view disks.old)) line.now engine.old first p →
-        Advances (E.sees (D.view disks.new)) line.now p story.old engine.new None story.new) }
-    ensures err { IfErr result (λ halt. (p : Point) → IsSoundPoint p → IsAt (E.sees (D.view disks.old)) line.now engine.old first p →
-        StopsWithin (E.lies (D.view disks.new) engine.new 0) (E.left (D.view disks.new) engine.new None 0) (E.fills (D.view disks.new) engine.new) (E.flight engine.new) halt p story.old story.new) }
+    requires stands { (p : Point) × IsSoundPoint p × IsAt (E.stands_for (D.view disks.old) engine.old) line.now first p }
+    ensures ok { OnOk result ((p : Point) → IsSoundPoint p → IsAt (E.stands_for (D.view disks.old) engine.old) line.now first p →
+        Advances (E.stands_for (D.view disks.new) engine.new) line.now p story.old None story.new) }
+    ensures err { IfErr result (λ halt. (p : Point) → IsSoundPoint p → IsAt (E.stands_for (D.view disks.old) engine.old) line.now first p →
+        StopsWithin (E.on_devices (D.view disks.new) engine.new) (E.flight engine.new) halt p story.old story.new) }
     ensures turns { OnOk result (E.turns engine.new ≤ E.turns engine.old) }
     ensures refused { (refusal : Refusal) → first ≡ Some (Refused refusal) → disks.new ≡ disks.old }
     ensures within { StaysWithin (E.asked engine.old) (E.asked engine.new) (D.view disks.old) (D.view disks.new) }
@@ -61,12 +61,12 @@ fn finish<E: Stepping, D: Disks, F: Fn(PlaceKind, &Key, u32) -> u32>(
 ) -> Result<(), Halt>
     requires callable { TakesEachKey (F.pre place.now.place) }
     requires answers { GivesPlaceOf (F.post place.now.place) }
-    requires stands { (p : Point) × IsSoundPoint p × IsAt (E.sees (D.view disks.old)) line.now engine.old first p }
-    ensures ok { OnOk result ((p : Point) → IsSoundPoint p → IsAt (E.sees (D.view disks.old)) line.now engine.old first p →
-        Finishes (E.sees (D.view disks.new)) line.now p story.old engine.new story.new) }
-    ensures err { IfErr result (λ halt. (p : Point) → IsSoundPoint p → IsAt (E.sees (D.view disks.old)) line.now engine.old first p →
-        StopsWithin (E.lies (D.view disks.new) engine.new 0) (E.left (D.view disks.new) engine.new None 0) (E.fills (D.view disks.new) engine.new) (E.flight engine.new) halt p story.old story.new) }
-    ensures refused { (refusal : Refusal) (p : Point) → IsSoundPoint p → IsAt (E.sees (D.view disks.old)) line.now engine.old first p →
+    requires stands { (p : Point) × IsSoundPoint p × IsAt (E.stands_for (D.view disks.old) engine.old) line.now first p }
+    ensures ok { OnOk result ((p : Point) → IsSoundPoint p → IsAt (E.stands_for (D.view disks.old) engine.old) line.now first p →
+        Finishes (E.stands_for (D.view disks.new) engine.new) line.now p story.old story.new) }
+    ensures err { IfErr result (λ halt. (p : Point) → IsSoundPoint p → IsAt (E.stands_for (D.view disks.old) engine.old) line.now first p →
+        StopsWithin (E.on_devices (D.view disks.new) engine.new) (E.flight engine.new) halt p story.old story.new) }
+    ensures refused { (refusal : Refusal) (p : Point) → IsSoundPoint p → IsAt (E.stands_for (D.view disks.old) engine.old) line.now first p →
         p.state.units.to_go ≡ [] → first ≡ Some (Refused refusal) → disks.new ≡ disks.old }
     ensures within { StaysWithin (E.asked engine.old) (E.asked engine.new) (D.view disks.old) (D.view disks.new) }
     ensures counts { CountsMore line.now (D.view disks.old) (D.view disks.new) (disk_err result) first story.old story.new }
@@ -92,9 +92,9 @@ pub fn step<E: Stepping, D: Disks, F: Fn(PlaceKind, &Key, u32) -> u32>(
     requires answers { GivesPlaceOf (F.post place.now.place) }
     requires served { E.serves line.now }
     requires key { HasKey (Tree line.now) }
-    requires stands { (start : Start) × (trace : Trace) × Serves (E.sees (D.view disks.old)) start engine.old story.old trace }
-    ensures segment { OnOk result (GoesOn (E.sees (D.view disks.old)) (E.sees (D.view disks.new)) engine.old story.old (Tree line.now) engine.new story.new) }
-    ensures broken_off { IfErr result (λ halt. BreaksOff (E.sees (D.view disks.old)) (E.lies (D.view disks.new) engine.new 0) (E.left (D.view disks.new) engine.new None 0) (E.fills (D.view disks.new) engine.new) (E.flight engine.new) halt engine.old story.old (Tree line.now) story.new) }
+    requires stands { (start : Start) × (trace : Trace) × Serves (E.stands_for (D.view disks.old) engine.old) start story.old trace }
+    ensures segment { OnOk result (GoesOn (E.stands_for (D.view disks.old) engine.old) (E.stands_for (D.view disks.new) engine.new) story.old (Tree line.now) story.new) }
+    ensures broken_off { IfErr result (λ halt. BreaksOff (E.stands_for (D.view disks.old) engine.old) (E.on_devices (D.view disks.new) engine.new) (E.flight engine.new) halt story.old (Tree line.now) story.new) }
     ensures refused { (refusal : Refusal) → story.new ≡ story.old ++ Refused refusal ∷ [] → disks.new ≡ disks.old }
     ensures within { StaysWithin (E.asked engine.old) (E.asked engine.new) (D.view disks.old) (D.view disks.new) }
     ensures counts { CountsMore line.now (D.view disks.old) (D.view disks.new) (disk_err result) None story.old story.new }
@@ -113,9 +113,9 @@ pub fn refuse<E: Stepping, D: Disks, F: Fn(PlaceKind, &Key, u32) -> u32>(
 ) -> Result<(), Halt>
     requires callable { TakesEachKey (F.pre place.now.place) }
     requires answers { GivesPlaceOf (F.post place.now.place) }
-    requires stands { (start : Start) × (trace : Trace) × Serves (E.sees (D.view disks.old)) start engine.old story.old trace }
-    ensures segment { OnOk result (GoesOn (E.sees (D.view disks.old)) (E.sees (D.view disks.new)) engine.old story.old (Rejected refusal) engine.new story.new) }
-    ensures broken_off { IfErr result (λ halt. BreaksOff (E.sees (D.view disks.old)) (E.lies (D.view disks.new) engine.new 0) (E.left (D.view disks.new) engine.new None 0) (E.fills (D.view disks.new) engine.new) (E.flight engine.new) halt engine.old story.old (Rejected refusal) story.new) }
+    requires stands { (start : Start) × (trace : Trace) × Serves (E.stands_for (D.view disks.old) engine.old) start story.old trace }
+    ensures segment { OnOk result (GoesOn (E.stands_for (D.view disks.old) engine.old) (E.stands_for (D.view disks.new) engine.new) story.old (Rejected refusal) story.new) }
+    ensures broken_off { IfErr result (λ halt. BreaksOff (E.stands_for (D.view disks.old) engine.old) (E.on_devices (D.view disks.new) engine.new) (E.flight engine.new) halt story.old (Rejected refusal) story.new) }
     ensures unwritten { disks.new ≡ disks.old }
     ensures within { StaysWithin (E.asked engine.old) (E.asked engine.new) (D.view disks.old) (D.view disks.new) }
     ensures counts { CountsMore Nothing (D.view disks.old) (D.view disks.new) (disk_err result) None story.old story.new }

@@ -6,7 +6,7 @@ use Rattle.salt_engine.proofs.LineGoes.{asked-moves, asked-played, asked-serves,
 use Rattle.salt_engine.proofs.Stages.{turns-here, turns-now}
 use Rattle.salt_engine.specs.Flights.{flight_of}
 use Rattle.salt_engine.specs.Performing.{BreaksOff, IsServed, IsToAskIn, Performs, TurnsIn}
-use Rattle.salt_engine.specs.Standing.{LeavesOnDevices, CanReopenAt, AgreesWithState, StandsAtEventIn, serving_books, turns_by, turns_in}
+use Rattle.salt_engine.specs.Standing.{AgreesWithState, StandsAtEventIn, left_on_devices, serving_books, turns_by, turns_in}
 use Rattle.salt_engine.specs.declared.flights.InFlight.{InFlight}
 use Rattle.salt_engine.specs.declared.stage.Stage.TheVariants as at
 use Rattle.salt_engine.specs.declared.stage.Stage.{Stage}
@@ -40,7 +40,7 @@ use Rattle.salt_conflicts.proofs.Readable.{readable}
 use Rattle.std.proofs.Common.{ap, arith, inl, inr, subst, sym, ◌∙◌}
 use Rattle.std.specs.List.{find}
 use Rattle.std.specs.Option.{option_or}
-use Rattle.std.specs.Prelude.{Bool, Err, IfOk, IsSome, List, None, Ok, OnOk, Option, Result, Some, [], cond, false, if◌then◌else◌, is_some, length, refl, true, ℕ, ⊤, ◌&&◌, ◌<◌, ◌∷◌, ◌≡◌, ◌≤◌}
+use Rattle.std.specs.Prelude.{Bool, Err, IfOk, List, None, Ok, OnOk, Option, Result, Some, [], cond, false, if◌then◌else◌, is_some, length, refl, true, ℕ, ◌&&◌, ◌<◌, ◌∷◌, ◌≡◌, ◌≤◌}
 
 pub sound-here : (p : Point) → IsSoundPoint p → IsSoundState p.state
 sound-here p sound = record { trace = sound.trace; keeps = sound.keeps.state; sound = sound.sound }
@@ -75,32 +75,32 @@ to-ask holds is_new stoppable (at.Going x) single in_flight line p sound idle se
 to-ask holds is_new stoppable (at.Down books) single in_flight line p sound idle served keys sees = absurd sees.seen
 to-ask holds is_new stoppable at.Lost single in_flight line p sound idle served keys sees = absurd sees.seen
 
-pub asked-there : {E : Type 0} (sees : E → Option Event → State → Type 0) (e : E) (asked : Asked) (p : Point) (sound : IsSoundPoint p) (idle : IsIdle p) (r : WatchReading p.state.watch)
-    (given : Option Event) → sees e given (asked_of asked p.state) → given ≡ asked_next p.state r asked → (q : Point) × Moves (Ask asked) p q × IsAt sees (line_asked asked) e given q
-asked-there sees e asked p sound idle r given state told = (
+pub asked-there : (stands_for : Option Event → State → Type 0) (asked : Asked) (p : Point) (sound : IsSoundPoint p) (idle : IsIdle p) (r : WatchReading p.state.watch)
+    (given : Option Event) → stands_for given (asked_of asked p.state) → given ≡ asked_next p.state r asked → (q : Point) × Moves (Ask asked) p q × IsAt stands_for (line_asked asked) given q
+asked-there stands_for asked p sound idle r given state told = (
   asked_to asked p sound idle r,
   asked-moves asked p sound idle r,
   record { state = state; comes = sym told; serves = idle.serves; line = refl },
 )
 
-module _ (holds : Kept → Type 0) (leaves : Kept → Kept → Type 0) (fills : ToWrite → ℕ → Type 0) (halt : Halt) (old stoppable : Bool) (stage : Stage Scheduler) (single : Bool)
+module _ (holds : Kept → Type 0) (leaves : Kept → Kept → Type 0) (rests : Kept → Type 0) (fills : ToWrite → ℕ → Type 0) (halt : Halt) (old stoppable : Bool) (stage : Stage Scheduler) (single : Bool)
     (in_flight : Option InFlight) (p : Point) (sound : IsSoundPoint p) (can : p.state.can_stop ≡ old) (same : stoppable ≡ old) (kept : IsSoundKept p.state.units.kept) where
   pub asked-halts : (asked : Asked) (idle : IsIdle p) (r : WatchReading p.state.watch) → BreaksOff leaves fills halt stage in_flight (asked_next p.state r asked) (asked_of asked p.state).units →
       single ≡ is_statement_line (line_asked asked) →
-      (q : Point) × Moves (Ask asked) p q × HaltsAt (λ p. CanReopenAt holds leaves stoppable None (serving_books stage) single in_flight 0 p) (λ p. LeavesOnDevices holds leaves (IsSome in_flight) None 0 p × ⊤) fills (flight_of in_flight) halt q
+      (q : Point) × Moves (Ask asked) p q × HaltsAt (left_on_devices holds leaves rests fills stoppable None (serving_books stage) single in_flight) (flight_of in_flight) halt q
   asked-halts asked idle r b line = (
     asked_to asked p sound idle r,
     asked-moves asked p sound idle r,
-    halts books_of holds leaves fills halt stoppable None refl stage single in_flight (asked_to asked p sound idle r) b refl (can ∙ sym same) line kept,
+    halts books_of holds leaves rests fills halt stoppable None refl stage single in_flight (asked_to asked p sound idle r) b refl (can ∙ sym same) line kept,
   )
 
   pub turned-halts : (b : Id) (serves : p.state.units.phase ≡ Serving) (none : p.next ≡ None) (turn : next_turn_of p.state ≡ Some b) (r : WatchReading p.state.watch) →
       BreaksOff leaves fills halt stage in_flight (turned_next p.state r b) (turned_to b p.state).units → single ≡ is_statement_line p.state.units.line →
-      (q : Point) × Moves (Turn b) p q × HaltsAt (λ p. CanReopenAt holds leaves stoppable None (serving_books stage) single in_flight 0 p) (λ p. LeavesOnDevices holds leaves (IsSome in_flight) None 0 p × ⊤) fills (flight_of in_flight) halt q
+      (q : Point) × Moves (Turn b) p q × HaltsAt (left_on_devices holds leaves rests fills stoppable None (serving_books stage) single in_flight) (flight_of in_flight) halt q
   turned-halts b serves none turn r broken line = (
     turned_at b p sound serves none turn r,
     turned-moves b p sound serves none turn r,
-    halts books_of holds leaves fills halt stoppable None refl stage single in_flight (turned_at b p sound serves none turn r) broken refl (can ∙ sym same) line kept,
+    halts books_of holds leaves rests fills halt stoppable None refl stage single in_flight (turned_at b p sound serves none turn r) broken refl (can ∙ sym same) line kept,
   )
 
 -- A TURN
@@ -115,10 +115,10 @@ to-turn holds is_new (at.Going x) line b p sound serves served none turn seen = 
 to-turn holds is_new (at.Down books) line b p sound serves served none turn seen = absurd seen
 to-turn holds is_new at.Lost line b p sound serves served none turn seen = absurd seen
 
-pub turned-there : {E : Type 0} (sees : E → Option Event → State → Type 0) (e : E) (line : Line) (b : Id) (p : Point) (sound : IsSoundPoint p) (serves : p.state.units.phase ≡ Serving)
-    (none : p.next ≡ None) (turn : next_turn_of p.state ≡ Some b) (r : WatchReading p.state.watch) (given : Option Event) → p.state.units.line ≡ line → sees e given (turned_to b p.state) →
-    given ≡ turned_next p.state r b → (q : Point) × Moves (Turn b) p q × IsAt sees line e given q
-turned-there sees e line b p sound serves none turn r given served state told = (
+pub turned-there : (stands_for : Option Event → State → Type 0) (line : Line) (b : Id) (p : Point) (sound : IsSoundPoint p) (serves : p.state.units.phase ≡ Serving)
+    (none : p.next ≡ None) (turn : next_turn_of p.state ≡ Some b) (r : WatchReading p.state.watch) (given : Option Event) → p.state.units.line ≡ line → stands_for given (turned_to b p.state) →
+    given ≡ turned_next p.state r b → (q : Point) × Moves (Turn b) p q × IsAt stands_for line given q
+turned-there stands_for line b p sound serves none turn r given served state told = (
   turned_at b p sound serves none turn r,
   turned-moves b p sound serves none turn r,
   record { state = state; comes = sym told; serves = serves; line = served },

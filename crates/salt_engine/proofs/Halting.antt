@@ -3,7 +3,7 @@ use Rattle.salt_books.specs.Books.{AreBooks}
 use Rattle.salt_books.specs.declared.books.Books.{Books}
 use Rattle.salt_engine.specs.Flights.{IsInFlight, flight_of}
 use Rattle.salt_engine.specs.Performing.{BreaksOff, IsHalted, IsLost}
-use Rattle.salt_engine.specs.Standing.{KnowUnits, LeavesOnDevices, CanReopenAt, books_in}
+use Rattle.salt_engine.specs.Standing.{KnowUnits, LeavesOnDevices, books_in, left_on_devices}
 use Rattle.salt_engine.specs.Stored.{IsLeft, LeavesEither, MayBeOther, kept_behind}
 use Rattle.salt_engine.specs.declared.flights.InFlight.TheVariants as asked
 use Rattle.salt_engine.specs.declared.flights.InFlight.{InFlight}
@@ -26,7 +26,7 @@ use Rattle.salt_storage.specs.Writing.{ToWrite}
 use Rattle.salt_storage.specs.declared.halt.Halt.TheVariants.{Memory}
 use Rattle.salt_storage.specs.declared.halt.Halt.{Halt}
 use Rattle.std.proofs.Common.{ap, arith, inl, inr, subst, sym, ◌∙◌}
-use Rattle.std.specs.Prelude.{Bool, IsSome, None, Option, Some, refl, ℕ, ⊤, ◌+◌, ◌≡◌, ◌⊎◌}
+use Rattle.std.specs.Prelude.{Bool, IsSome, None, Option, Some, refl, ℕ, ◌+◌, ◌≡◌, ◌⊎◌}
 
 plus-none : (n : ℕ) → n ≡ n + 0
 plus-none n = omega arith
@@ -59,12 +59,12 @@ flight-told (Some (asked.Program p text)) f s h = sym (ap flight_told h.2)
 pub know-units : (x : Books) (s : UnitState) → AreBooks x s → KnowUnits x s
 know-units x s h = record { units = s.unit_count; bases = s.base_count; goes = s.to_go; are = h; going = inr refl }
 
-module _ {H : Type 0} (books_of : H → Books) (holds : Kept → Type 0) (leaves : Kept → Kept → Type 0) (fills : ToWrite → ℕ → Type 0) (halt : Halt) (stoppable : Bool)
+module _ {H : Type 0} (books_of : H → Books) (holds : Kept → Type 0) (leaves : Kept → Kept → Type 0) (rests : Kept → Type 0) (fills : ToWrite → ℕ → Type 0) (halt : Halt) (stoppable : Bool)
     (found : Option Numbers) (unfound : found ≡ None) (stage : Stage H) (single : Bool) (in_flight : Option InFlight) (q : Point) (b : BreaksOff leaves fills halt stage in_flight q.next q.state.units) (flight : q.flight ≡ decision_in q.next)
   where
     abbrev Halts : Type 0
     Halts =
-        HaltsAt (λ p. CanReopenAt holds leaves stoppable found (books_in books_of stage) single in_flight 0 p) (λ p. LeavesOnDevices holds leaves (IsSome in_flight) found 0 p × ⊤) fills (flight_of in_flight) halt q
+        HaltsAt (left_on_devices holds leaves rests fills stoppable found (books_in books_of stage) single in_flight) (flight_of in_flight) halt q
 
     left : LeavesEither leaves (IsSome in_flight) q.state.units.kept (kept_behind q.flight q.state.units)
     left = subst (λ (f : Option Event). LeavesEither leaves (IsSome in_flight) q.state.units.kept (kept_behind f q.state.units)) (sym flight) b.left
@@ -115,18 +115,18 @@ module _ {H : Type 0} (books_of : H → Books) (holds : Kept → Type 0) (leaves
         by (inr h) = down stops line kept h
 
 -- memory ran out here, where this is left
-pub memory-at : {H : Type 0} (books_of : H → Books) (holds : Kept → Type 0) (leaves : Kept → Kept → Type 0) (fills : ToWrite → ℕ → Type 0) (stoppable : Bool)
+pub memory-at : {H : Type 0} (books_of : H → Books) (holds : Kept → Type 0) (leaves : Kept → Kept → Type 0) (rests : Kept → Type 0) (fills : ToWrite → ℕ → Type 0) (stoppable : Bool)
     (found : Option Numbers) → found ≡ None → (stage : Stage H) (single : Bool) (in_flight : Option InFlight) (p : Point) (k : Kept) → p.flight ≡ decision_in p.next → leaves k k →
     MayBeOther (IsSome in_flight) p.state.units.kept (kept_behind (decision_in p.next) p.state.units) k → IsLost stage in_flight p.next p.state.units →
-    HaltsAt (λ p. CanReopenAt holds leaves stoppable found (books_in books_of stage) single in_flight 0 p) (λ p. LeavesOnDevices holds leaves (IsSome in_flight) found 0 p × ⊤) fills (flight_of in_flight) Memory p
-memory-at books_of holds leaves fills stoppable found unfound stage single in_flight p k flight left is l =
-    lost books_of holds leaves fills Memory stoppable found unfound stage single in_flight p (breaks-lost leaves fills stage in_flight p.next p.state.units k left is l) flight refl l
+    HaltsAt (left_on_devices holds leaves rests fills stoppable found (books_in books_of stage) single in_flight) (flight_of in_flight) Memory p
+memory-at books_of holds leaves rests fills stoppable found unfound stage single in_flight p k flight left is l =
+    lost books_of holds leaves rests fills Memory stoppable found unfound stage single in_flight p (breaks-lost leaves fills stage in_flight p.next p.state.units k left is l) flight refl l
 
 -- as the halt is passed on
-pub memory-as : {H : Type 0} (books_of : H → Books) (holds : Kept → Type 0) (leaves : Kept → Kept → Type 0) (fills : ToWrite → ℕ → Type 0) (stoppable : Bool)
+pub memory-as : {H : Type 0} (books_of : H → Books) (holds : Kept → Type 0) (leaves : Kept → Kept → Type 0) (rests : Kept → Type 0) (fills : ToWrite → ℕ → Type 0) (stoppable : Bool)
     (stage : Stage H) (single : Bool) (in_flight : Option InFlight) (halt : Halt) (p : Point) (k : Kept) → halt ≡ Memory → p.flight ≡ decision_in p.next → leaves k k →
     MayBeOther (IsSome in_flight) p.state.units.kept (kept_behind (decision_in p.next) p.state.units) k → IsLost stage in_flight p.next p.state.units →
-    HaltsAt (λ p. CanReopenAt holds leaves stoppable None (books_in books_of stage) single in_flight 0 p) (λ p. LeavesOnDevices holds leaves (IsSome in_flight) None 0 p × ⊤) fills (flight_of in_flight) halt p
-memory-as books_of holds leaves fills stoppable stage single in_flight halt p k memory flight left is l =
-    subst (λ (h : Halt). HaltsAt (λ p. CanReopenAt holds leaves stoppable None (books_in books_of stage) single in_flight 0 p) (λ p. LeavesOnDevices holds leaves (IsSome in_flight) None 0 p × ⊤) fills (flight_of in_flight) h p)
-    (sym memory) (memory-at books_of holds leaves fills stoppable None refl stage single in_flight p k flight left is l)
+    HaltsAt (left_on_devices holds leaves rests fills stoppable None (books_in books_of stage) single in_flight) (flight_of in_flight) halt p
+memory-as books_of holds leaves rests fills stoppable stage single in_flight halt p k memory flight left is l =
+    subst (λ (h : Halt). HaltsAt (left_on_devices holds leaves rests fills stoppable None (books_in books_of stage) single in_flight) (flight_of in_flight) h p)
+    (sym memory) (memory-at books_of holds leaves rests fills stoppable None refl stage single in_flight p k flight left is l)

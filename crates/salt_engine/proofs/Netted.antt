@@ -12,15 +12,17 @@ use Rattle.salt_books.specs.declared.coming.Coming.{Coming}
 use Rattle.salt_books.specs.declared.books.Books.{Books}
 use Rattle.salt_engine.proofs.Decided.{named-own, named-unit}
 use Rattle.salt_engine.specs.Deciding.{IsBefore, branches_in}
-use Rattle.salt_engine.specs.Netted.{LiesNet, SeesNet, net_after}
+use Rattle.salt_engine.specs.Netted.{CanReopenNet, AgreesWithNet, net_after}
 use Rattle.salt_model.specs.Refusals.{defines}
 use Rattle.salt_engine.specs.Performing.{is_prepared}
+use Rattle.salt_driver.specs.Devices.{on_devices}
 use Rattle.salt_driver.specs.Standing.{BreaksAt, HaltsAt}
 use Rattle.law_states.specs.Points.{Ask, Moves, Point, Say, TraceStep, Turn}
 use Rattle.salt_model.specs.Kept.{Kept}
 use Rattle.salt_model.specs.Trace.{Asked}
 use Rattle.salt_model.specs.declared.events.Flight.{Flight}
 use Rattle.salt_storage.specs.Writing.{ToWrite}
+use Rattle.salt_storage.specs.declared.found.Numbers.{Numbers}
 use Rattle.salt_storage.specs.declared.halt.Halt.{Halt}
 use Rattle.salt_model.specs.Next.{decision_in}
 use Rattle.salt_model.specs.declared.events.Cause.{Cause}
@@ -112,7 +114,7 @@ other-sent setup old new other meant s is sent = subst (λ (m : Option Event). n
 -- FROM EVENT TO EVENT
 
 -- the event at hand is told
-pub told-sent : (setup : Setup) (net : Option Turning) (e : Event) (s t : State) → After e s t → SeesNet setup net (Some e) s → SeesNet setup net None t
+pub told-sent : (setup : Setup) (net : Option Turning) (e : Event) (s t : State) → After e s t → AgreesWithNet setup net (Some e) s → AgreesWithNet setup net None t
 told-sent setup net e s t after h = record { over = after.over_net ∙ h.over; sent = h.sent ∙ by setup.over_net }
   where
     by : (over : Bool) → net_after setup (Some e) s.units (if over then Some (s.net setup.shape) else None) ≡ (if over then Some (t.net setup.shape) else None)
@@ -121,7 +123,7 @@ told-sent setup net e s t after h = record { over = after.over_net ∙ h.over; s
 
 -- and this comes next, which the storage has gone by
 pub next-sent : (setup later : Setup) (net now : Option Turning) (meant given : Option Event) (s t : State) → t.net ≡ s.net → t.over_net ≡ s.over_net → later ≡ setup → given ≡ meant →
-    now ≡ net_after setup meant t.units net → SeesNet setup net None s → SeesNet later now given t
+    now ≡ net_after setup meant t.units net → AgreesWithNet setup net None s → AgreesWithNet later now given t
 next-sent setup later net now meant given s t same over asked is moved h = record {
   over = over ∙ h.over ∙ ap (λ (q : Setup). q.over_net) (sym asked);
   sent = moved ∙ (λ i. net_after (sym asked i) (sym is i) t.units ((h.sent ∙ ap (net_told setup) (sym same)) i)) ∙ ap (λ (q : Setup). net_after later given t.units (net_told q t.net)) (sym asked);
@@ -138,19 +140,19 @@ turned-over b p q moves = ap (λ (s : State). s.over_net) moves.state
 pub said-over : (e : Event) (p q : Point) → Moves (Say e) p q → q.state.over_net ≡ p.state.over_net
 said-over e p q moves = moves.0.after.over_net
 
-pub lies-net : (setup later : Setup) (net : Option Turning) {s : State} → s.over_net ≡ setup.over_net → later ≡ setup → LiesNet later net None s
+pub lies-net : (setup later : Setup) (net : Option Turning) {s : State} → s.over_net ≡ setup.over_net → later ≡ setup → CanReopenNet later net None s
 lies-net setup later net over same = record { over = over ∙ ap (λ (q : Setup). q.over_net) (sym same); begun = tt }
 
 -- broken off there, it lies so too
-module _ (lies N left : Point → Type 0) (fills : ToWrite → ℕ → Type 0) (flight : Option Flight) (halt : Halt) where
-  pub halts-net : (q : Point) → N q → HaltsAt lies left fills flight halt q → HaltsAt (λ p. lies p × N p) left fills flight halt q
+module _ (can : ℕ → Point → Type 0) (N : Point → Type 0) (stands : Option Numbers → ℕ → Point → Type 0) (fills : ToWrite → ℕ → Type 0) (flight : Option Flight) (halt : Halt) where
+  pub halts-net : (q : Point) → N q → HaltsAt (on_devices can stands fills) flight halt q → HaltsAt (on_devices (λ room p. can room p × N p) stands fills) flight halt q
   halts-net q net h = record { reason = h.reason; flies = h.flies; full = h.full; again = λ other. (h.again other, net); stays = h.stays }
 
-  pub halts-there : (p : Point) (m : TraceStep) → ((q : Point) → Moves m p q → N q) → ((q : Point) × Moves m p q × HaltsAt lies left fills flight halt q) →
-      (q : Point) × Moves m p q × HaltsAt (λ p. lies p × N p) left fills flight halt q
+  pub halts-there : (p : Point) (m : TraceStep) → ((q : Point) → Moves m p q → N q) → ((q : Point) × Moves m p q × HaltsAt (on_devices can stands fills) flight halt q) →
+      (q : Point) × Moves m p q × HaltsAt (on_devices (λ room p. can room p × N p) stands fills) flight halt q
   halts-there p m net h = (h.0, h.1, halts-net h.0 (net h.0 h.1) h.2)
 
-pub breaks-there : (lies N left : Point → Type 0) (fills : ToWrite → ℕ → Type 0) (flight : Option Flight) {halt : Halt} (p : Point) (e : Event) (story told : List Event) → N p → ((q : Point) → Moves (Say e) p q → N q) →
-    BreaksAt lies left fills flight halt p e story told → BreaksAt (λ p. lies p × N p) left fills flight halt p e story told
-breaks-there lies N left fills flight {halt} p e story told here there (inl h) = inl (h.0, halts-net lies N left fills flight halt p here h.1, h.2)
-breaks-there lies N left fills flight {halt} p e story told here there (inr h) = inr (h.0, halts-there lies N left fills flight halt p (Say e) there h.1)
+pub breaks-there : (can : ℕ → Point → Type 0) (N : Point → Type 0) (stands : Option Numbers → ℕ → Point → Type 0) (fills : ToWrite → ℕ → Type 0) (flight : Option Flight) {halt : Halt} (p : Point) (e : Event) (story told : List Event) → N p → ((q : Point) → Moves (Say e) p q → N q) →
+    BreaksAt (on_devices can stands fills) flight halt p e story told → BreaksAt (on_devices (λ room p. can room p × N p) stands fills) flight halt p e story told
+breaks-there can N stands fills flight {halt} p e story told here there (inl h) = inl (h.0, halts-net can N stands fills flight halt p here h.1, h.2)
+breaks-there can N stands fills flight {halt} p e story told here there (inr h) = inr (h.0, halts-there can N stands fills flight halt p (Say e) there h.1)

@@ -13,7 +13,7 @@ use Rattle.salt_engine.proofs.ServingGoes.{goes, meant, moves, plain, point, rea
 use Rattle.salt_engine.proofs.Stages.{left-at, serves-now, turns-done, turns-now}
 use Rattle.salt_engine.specs.Flights.{IsInFlight, flight_of}
 use Rattle.salt_engine.specs.Performing.{BreaksOff, GoesOnServingIn, Performs, broken_by}
-use Rattle.salt_engine.specs.Standing.{IsGoingStage, LeavesOnDevices, CanReopenAt, AgreesWithState, StandsAtEventIn, follow_in, serving_books, turns_in, waits_in}
+use Rattle.salt_engine.specs.Standing.{AgreesWithState, IsGoingStage, StandsAtEventIn, follow_in, left_on_devices, serving_books, turns_in, waits_in}
 use Rattle.salt_engine.specs.Stored.{Stored, kept_behind}
 use Rattle.salt_engine.specs.declared.flights.InFlight.{InFlight}
 use Rattle.salt_engine.specs.declared.stage.Stage.TheVariants as at
@@ -42,7 +42,7 @@ use Rattle.salt_storage.specs.declared.halt.Halt.TheVariants.{Memory}
 use Rattle.salt_storage.specs.declared.halt.Halt.{Halt}
 use Rattle.salt_values.specs.declared.id.Id.{Id}
 use Rattle.std.proofs.Common.{ap, arith, inl, inr, subst, sym, ◌∙◌}
-use Rattle.std.specs.Prelude.{Bool, IsSome, List, None, Option, Some, [], refl, ℕ, ⊤, ◌++◌, ◌<◌, ◌∷◌, ◌≡◌, ◌≤◌}
+use Rattle.std.specs.Prelude.{Bool, List, None, Option, Some, [], refl, ℕ, ◌++◌, ◌<◌, ◌∷◌, ◌≡◌, ◌≤◌}
 
 -- while it serves it has not fallen
 pub never-fallen : (p : Point) → p.state.units.phase ≡ Serving → p.state.units.phase ≡ Fallen → ⊥
@@ -63,9 +63,9 @@ module _ (line : Line) (x : Scheduler) (e : Event) (p : Point) (sound : IsSoundP
   abbrev pub wanted : Option Event
   wanted = meant line x e p sound t d comes phase served (read line x e p sound t d comes phase served)
 
-  pub said-there : {E : Type 0} (sees : E → Option Event → State → Type 0) (f : E) (given : Option Event) → sees f given t → given ≡ wanted →
-      (q : Point) × Moves (Say e) p q × IsAt sees line f given q
-  said-there sees f given state told =
+  pub said-there : (stands_for : Option Event → State → Type 0) (given : Option Event) → stands_for given t → given ≡ wanted →
+      (q : Point) × Moves (Say e) p q × IsAt stands_for line given q
+  said-there stands_for given state told =
       let s = serves line x e p sound t d comes phase served in
       (now, moves line x e p sound t d comes phase served, record { state = state; comes = sym told; serves = s.phase; line = s.line })
 
@@ -111,24 +111,24 @@ module _ (line : Line) (x : Scheduler) (e : Event) (p : Point) (sound : IsSoundP
       let s = serves line x e p sound t d comes phase served in
       kept ∙ lined ∙ ap is_statement_line (served ∙ sym s.line)
 
-  pub said-halts : (holds : Kept → Type 0) (leaves : Kept → Kept → Type 0) (fills : ToWrite → ℕ → Type 0) (halt : Halt) (old stoppable : Bool) (was single : Bool) (stage : Stage Scheduler)
+  pub said-halts : (holds : Kept → Type 0) (leaves : Kept → Kept → Type 0) (rests : Kept → Type 0) (fills : ToWrite → ℕ → Type 0) (halt : Halt) (old stoppable : Bool) (was single : Bool) (stage : Stage Scheduler)
       (in_flight : Option InFlight) (story told : List Event) → BreaksOff leaves fills halt stage in_flight wanted t.units → p.state.can_stop ≡ old → stoppable ≡ old →
       was ≡ is_statement_line p.state.units.line → single ≡ was → IsSoundKept t.units.kept → told ≡ story ++ e ∷ [] →
-      BreaksAt (λ p. CanReopenAt holds leaves stoppable None (serving_books stage) single in_flight 0 p) (λ p. LeavesOnDevices holds leaves (IsSome in_flight) None 0 p × ⊤) fills (flight_of in_flight) halt p e story told
-  said-halts holds leaves fills halt old stoppable was single stage in_flight story told b can same lined kept may tells = inr (
+      BreaksAt (left_on_devices holds leaves rests fills stoppable None (serving_books stage) single in_flight) (flight_of in_flight) halt p e story told
+  said-halts holds leaves rests fills halt old stoppable was single stage in_flight story told b can same lined kept may tells = inr (
     tells,
-    (now, moves line x e p sound t d comes phase served, halts books_of holds leaves fills halt stoppable None refl stage single in_flight now b now-flies (d.after.can_stop ∙ can ∙ sym same) (line-now was single lined kept) may),
+    (now, moves line x e p sound t d comes phase served, halts books_of holds leaves rests fills halt stoppable None refl stage single in_flight now b now-flies (d.after.can_stop ∙ can ∙ sym same) (line-now was single lined kept) may),
   )
 
   -- or before it was told
-  pub said-lost : (holds : Kept → Type 0) (leaves : Kept → Kept → Type 0) (fills : ToWrite → ℕ → Type 0) (halt : Halt) (stoppable : Bool) (single : Bool) (stage : Stage Scheduler)
+  pub said-lost : (holds : Kept → Type 0) (leaves : Kept → Kept → Type 0) (rests : Kept → Type 0) (fills : ToWrite → ℕ → Type 0) (halt : Halt) (stoppable : Bool) (single : Bool) (stage : Stage Scheduler)
       (in_flight : Option InFlight) (story told : List Event) → halt ≡ Memory → leaves t.units.kept t.units.kept → stage ≡ at.Lost → IsInFlight in_flight (decision_in (Some e)) p.state.units → told ≡ story →
-      BreaksAt (λ p. CanReopenAt holds leaves stoppable None (serving_books stage) single in_flight 0 p) (λ p. LeavesOnDevices holds leaves (IsSome in_flight) None 0 p × ⊤) fills (flight_of in_flight) halt p e story told
-  said-lost holds leaves fills halt stoppable single stage in_flight story told memory left there flies same =
+      BreaksAt (left_on_devices holds leaves rests fills stoppable None (serving_books stage) single in_flight) (flight_of in_flight) halt p e story told
+  said-lost holds leaves rests fills halt stoppable single stage in_flight story told memory left there flies same =
       let flown : IsInFlight in_flight (decision_in p.next) p.state.units = subst (λ (m : Option Event). IsInFlight in_flight (decision_in m) p.state.units) (sym comes) flies in
       inl (
         same,
-        memory-as books_of holds leaves fills stoppable stage single in_flight halt p t.units.kept memory (flight-next p sound.trace sound.keeps (never-fallen p phase)) left
+        memory-as books_of holds leaves rests fills stoppable stage single in_flight halt p t.units.kept memory (flight-next p sound.trace sound.keeps (never-fallen p phase)) left
             (noted in_flight (decision_in p.next) p.state.units t.units.kept flown (inr (tt, kept-behind-next p sound e t x comes d phase))) (record { there = there; flies = inr flown }),
         memory,
       )

@@ -34,11 +34,11 @@ engine_turns e = turns_in e.stage
 abbrev pub EngineServes : {S : Type 0} → Engine S → State → Type 0
 EngineServes e s = ServesFrom e.stage s
 
-abbrev pub engine_sees : {S : Type 0} → (holds : S → Kept → Type 0) (is_new : S → Id → Type 0) → Bool → Engine S → Option Event → State → Type 0
-engine_sees holds is_new stoppable e next s = AgreesWithState (StandsAtEventIn (holds e.storage) (is_new e.storage) e.stage) stoppable e.single e.in_flight next s
+abbrev pub engine_stands_for : {S : Type 0} → (holds : S → Kept → Type 0) (is_new : S → Id → Type 0) → Bool → Engine S → Option Event → State → Type 0
+engine_stands_for holds is_new stoppable e next s = AgreesWithState (StandsAtEventIn (holds e.storage) (is_new e.storage) e.stage) stoppable e.single e.in_flight next s
 
-abbrev pub engine_lies : {S : Type 0} → (holds : S → Kept → Type 0) (leaves : S → Kept → Kept → Type 0) → Bool → Engine S → ℕ → Point → Type 0
-engine_lies holds leaves stoppable e room p = CanReopenAt (holds e.storage) (leaves e.storage) stoppable None (serving_books e.stage) e.single e.in_flight room p
+abbrev pub engine_can_reopen : {S : Type 0} → (holds : S → Kept → Type 0) (leaves : S → Kept → Kept → Type 0) → Bool → Engine S → ℕ → Point → Type 0
+engine_can_reopen holds leaves stoppable e room p = CanReopenAt (holds e.storage) (leaves e.storage) stoppable None (serving_books e.stage) e.single e.in_flight room p
 
-abbrev pub engine_left : {S : Type 0} → (holds : S → Kept → Type 0) (leaves : S → Kept → Kept → Type 0) (rests : S → Kept → Type 0) → Engine S → Option Numbers → ℕ → Point → Type 0
-engine_left holds leaves rests e numbers room p = LeavesOnDevices (holds e.storage) (leaves e.storage) (IsSome e.in_flight) None room p × IsAlone (rests e.storage) numbers room p
+abbrev pub engine_stands_for_kept : {S : Type 0} → (holds : S → Kept → Type 0) (leaves : S → Kept → Kept → Type 0) (rests : S → Kept → Type 0) → Engine S → Option Numbers → ℕ → Point → Type 0
+engine_stands_for_kept holds leaves rests e numbers room p = LeavesOnDevices (holds e.storage) (leaves e.storage) (IsSome e.in_flight) None room p × IsAlone (rests e.storage) numbers room p

@@ -16,11 +16,11 @@ net_after setup None s net = net
 net_after setup (Some e) s net = option_map (turned setup.shape s.line s.kept.boot (map change_at (facts_in s e).changes) e) net
 
 -- commits go over messages where those of the run do, and have sent what it has, with what the event at hand makes of that
-pub record SeesNet (setup : Setup) (net : Option Turning) (next : Option Event) (s : State) : Type 0 where
+pub record AgreesWithNet (setup : Setup) (net : Option Turning) (next : Option Event) (s : State) : Type 0 where
   pub over : s.over_net ≡ setup.over_net
   pub sent : net ≡ net_after setup next s.units (net_told setup s.net)
 
 -- broken off: once it is found what is kept, nothing was sent since
-pub record LiesNet (setup : Setup) (net : Option Turning) (found : Option Numbers) (s : State) : Type 0 where
+pub record CanReopenNet (setup : Setup) (net : Option Turning) (found : Option Numbers) (s : State) : Type 0 where
   pub over : s.over_net ≡ setup.over_net
   pub begun : IfSome found (λ numbers. net ≡ net_begun setup)

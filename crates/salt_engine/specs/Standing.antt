@@ -4,7 +4,8 @@ use Rattle.salt_ast.specs.declared.trees.TableDef.{TableDef}
 use Rattle.salt_books.specs.Books.{AreBooks}
 use Rattle.salt_books.specs.declared.books.Books.{Books}
 use Rattle.salt_engine.specs.Flights.{IsInFlight}
-use Rattle.salt_engine.specs.Stored.{IsLeft, IsNumbered, Stored}
+use Rattle.salt_driver.specs.Devices.{OnDevices, on_devices}
+use Rattle.salt_engine.specs.Stored.{IsAlone, IsLeft, IsNumbered, Stored}
 use Rattle.salt_engine.specs.declared.flights.InFlight.{InFlight}
 use Rattle.salt_engine.specs.declared.stage.Stage.TheVariants.{Down, Going, Lost}
 use Rattle.salt_engine.specs.declared.stage.Stage.{Stage}
@@ -21,6 +22,7 @@ use Rattle.salt_scheduler.specs.Standing as scheduling
 use Rattle.salt_scheduler.specs.declared.follow.Follow.TheVariants.{Nothing}
 use Rattle.salt_scheduler.specs.declared.follow.Follow.{Follow}
 use Rattle.salt_scheduler.specs.declared.scheduler.Scheduler.{Scheduler}
+use Rattle.salt_storage.specs.Writing.{ToWrite}
 use Rattle.salt_storage.specs.Storing.{IsSoundKept}
 use Rattle.salt_storage.specs.declared.found.Numbers.{Numbers}
 use Rattle.salt_values.specs.declared.id.Id.{Id}
@@ -116,6 +118,12 @@ pub record CanReopenAt (holds : Kept → Type 0) (leaves : Kept → Kept → Typ
   pub can_stop : p.state.can_stop ≡ stoppable
   pub line : single ≡ is_statement_line p.state.units.line
   pub flies : IsInFlight in_flight p.flight p.state.units
+
+-- what is so left on its devices; where numbers are told, they are its own
+abbrev pub left_on_devices : (holds : Kept → Type 0) (leaves : Kept → Kept → Type 0) (rests : Kept → Type 0) (fills : ToWrite → ℕ → Type 0) (stoppable : Bool) (found : Option Numbers) (books : Option Books) (single : Bool)
+    (in_flight : Option InFlight) → OnDevices
+left_on_devices holds leaves rests fills stoppable found books single in_flight =
+    on_devices (λ room p. CanReopenAt holds leaves stoppable found books single in_flight room p) (λ numbers room p. LeavesOnDevices holds leaves (IsSome in_flight) found room p × IsAlone rests numbers room p) fills
 
 -- WHAT IS STILL TO COME.
 

@@ -31,20 +31,18 @@ use salt_storage::{Halt, Storage};
 use salt_values::{Id, Key};
 
 impl<S: Storage + Drop> Stepping for Engine<S> {
-    ghost use Rattle.salt_engine.specs.Engines.{engine_left, engine_lies, engine_sees};
-    ghost use Rattle.salt_engine.specs.Netted.{LiesNet, SeesNet};
+    ghost use Rattle.salt_engine.specs.Engines.{engine_stands_for_kept, engine_can_reopen, engine_stands_for};
+    ghost use Rattle.salt_driver.specs.Devices.{on_devices};
+    ghost use Rattle.salt_engine.specs.Netted.{CanReopenNet, AgreesWithNet};
 
-    ghost sees = { λ d e next s. engine_sees (S.holds d) (S.is_new d) d.can_stop e next s × SeesNet (S.asked e.storage) (S.net e.storage) next s };
+    ghost stands_for = { λ d e next s. engine_stands_for (S.holds d) (S.is_new d) d.can_stop e next s × AgreesWithNet (S.asked e.storage) (S.net e.storage) next s };
 
-    ghost lies = { λ d e room p. engine_lies (S.holds d) (S.leaves d) d.can_stop e room p × LiesNet (S.asked e.storage) (S.net e.storage) None p.state };
-
-    ghost left = { λ d e numbers room p. engine_left (S.holds d) (S.leaves d) (S.rests d) e numbers room p };
+    ghost on_devices = { λ d e. on_devices (λ room p. engine_can_reopen (S.holds d) (S.leaves d) d.can_stop e room p × CanReopenNet (S.asked e.storage) (S.net e.storage) None p.state)
+        (λ numbers room p. engine_stands_for_kept (S.holds d) (S.leaves d) (S.rests d) e numbers room p) (S.fills d e.storage) };
 
     ghost flight = { λ e. flight_of e.in_flight };
 
     ghost asked = { λ e. S.asked e.storage };
-
-    ghost fills = { λ d e. S.fills d e.storage };
 
     ghost waiting = { λ e. waits_in e.stage };
 
@@ -154,10 +152,9 @@ impl<S: Storage + Drop> Engine<S> {
         requires answers { GivesPlaceOf (F.post place.now.place) }
         requires served { IsServed line.now }
         requires key { HasKey (Tree line.now) }
-        requires stands { (start : Start) × (trace : Trace) × Serves (⟦<Engine<S> as Stepping>⟧.sees (D.view disks.old)) start self.old story.old trace }
-        ensures segment { OnOk result (GoesOn (⟦<Engine<S> as Stepping>⟧.sees (D.view disks.old)) (⟦<Engine<S> as Stepping>⟧.sees (D.view disks.new)) self.old story.old (Tree line.now) self.new story.new) }
-        ensures broken_off { IfErr result (λ halt. BreaksOff (⟦<Engine<S> as Stepping>⟧.sees (D.view disks.old)) (⟦<Engine<S> as Stepping>⟧.lies (D.view disks.new) self.new 0)
-            (⟦<Engine<S> as Stepping>⟧.left (D.view disks.new) self.new None 0) (⟦<Engine<S> as Stepping>⟧.fills (D.view disks.new) self.new) (flight_of self.new.in_flight) halt self.old story.old (Tree line.now) story.new) }
+        requires stands { (start : Start) × (trace : Trace) × Serves (⟦<Engine<S> as Stepping>⟧.sees (D.view disks.old) self.old) start story.old trace }
+        ensures segment { OnOk result (GoesOn (⟦<Engine<S> as Stepping>⟧.sees (D.view disks.old) self.old) (⟦<Engine<S> as Stepping>⟧.sees (D.view disks.new) self.new) story.old (Tree line.now) story.new) }
+        ensures broken_off { IfErr result (λ halt. BreaksOff (⟦<Engine<S> as Stepping>⟧.sees (D.view disks.old) self.old) (⟦<Engine<S> as Stepping>⟧.on_devices (D.view disks.new) self.new) (flight_of self.new.in_flight) halt story.old (Tree line.now) story.new) }
         ensures refused { (refusal : Refusal) → story.new ≡ story.old ++ Refused refusal ∷ [] → disks.new ≡ disks.old }
         ensures within { StaysWithin (S.asked self.old.storage) (S.asked self.new.storage) (D.view disks.old) (D.view disks.new) }
         ensures counts { CountsMore line.now (D.view disks.old) (D.view disks.new) (disk_err result) None story.old story.new }

@@ -34,18 +34,18 @@ use Rattle.salt_loop.proofs.Stories.{text-append}
 use Rattle.salt_loop.proofs.Texts.{gains-under, memory-status, of-later, tables-lying, tables-serving}
 use Rattle.salt_loop.specs.Armed.{EndsArmed}
 use Rattle.salt_loop.specs.Ending.{EndsFound, EndsOpening, EndsServing, IsStatusOf, LeavesAt}
-use Rattle.salt_loop.specs.Run.{AreLinesOf, IsFlightAt, IsRun, IsWritten, leave_of}
-use Rattle.salt_loop.specs.Serving.{EndsWriting, GainsAtEnd, IsAt, IsBegun, IsServing}
+use Rattle.salt_loop.specs.Run.{AreLinesOf, IsFlightAt, IsRun, IsWritten, leave_of, script_run, streams}
+use Rattle.salt_loop.specs.Serving.{EndsWriting, GainsAtEnd, IsAtPlace, IsBegun, IsServing}
 use Rattle.salt_loop.specs.Stopping.{IsLaterStop, IsOfDevices, answer_of, outcome, status_of, status_opening, stop_opening}
 use Rattle.salt_loop.specs.declared.stop.Stop.TheVariants as stop
 use Rattle.salt_loop.specs.declared.stop.Stop.{Stop}
 use Rattle.salt_stands.specs.Unspent.{OpensUnspent}
+use Rattle.salt_driver.specs.Devices.{OnDevices}
 use Rattle.salt_driver.specs.Counting.{CountsOpening}
 use Rattle.salt_driver.specs.Opening.{IsUnfound, fallen_often}
 use Rattle.salt_driver.specs.Reopening.{Reopens}
 use Rattle.salt_driver.specs.Standing.{IsIdleAt, IsSoundPoint}
 use Rattle.salt_storage.specs.Answers.{IsLater}
-use Rattle.salt_storage.specs.Writing.{ToWrite}
 use Rattle.salt_storage.specs.OpenErr.TheVariants as opening
 use Rattle.salt_storage.specs.OpenErr.TheVariants.{NotSalt, NumbersSpent, OtherShape}
 use Rattle.salt_storage.specs.OpenErr.{OpenErr}
@@ -163,7 +163,7 @@ early-written (stop.NumbersSpent boot decisions) before held text g = g
 -- so it is a run of the script
 pub early-run : (s : Stop) → IsEarly s → (flies : Option Flight) (start : Start) (trace : Trace) (story : List Event) (script rest before held : Option (List ℕ)) → Tells start trace story →
     trace_words.lines_asked trace ≡ [] → MayLeave (leave_of (status_of s)) trace → IsFlightAt (status_of s) trace flies → Each OpensUnspent trace → GainsAtEnd s before (text_under trace story) held →
-    (run : IsRun start (status_of s) flies script rest before story held) × (run.played.trace ≡ trace)
+    (run : IsRun start (script_run (status_of s) flies (streams script rest before held) story)) × (run.played.trace ≡ trace)
 early-run s early flies start trace story script rest before held tells unasked leaves flown unspent gained = (
   record {
     played = record {
@@ -189,12 +189,12 @@ early-between stop.ScriptTooLong (inl of) is = of
 early-between stop.ScriptTooLong (inr e) is = cc
 early-between s early is = cc
 
-pub early-ends : {E : Type 0} (sees : E → Option Event → State → Type 0) (lies : ℕ → Point → Type 0) (left : Option Numbers → ℕ → Point → Type 0) (fills : ToWrite → ℕ → Type 0) (flies : Option Flight) (s : Stop) → IsEarly s → (start : Start) (trace : Trace) (e : E) (story : List Event)
-    (script rest before held : Option (List ℕ)) → LeavesAt lies left fills flies (status_of s) start trace story → trace_words.lines_asked trace ≡ [] → GainsAtEnd s before (text_under trace story) held →
-    (first armed : List (ℕ × ℕ)) → Stops (status_of s) (armed_by_lines first trace) armed → EndsServing sees lies left fills flies start (status_of s) script rest before e story held first armed
-early-ends sees lies left fills flies s early start trace e story script rest before held x unasked gained first armed stops =
+pub early-ends : {E : Type 0} (stands_for : E → Option Event → State → Type 0) (devices : OnDevices) (flies : Option Flight) (s : Stop) → IsEarly s → (start : Start) (trace : Trace) (e : E) (story : List Event)
+    (script rest before held : Option (List ℕ)) → LeavesAt devices flies (status_of s) start trace story → trace_words.lines_asked trace ≡ [] → GainsAtEnd s before (text_under trace story) held →
+    (first armed : List (ℕ × ℕ)) → Stops (status_of s) (armed_by_lines first trace) armed → EndsServing (stands_for e) devices start (script_run (status_of s) flies (streams script rest before held) story) first armed
+early-ends stands_for devices flies s early start trace e story script rest before held x unasked gained first armed stops =
     let r = early-run s early flies start trace story script rest before held x.tells unasked x.leaves x.flies x.fits.unspent gained in
-    (r.0, subst (EndsFound lies left fills (status_of s)) (sym r.1) x.ends, subst (λ (t : Trace). Stops (status_of s) (armed_by_lines first t) armed) (sym r.1) stops, λ between. absurd (early-between s early between))
+    (r.0, subst (EndsFound devices (status_of s)) (sym r.1) x.ends, subst (λ (t : Trace). Stops (status_of s) (armed_by_lines first t) armed) (sym r.1) stops, λ between. absurd (early-between s early between))
 
 -- WHAT IS TOLD OF THE BEGINNING
 
@@ -246,7 +246,7 @@ module _ (reason : OpenErr) (story : List Event) (unfound : IsUnfound story) (em
       subst (λ (es : List Event). story_text schema es ≡ story_text (schema_of (kept fallen)) es) (unfound.1 start) (often-text start unfound.0 schema (schema_of (kept fallen)))
 
   unfound-run : (schema : List TableDef) (script rest before held : Option (List ℕ)) → GainsAtEnd s before (story_text schema story) held →
-      IsRun start (status_of s) None script rest before story held
+      IsRun start (script_run (status_of s) None (streams script rest before held) story)
   unfound-run schema script rest before held gained =
       (early-run s (early-of (stop_opening reason) s (of-reason reason) how) None start fallen story script rest before held (often-tells start story unfound) (often-asked start unfound.0)
       unfound-leaves unfound-flies (often-unspent start unfound.0) (gains-under s before held _ _ (λ some. unfound-text schema) gained)).0
@@ -261,7 +261,7 @@ module _ (reason : OpenErr) (story : List Event) (unfound : IsUnfound story) (em
   of-writing s (inr w) = inr (w.0, λ m. w.1 (ap Err (is ∙ m)))
 
   pub unfound-told : (r : Result (Unit {0}) Stop) → EndsWriting (Err e) (story_text schema story) before held r → (start : Start) (script rest : Option (List ℕ)) →
-      IsRun start (outcome r) None script rest before story held
+      IsRun start (script_run (outcome r) None (streams script rest before held) story)
   unfound-told (Ok x) w start script rest = absurd (never x w.0)
     where
       never : (x : Unit {0}) → ◌≡◌ {A = Result (Unit {0}) Stop} (Err e) (Ok x) → ⊥
@@ -281,63 +281,63 @@ module _ (reason : OpenErr) (story : List Event) (unfound : IsUnfound story) (em
 
 -- OVER WHAT WAS FOUND
 
-module _ {E : Type 0} (sees : E → Option Event → State → Type 0) (lies : ℕ → Point → Type 0) (left : Option Numbers → ℕ → Point → Type 0) (fills : ToWrite → ℕ → Type 0) (flies : Option Flight) (new : E)
-    (idle : (p : Point) → IsSoundPoint p → IsIdleAt sees new p → lies 0 p) (flown : (p : Point) → IsSoundPoint p → IsIdleAt sees new p → flies ≡ None)
-    (leaves : (room : ℕ) (p : Point) → lies room p → left None room p)
-    (forgets : (numbers : Numbers) (room : ℕ) (p : Point) → left (Some numbers) room p → left None room p)
-    (schema : List TableDef) (serving : (p : Point) → IsSoundPoint p → sees new None p.state → schema ≡ schema_of p.state.units.kept)
-    (lying : (room : ℕ) (p : Point) → IsSoundPoint p → lies room p → schema ≡ schema_of p.state.units.kept)
+module _ {E : Type 0} (stands_for : E → Option Event → State → Type 0) (devices : OnDevices) (flies : Option Flight) (new : E)
+    (idle : (p : Point) → IsSoundPoint p → IsIdleAt (stands_for new) p → devices.can_reopen_at 0 p) (flown : (p : Point) → IsSoundPoint p → IsIdleAt (stands_for new) p → flies ≡ None)
+    (leaves : (room : ℕ) (p : Point) → devices.can_reopen_at room p → devices.stands_for_kept None room p)
+    (forgets : (numbers : Numbers) (room : ℕ) (p : Point) → devices.stands_for_kept (Some numbers) room p → devices.stands_for_kept None room p)
+    (schema : List TableDef) (serving : (p : Point) → IsSoundPoint p → stands_for new None p.state → schema ≡ schema_of p.state.units.kept)
+    (lying : (room : ℕ) (p : Point) → IsSoundPoint p → devices.can_reopen_at room p → schema ≡ schema_of p.state.units.kept)
     (story told : List Event) (before held : Option (List ℕ)) (start : Start) (trace : Trace) (unasked : trace_words.lines_asked trace ≡ []) (a b : View) where
   abbrev Ends : Stop → Type 0
   Ends s = (script rest : Option (List ℕ)) (first : List (ℕ × ℕ)) → armed_by_lines first trace ≡ Some a.armed →
-      EndsServing sees lies left fills flies start (status_of s) script rest before new told held first b.armed
+      EndsServing (stands_for new) devices start (script_run (status_of s) flies (streams script rest before held) told) first b.armed
 
   abbrev Counts : Result (Unit {0}) Stop → Type 0
   Counts d = CountsOpening a b (answer_of (outcome d)) story told
 
-  pub begun-ok : (d r : Result (Unit {0}) Stop) → OnOk d (Reopens sees start trace story new told) → Counts d → EndsWriting d (story_text schema told) before held r →
-      OnOk r ((first : List (ℕ × ℕ)) → armed_by_lines first trace ≡ Some a.armed → IsBegun sees start new told before held first b.armed)
+  pub begun-ok : (d r : Result (Unit {0}) Stop) → OnOk d (Reopens (stands_for new) start trace story told) → Counts d → EndsWriting d (story_text schema told) before held r →
+      OnOk r ((first : List (ℕ × ℕ)) → armed_by_lines first trace ≡ Some a.armed → IsBegun (stands_for new) start told before held first b.armed)
   begun-ok d (Err s) reopens counts w = tt
   begun-ok d (Ok x) reopens counts w = λ first is.
-      let opened = subst (λ (y : Result (Unit {0}) Stop). OnOk y (Reopens sees start trace story new told)) w.0 reopens in
+      let opened = subst (λ (y : Result (Unit {0}) Stop). OnOk y (Reopens (stands_for new) start trace story told)) w.0 reopens in
       record {
         trace = opened.after;
         arms = opening-stays a b story told (subst Counts w.0 counts) trace opened.after opened.grows opened.along.armed first is;
         lines = opened.lines ∙ unasked;
         serves = opened.serves;
-        written = subst (λ (ts : List TableDef). Gains before (story_text ts told) held) (tables-serving sees lies left fills flies new schema serving lying start opened.after told opened.serves) w.1;
+        written = subst (λ (ts : List TableDef). Gains before (story_text ts told) held) (tables-serving stands_for devices flies new schema serving lying start opened.after told opened.serves) w.1;
       }
 
-  opened-unwritten : Reopens sees start trace story new told → CountsOpening a b None story told → GainsShort before (story_text schema told) held → Ends stop.WriteFault
+  opened-unwritten : Reopens (stands_for new) start trace story told → CountsOpening a b None story told → GainsShort before (story_text schema told) held → Ends stop.WriteFault
   opened-unwritten o counts short script rest first is =
-      early-ends sees lies left fills flies stop.WriteFault (inr refl) start o.after new told script rest before held
-      (unwritten-leaves sees lies left fills flies new idle flown leaves start o.after told o.serves) (o.lines ∙ unasked)
-      (subst (λ (ts : List TableDef). GainsShort before (story_text ts told) held) (tables-serving sees lies left fills flies new schema serving lying start o.after told o.serves) short)
+      early-ends stands_for devices flies stop.WriteFault (inr refl) start o.after new told script rest before held
+      (unwritten-leaves stands_for devices flies new idle flown leaves start o.after told o.serves) (o.lines ∙ unasked)
+      (subst (λ (ts : List TableDef). GainsShort before (story_text ts told) held) (tables-serving stands_for devices flies new schema serving lying start o.after told o.serves) short)
       first b.armed (stops-are WriteFault b.armed b.armed (opening-stays a b story told counts trace o.after o.grows o.along.armed first is) (λ some. refl))
 
-  module _ (e : Stop) (later : IsLaterStop e) (x : EndsOpening lies left fills flies e start trace story told) (counts : CountsOpening a b (answer_of (status_of e)) story told) where
+  module _ (e : Stop) (later : IsLaterStop e) (x : EndsOpening devices flies e start trace story told) (counts : CountsOpening a b (answer_of (status_of e)) story told) where
     armed-last : EndsArmed (status_of e) trace x.after a.armed b.armed
     armed-last = opening-ends a b (status_of e) story told counts trace x.after x.grows x.along.armed
 
     tables : (e ≡ stop.Memory → ⊥) → (told-text : List Event) → story_text schema told-text ≡ text_under x.after told-text
-    tables some es = ap (λ ts. story_text ts es) (tables-lying sees lies left fills flies new schema serving lying start x.after told (status_of e) x.ends (λ m. some (memory-status e m)))
+    tables some es = ap (λ ts. story_text ts es) (tables-lying stands_for devices flies new schema serving lying start x.after told (status_of e) x.ends (λ m. some (memory-status e m)))
 
     pub broken-ends : GainsAtEnd e before (story_text schema told) held → Ends e
     broken-ends gained script rest first is =
-        early-ends sees lies left fills flies e (inl (of-later e later)) start x.after new told script rest before held x.ends (x.lines ∙ unasked)
+        early-ends stands_for devices flies e (inl (of-later e later)) start x.after new told script rest before held x.ends (x.lines ∙ unasked)
         (gains-under e before held _ _ (λ some. tables some told) gained) first b.armed (armed-last first is)
 
     pub broken-unwritten : (e ≡ stop.Memory → ⊥) → GainsShort before (story_text schema told) held → Ends stop.WriteFault
     broken-unwritten some short script rest first is =
-        early-ends sees lies left fills flies stop.WriteFault (inr refl) start x.after new told script rest before held (leaves-unwritten lies left fills flies forgets start x.after told e later some x.ends) (x.lines ∙ unasked)
+        early-ends stands_for devices flies stop.WriteFault (inr refl) start x.after new told script rest before held (leaves-unwritten devices flies forgets start x.after told e later some x.ends) (x.lines ∙ unasked)
         (subst (λ t. GainsShort before t held) (tables some told) short) first b.armed (ends-unwritten (status_of e) (λ m. some (memory-status e m)) (armed-last first is))
 
-  pub begun-err : (d r : Result (Unit {0}) Stop) → OnOk d (Reopens sees start trace story new told) → IfErr d (λ e. EndsOpening lies left fills flies e start trace story told) → IfErr d IsLaterStop → Counts d →
+  pub begun-err : (d r : Result (Unit {0}) Stop) → OnOk d (Reopens (stands_for new) start trace story told) → IfErr d (λ e. EndsOpening devices flies e start trace story told) → IfErr d IsLaterStop → Counts d →
       EndsWriting d (story_text schema told) before held r → IfErr r Ends
   begun-err d (Ok x) reopens f of counts w = tt
   begun-err d (Err s) reopens f of counts w = by w.0
     where
-      short : (y : Result (Unit {0}) Stop) → (y ≡ Err stop.Memory → ⊥) → OnOk y (Reopens sees start trace story new told) → IfErr y (λ e. EndsOpening lies left fills flies e start trace story told) →
+      short : (y : Result (Unit {0}) Stop) → (y ≡ Err stop.Memory → ⊥) → OnOk y (Reopens (stands_for new) start trace story told) → IfErr y (λ e. EndsOpening devices flies e start trace story told) →
           IfErr y IsLaterStop → Counts y → GainsShort before (story_text schema told) held → Ends stop.WriteFault
       short (Ok x) some c g o n h = opened-unwritten c n h
       short (Err e) some c g o n h = broken-unwritten e o g n (λ m. some (ap Err m)) h
@@ -345,7 +345,7 @@ module _ {E : Type 0} (sees : E → Option Event → State → Type 0) (lies : �
       by : (d ≡ Err s) ⊎ ((s ≡ stop.WriteFault) × (d ≡ Err stop.Memory → ⊥)) → Ends s
       by (inl is) =
           broken-ends s (subst (λ (y : Result (Unit {0}) Stop). IfErr y IsLaterStop) is of)
-          (subst (λ (y : Result (Unit {0}) Stop). IfErr y (λ e. EndsOpening lies left fills flies e start trace story told)) is f) (subst Counts is counts) w.1
+          (subst (λ (y : Result (Unit {0}) Stop). IfErr y (λ e. EndsOpening devices flies e start trace story told)) is f) (subst Counts is counts) w.1
       by (inr u) = subst Ends (sym u.0) (short d u.1 reopens f of counts (subst (λ (x : Stop). GainsAtEnd x before (story_text schema told) held) u.0 w.1))
 
 pub never-read : (d r : Result (Unit {0}) Stop) (before held : Option (List ℕ)) (text : List ℕ) → IfErr d IsOfDevices → EndsWriting d text before held r → r ≡ Err stop.ReadFault → ⊥
@@ -365,17 +365,17 @@ never-read d (Err s) before held text of w is = by w.0
 abbrev unread : ScriptReading
 unread = record { kept = []; taken = 0; ended = false }
 
-no-lines : (left : Option (List ℕ)) → IsAt left unread (bytes_before [] left) []
+no-lines : (left : Option (List ℕ)) → IsAtPlace left unread (bytes_before [] left) []
 no-lines None = tt
 no-lines (Some script) = record { given = []; whole = refl; counted = refl; lines = refl; at_start = inl refl }
 
 unended : false ≡ true → ⊥
 unended e = cc
 
-pub serving-begun : {E : Type 0} (sees : E → Option Event → State → Type 0) (start : Start) (e : E) (reading : ScriptReading) (left before held : Option (List ℕ)) (story : List Event) (first armed : List (ℕ × ℕ)) →
-    IsBegun sees start e story before held first armed → reading ≡ unread → IsServing sees start left before e reading left story held first armed
-serving-begun sees start e reading left before held story first armed b is =
-    subst (λ (r : ScriptReading). IsServing sees start left before e r left story held first armed) (sym is) (record {
+pub serving-begun : {E : Type 0} (stands_for : E → Option Event → State → Type 0) (start : Start) (e : E) (reading : ScriptReading) (left before held : Option (List ℕ)) (story : List Event) (first armed : List (ℕ × ℕ)) →
+    IsBegun (stands_for e) start story before held first armed → reading ≡ unread → IsServing (stands_for e) start (streams left left before held) reading story first armed
+serving-begun stands_for start e reading left before held story first armed b is =
+    subst (λ (r : ScriptReading). IsServing (stands_for e) start (streams left left before held) r story first armed) (sym is) (record {
       trace = b.trace;
       arms = b.arms;
       texts = [];

@@ -11,19 +11,18 @@ use Rattle.salt_loop.proofs.Armed.{ends-resumed, line-halts, line-stays, stays-r
 use Rattle.salt_loop.proofs.Leaving.{idle-halts}
 use Rattle.salt_loop.specs.Counted.{CountsResumed}
 use Rattle.salt_loop.specs.Stopping.{IsLaterStop, outcome, status_of}
-use Rattle.salt_loop.specs.Serving.{AsksMore, BreaksIn, Continues, EndsBehind, EndsIn, TextAsks}
+use Rattle.salt_loop.specs.Serving.{AsksMore, BreaksIn, Continues, EndsBehind, EndsIn, TextAsks, line_behind, moment}
 use Rattle.salt_loop.specs.declared.stop.Stop.TheVariants as stop
 use Rattle.salt_loop.specs.declared.stop.Stop.{Stop}
+use Rattle.salt_driver.specs.Devices.{OnDevices}
 use Rattle.salt_driver.specs.Counting.{CountsMore}
 use Rattle.salt_driver.specs.Reopening.{Reopens}
 use Rattle.salt_driver.specs.Serving.{Breaks, Goes, GainsEvents, Serves}
 use Rattle.salt_driver.specs.Standing.{IsIdleAt, IsSoundPoint}
-use Rattle.salt_storage.specs.Writing.{ToWrite}
 use Rattle.salt_storage.specs.Answers.{disk_err, disk_err_of}
 use Rattle.salt_storage.specs.declared.halt.Halt.TheVariants.{Memory}
 use Rattle.salt_storage.specs.declared.halt.Halt.{Halt}
 use Rattle.std.proofs.Common.{ap, append-nil, append_assoc, inl, inr, sym, ◌∙◌}
-use Rattle.salt_storage.specs.declared.found.Numbers.{Numbers}
 use Rattle.std.specs.Prelude.{Err, List, None, Ok, Option, Result, Some, [], refl, ℕ, ◌++◌, ◌∷◌, ◌≡◌, ◌⊎◌}
 use Rattle.std.specs.Result.{IfErr, OnOk}
 
@@ -33,9 +32,9 @@ grown story mid told a b = b.1 ∙ ap (λ es. es ++ b.0) a.1 ∙ append_assoc st
 asks-still : (text : Option (List ℕ)) (trace mid after : Trace) → lines_asked after ≡ lines_asked mid → AsksMore text trace mid → AsksMore text trace after
 asks-still text trace mid after same a = (a.0, a.1, same ∙ a.2)
 
-pub continues-by : {E : Type 0} (sees : E → Option Event → State → Type 0) (start : Start) (trace : Trace) (text : Option (List ℕ)) (asked : Asked) (story : List Event) (e : E) (told : List Event) →
-    (a b : View) → TextAsks text asked → CountsMore (line_asked asked) a b None None story told → Goes sees start trace asked story e told → Continues sees start trace text story e told a.armed b.armed
-continues-by sees start trace text asked story e told a b asks counts g = record {
+pub continues-by : (stands_for : Option Event → State → Type 0) (start : Start) (trace : Trace) (text : Option (List ℕ)) (asked : Asked) (story told : List Event) →
+    (a b : View) → TextAsks text asked → CountsMore (line_asked asked) a b None None story told → Goes stands_for start trace asked story told → Continues stands_for (line_behind start trace text) (moment story a.armed) (moment told b.armed)
+continues-by stands_for start trace text asked story told a b asks counts g = record {
   after = g.after;
   asks = (asked, asks, g.asks);
   serves = g.serves;
@@ -43,10 +42,10 @@ continues-by sees start trace text asked story e told a b asks counts g = record
   armed = line-stays (line_asked asked) a b story told trace g.after g.grows g.armed counts;
 }
 
-pub breaks-by : (lies left : Point → Type 0) (fills : ToWrite → ℕ → Type 0) (flies : Option Flight) (halt : Halt) (start : Start) (trace : Trace) (text : Option (List ℕ)) (asked : Asked) (story told : List Event) →
-    (a c : View) → TextAsks text asked → CountsMore (line_asked asked) a c (Some (disk_err_of halt)) None story told → Breaks lies left fills flies halt start trace asked story told →
-    BreaksIn lies left fills flies halt start trace text story told a.armed c.armed
-breaks-by lies left fills flies halt start trace text asked story told a c asks counts b = record {
+pub breaks-by : (devices : OnDevices) (flies : Option Flight) (halt : Halt) (start : Start) (trace : Trace) (text : Option (List ℕ)) (asked : Asked) (story told : List Event) →
+    (a c : View) → TextAsks text asked → CountsMore (line_asked asked) a c (Some (disk_err_of halt)) None story told → Breaks devices flies halt start trace asked story told →
+    BreaksIn devices flies halt (line_behind start trace text) (moment story a.armed) (moment told c.armed)
+breaks-by devices flies halt start trace text asked story told a c asks counts b = record {
   after = b.after;
   asks = by b.asks;
   halts = b.halts;
@@ -59,23 +58,23 @@ breaks-by lies left fills flies halt start trace text asked story told a c asks 
     by (inr m) = inr m
 
 -- memory ran out before the line was read
-pub breaks-unread : {E : Type 0} (sees : E → Option Event → State → Type 0) (lies : ℕ → Point → Type 0) (left : Option Numbers → ℕ → Point → Type 0) (fills : ToWrite → ℕ → Type 0) (flies : Option Flight) (e : E) →
-    ((p : Point) → IsSoundPoint p → IsIdleAt sees e p → lies 0 p) → ((p : Point) → IsSoundPoint p → IsIdleAt sees e p → flies ≡ None) →
-    ((room : ℕ) (p : Point) → lies room p → left None room p) → (start : Start) (trace : Trace) (text : Option (List ℕ)) (story : List Event) → (armed : List (ℕ × ℕ)) → Serves sees start e story trace →
-    BreaksIn (lies 0) (left None 0) fills flies Memory start trace text story story armed armed
-breaks-unread sees lies left fills flies e idle flown leaves start trace text story armed s = record {
+pub breaks-unread : {E : Type 0} (stands_for : E → Option Event → State → Type 0) (devices : OnDevices) (flies : Option Flight) (e : E) →
+    ((p : Point) → IsSoundPoint p → IsIdleAt (stands_for e) p → devices.can_reopen_at 0 p) → ((p : Point) → IsSoundPoint p → IsIdleAt (stands_for e) p → flies ≡ None) →
+    ((room : ℕ) (p : Point) → devices.can_reopen_at room p → devices.stands_for_kept None room p) → (start : Start) (trace : Trace) (text : Option (List ℕ)) (story : List Event) → (armed : List (ℕ × ℕ)) → Serves (stands_for e) start story trace →
+    BreaksIn devices flies Memory (line_behind start trace text) (moment story armed) (moment story armed)
+breaks-unread stands_for devices flies e idle flown leaves start trace text story armed s = record {
   after = trace;
   asks = inr (refl, refl);
-  halts = idle-halts sees lies left fills flies e idle flown leaves start trace story s;
+  halts = idle-halts stands_for devices flies e idle flown leaves start trace story s;
   grows = ([], sym (append-nil story));
   armed = λ first is. (armed, is, λ some. absurd (some refl));
 }
 
-module _ (old_lies old_left : Point → Type 0) (old_fills : ToWrite → ℕ → Type 0) (old_flies : Option Flight) (halt : Halt) (start : Start) (trace : Trace) (text : Option (List ℕ))
-    (story mid told : List Event) (a b c : View) (br : BreaksIn old_lies old_left old_fills old_flies halt start trace text story mid a.armed b.armed) where
-  pub continues-behind : {E : Type 0} (sees : E → Option Event → State → Type 0) (e : E) → (halt ≡ Memory → ⊥) → CountsResumed halt b c Done mid told → Reopens sees start br.after mid e told →
-      Continues sees start trace text story e told a.armed c.armed
-  continues-behind sees e some h r = record {
+module _ (old_devices : OnDevices) (old_flies : Option Flight) (halt : Halt) (start : Start) (trace : Trace) (text : Option (List ℕ))
+    (story mid told : List Event) (a b c : View) (br : BreaksIn old_devices old_flies halt (line_behind start trace text) (moment story a.armed) (moment mid b.armed)) where
+  pub continues-behind : (stands_for : Option Event → State → Type 0) → (halt ≡ Memory → ⊥) → CountsResumed halt b c Done mid told → Reopens stands_for start br.after mid told →
+      Continues stands_for (line_behind start trace text) (moment story a.armed) (moment told c.armed)
+  continues-behind stands_for some h r = record {
     after = r.after;
     asks = by br.asks;
     serves = r.serves;
@@ -87,9 +86,9 @@ module _ (old_lies old_left : Point → Type 0) (old_fills : ToWrite → ℕ →
       by (inl more) = asks-still text trace br.after r.after r.lines more
       by (inr m) = absurd (some m.0)
 
-  pub ends-behind : (lies : ℕ → Point → Type 0) (left : Option Numbers → ℕ → Point → Type 0) (fills : ToWrite → ℕ → Type 0) (flies : Option Flight) (s : Stop) → CountsResumed halt b c (status_of s) mid told →
-      EndsBehind lies left fills flies halt s start br.after mid told → EndsIn lies left fills flies s start trace text story told a.armed c.armed
-  ends-behind lies left fills flies s h x = record {
+  pub ends-behind : (devices : OnDevices) (flies : Option Flight) (s : Stop) → CountsResumed halt b c (status_of s) mid told →
+      EndsBehind devices flies halt s start br.after mid told → EndsIn devices flies s (line_behind start trace text) (moment story a.armed) (moment told c.armed)
+  ends-behind devices flies s h x = record {
     after = x.after;
     asks = by br.asks;
     ends = x.ends;

@@ -26,16 +26,15 @@ use Rattle.salt_loop.proofs.Leaving.{done-leaves, fault-leaves, long-leaves, sho
 use Rattle.salt_loop.proofs.Places.{end-place, fault-place, first-place, long-place, next-place, over-before}
 use Rattle.salt_loop.proofs.Stories.{grown-text, text-begins}
 use Rattle.salt_loop.specs.Ending.{EndsServing, LeavesAt, ServesBetween}
-use Rattle.salt_loop.specs.Run.{AreLinesOf, IsTold, IsWritten}
-use Rattle.salt_loop.specs.Serving.{AsksMore, EndsTelling, GainsAtEnd, IsAt, IsServing, IsToldLine, TextAsks, added_text, rest_of, text_of}
+use Rattle.salt_loop.specs.Run.{AreLinesOf, IsTold, IsWritten, script_run, streams}
+use Rattle.salt_loop.specs.Serving.{AsksMore, EndsTelling, GainsAtEnd, IsAtPlace, IsServing, IsToldLine, TextAsks, added_text, line_behind, moment, rest_of, text_of}
 use Rattle.salt_loop.specs.Stopping.{IsOfLine, outcome, status_of, stop_of}
 use Rattle.salt_loop.specs.declared.stop.Stop.TheVariants as stop
 use Rattle.salt_loop.specs.declared.stop.Stop.{Stop}
+use Rattle.salt_driver.specs.Devices.{OnDevices}
 use Rattle.salt_driver.specs.Serving.{GainsEvents}
 use Rattle.salt_driver.specs.Standing.{IsIdleAt, IsSoundPoint}
-use Rattle.salt_storage.specs.Writing.{ToWrite}
 use Rattle.std.proofs.Common.{ap, append-nil, append_assoc, inl, inr, subst, sym, ◌∙◌}
-use Rattle.salt_storage.specs.declared.found.Numbers.{Numbers}
 use Rattle.std.specs.Prelude.{Err, List, None, Ok, Option, Result, [], drop, false, length, refl, true, ℕ, ◌++◌, ◌-◌, ◌∷◌, ◌≡◌, ◌⊎◌}
 use Rattle.std.specs.Result.{IfErr, IsErrAnd}
 
@@ -85,11 +84,11 @@ pub record HasTaken (text : Option (List ℕ)) (before after : Option (List ℕ)
   pub asks : (asked : Asked) → TextAsks text asked → Asks line asked
 
 -- a run that leaves there, with its lines and its text
-pub ends-at : {E : Type 0} (sees : E → Option Event → State → Type 0) (lies : ℕ → Point → Type 0) (left : Option Numbers → ℕ → Point → Type 0) (fills : ToWrite → ℕ → Type 0) (flies : Option Flight) (status : Status) (start : Start) (trace : Trace) (e : E) (story : List Event)
-    (texts : List (List ℕ)) (script rest before held : Option (List ℕ)) → LeavesAt lies left fills flies status start trace story → AskInOrder texts (trace_words.lines_asked trace) →
+pub ends-at : {E : Type 0} (stands_for : E → Option Event → State → Type 0) (devices : OnDevices) (flies : Option Flight) (status : Status) (start : Start) (trace : Trace) (e : E) (story : List Event)
+    (texts : List (List ℕ)) (script rest before held : Option (List ℕ)) → LeavesAt devices flies status start trace story → AskInOrder texts (trace_words.lines_asked trace) →
     AreLinesOf status script rest texts → IsTold status before trace held → (first armed : List (ℕ × ℕ)) → Stops status (armed_by_lines first trace) armed →
-    ServesBetween sees start status e story trace → EndsServing sees lies left fills flies start status script rest before e story held first armed
-ends-at sees lies left fills flies status start trace e story texts script rest before held x reads lines told first armed stops serves = (
+    ServesBetween (stands_for e) start status story trace → EndsServing (stands_for e) devices start (script_run status flies (streams script rest before held) story) first armed
+ends-at stands_for devices flies status start trace e story texts script rest before held x reads lines told first armed stops serves = (
   record { played = record { trace = trace; texts = texts; tells = x.tells; reads = reads; lines = lines; leaves = x.leaves; flies = x.flies; unspent = x.fits.unspent }; told = told },
   x.ends,
   stops,
@@ -102,8 +101,8 @@ not-between stop.ReadFault of is = of
 not-between stop.ScriptTooLong of is = of
 not-between s of is = cc
 
-module _ {E : Type 0} (old_sees : E → Option Event → State → Type 0) (start : Start) (script before : Option (List ℕ)) (old : E) (reading : ScriptReading) (left : Option (List ℕ))
-    (story : List Event) (held : Option (List ℕ)) (first armed : List (ℕ × ℕ)) (serving : IsServing old_sees start script before old reading left story held first armed) where
+module _ {E : Type 0} (old_stands_for : E → Option Event → State → Type 0) (start : Start) (script before : Option (List ℕ)) (old : E) (reading : ScriptReading) (left : Option (List ℕ))
+    (story : List Event) (held : Option (List ℕ)) (first armed : List (ℕ × ℕ)) (serving : IsServing (old_stands_for old) start (streams script left before held) reading story first armed) where
   over : reading.ended ≡ true → IsAtEnd (rest_of reading left)
   over = over-before reading left serving.of
 
@@ -113,7 +112,7 @@ module _ {E : Type 0} (old_sees : E → Option Event → State → Type 0) (star
 
   module _ (reading_after : ScriptReading) (left_after : Option (List ℕ)) (of : IsReadingOf reading_after left_after) (text : Option (List ℕ))
       (taken : HasTaken text (rest_of reading left) (rest_of reading_after left_after) reading.taken reading_after) (told : List Event) where
-    here : IsAt script reading_after (rest_of reading_after left_after) (serving.texts ++ taken.line ∷ [])
+    here : IsAtPlace script reading_after (rest_of reading_after left_after) (serving.texts ++ taken.line ∷ [])
     here = next-place reading reading_after left (rest_of reading_after left_after) serving.texts taken.line serving.of taken.takes script serving.place
 
     reads-here : (after : Trace) → AsksMore text serving.trace after → AskInOrder (serving.texts ++ taken.line ∷ []) (trace_words.lines_asked after)
@@ -126,9 +125,9 @@ module _ {E : Type 0} (old_sees : E → Option Event → State → Type 0) (star
         (text_under after story ≡ text_under serving.trace story) × (text_under after told ≡ text_under serving.trace story ++ text_under after (drop (length story) told))
     grown after asks tells grows = grown-text start serving.trace after asks.0 story told serving.serves.fits.well serving.serves.tells tells asks.2 grows
 
-    pub line-done : {F : Type 0} (sees : F → Option Event → State → Type 0) (new : F) (held_after : Option (List ℕ)) (armed_after : List (ℕ × ℕ)) → IsToldLine sees start serving.trace text story new told held held_after armed armed_after →
-        IsServing sees start script before new reading_after left_after told held_after first armed_after
-    line-done sees new held_after armed_after line =
+    pub line-done : {F : Type 0} (stands_for : F → Option Event → State → Type 0) (new : F) (held_after : Option (List ℕ)) (armed_after : List (ℕ × ℕ)) → IsToldLine (stands_for new) (line_behind start serving.trace text) (moment story armed) (moment told armed_after) held held_after →
+        IsServing (stands_for new) start (streams script left_after before held_after) reading_after told first armed_after
+    line-done stands_for new held_after armed_after line =
         let goes = line.goes in record {
           trace = goes.after;
           arms = goes.armed first serving.arms;
@@ -143,9 +142,9 @@ module _ {E : Type 0} (old_sees : E → Option Event → State → Type 0) (star
           within = taken.takes.within;
         }
 
-    module _ {F : Type 0} (sees : F → Option Event → State → Type 0) (new : F) (lies : ℕ → Point → Type 0) (gone : Option Numbers → ℕ → Point → Type 0) (fills : ToWrite → ℕ → Type 0) (flies : Option Flight) (held_after rest : Option (List ℕ)) (armed_after : List (ℕ × ℕ)) where
-      line-ends : (s : Stop) → IsOfLine s → (x : EndsTelling lies gone fills flies s start serving.trace text story told held held_after armed armed_after) → AsksMore text serving.trace x.ends.after →
-          EndsServing sees lies gone fills flies start (status_of s) script rest before new told held_after first armed_after
+    module _ {F : Type 0} (stands_for : F → Option Event → State → Type 0) (new : F) (devices : OnDevices) (flies : Option Flight) (held_after rest : Option (List ℕ)) (armed_after : List (ℕ × ℕ)) where
+      line-ends : (s : Stop) → IsOfLine s → (x : EndsTelling devices flies s (line_behind start serving.trace text) (moment story armed) (moment told armed_after) held held_after) → AsksMore text serving.trace x.ends.after →
+          EndsServing (stands_for new) devices start (script_run (status_of s) flies (streams script rest before held_after) told) first armed_after
       line-ends s of_line x asks =
           let after = x.ends.after in
           let leaves = x.ends.ends in
@@ -153,7 +152,7 @@ module _ {E : Type 0} (old_sees : E → Option Event → State → Type 0) (star
           let begun : story_before_line after ≡ story =
           before-line serving.trace after asks.0 x.ends.grows.0 serving.serves.complete (leaves.tells.begins ∙ sym serving.serves.tells.begins) serving.serves.tells.played leaves.tells.played asks.2
           (leaves.tells.told ∙ x.ends.grows.1 ∙ ap (λ es. es ++ x.ends.grows.0) (sym serving.serves.tells.told)) ∙ serving.serves.tells.told in
-          ends-at sees lies gone fills flies (status_of s) start after new told (serving.texts ++ taken.line ∷ []) script rest before held_after leaves (reads-here after asks)
+          ends-at stands_for devices flies (status_of s) start after new told (serving.texts ++ taken.line ∷ []) script rest before held_after leaves (reads-here after asks)
           (first-place s of_line script reading_after (rest_of reading_after left_after) rest (serving.texts ++ taken.line ∷ []) here (over-before reading_after left_after of) taken.takes.within)
           (subst (λ es. IsWritten (status_of s) before (text_under after es) (text_under after (story_of after)) held_after) (sym begun)
           (subst (λ es. IsWritten (status_of s) before (text_under after story) (text_under after es) held_after) (sym leaves.tells.told)
@@ -162,26 +161,26 @@ module _ {E : Type 0} (old_sees : E → Option Event → State → Type 0) (star
           (ends-written s (text_under serving.trace story) (added_text after story told) before held held_after serving.written x.written))))) first armed_after (x.ends.armed first serving.arms) (λ between. absurd (not-between s of_line between))
 
       -- memory ran out before it was asked
-      unasked-ends : (x : EndsTelling lies gone fills flies stop.Memory start serving.trace text story told held held_after armed armed_after) → x.ends.after ≡ serving.trace →
-          EndsServing sees lies gone fills flies start Memory script rest before new told held_after first armed_after
+      unasked-ends : (x : EndsTelling devices flies stop.Memory (line_behind start serving.trace text) (moment story armed) (moment told armed_after) held held_after) → x.ends.after ≡ serving.trace →
+          EndsServing (stands_for new) devices start (script_run Memory flies (streams script rest before held_after) told) first armed_after
       unasked-ends x same =
           let after = x.ends.after in
-          ends-at sees lies gone fills flies Memory start after new told serving.texts script rest before held_after x.ends.ends (subst (λ t. AskInOrder serving.texts (trace_words.lines_asked t)) (sym same) serving.reads)
+          ends-at stands_for devices flies Memory start after new told serving.texts script rest before held_after x.ends.ends (subst (λ t. AskInOrder serving.texts (trace_words.lines_asked t)) (sym same) serving.reads)
           (first-place stop.Memory tt script reading (rest_of reading left) rest serving.texts serving.place over serving.within)
           (subst (λ t. IsTold Memory before t held_after) (sym same) (subst (IsTold Memory before serving.trace) (sym x.written) (
           gains-all-from before (text_under serving.trace (story_before_line serving.trace)) (text_under serving.trace (story_of serving.trace)) held
           (text-begins serving.trace (story_of serving.trace) refl) written-so-far))) first armed_after (x.ends.armed first serving.arms) (λ between. absurd (not-between stop.Memory tt between))
 
-      pub telling-ends : (s : Stop) → IsOfLine s → EndsTelling lies gone fills flies s start serving.trace text story told held held_after armed armed_after →
-          EndsServing sees lies gone fills flies start (status_of s) script rest before new told held_after first armed_after
+      pub telling-ends : (s : Stop) → IsOfLine s → EndsTelling devices flies s (line_behind start serving.trace text) (moment story armed) (moment told armed_after) held held_after →
+          EndsServing (stands_for new) devices start (script_run (status_of s) flies (streams script rest before held_after) told) first armed_after
       telling-ends s of_line x = by x.ends.asks
         where
-          by : AsksMore text serving.trace x.ends.after ⊎ ((s ≡ stop.Memory) × (x.ends.after ≡ serving.trace)) → EndsServing sees lies gone fills flies start (status_of s) script rest before new told held_after first armed_after
+          by : AsksMore text serving.trace x.ends.after ⊎ ((s ≡ stop.Memory) × (x.ends.after ≡ serving.trace)) → EndsServing (stands_for new) devices start (script_run (status_of s) flies (streams script rest before held_after) told) first armed_after
           by (inl asks) = line-ends s of_line x asks
           by (inr m) = short s x m.0 m.1
             where
-              short : (s : Stop) (x : EndsTelling lies gone fills flies s start serving.trace text story told held held_after armed armed_after) → s ≡ stop.Memory → x.ends.after ≡ serving.trace →
-                  EndsServing sees lies gone fills flies start (status_of s) script rest before new told held_after first armed_after
+              short : (s : Stop) (x : EndsTelling devices flies s (line_behind start serving.trace text) (moment story armed) (moment told armed_after) held held_after) → s ≡ stop.Memory → x.ends.after ≡ serving.trace →
+                  EndsServing (stands_for new) devices start (script_run (status_of s) flies (streams script rest before held_after) told) first armed_after
               short stop.Memory x m same = unasked-ends x same
               short stop.ReadFault x m same = absurd cc
               short stop.WriteFault x m same = absurd cc
@@ -193,40 +192,40 @@ module _ {E : Type 0} (old_sees : E → Option Event → State → Type 0) (star
               short (stop.NumbersSpent boot decisions) x m same = absurd cc
 
   -- nothing more was told
-  module _ (lies : ℕ → Point → Type 0) (gone : Option Numbers → ℕ → Point → Type 0) (fills : ToWrite → ℕ → Type 0) (flies : Option Flight) (idle : (p : Point) → IsSoundPoint p → IsIdleAt old_sees old p → lies 0 p)
-      (flown : (p : Point) → IsSoundPoint p → IsIdleAt old_sees old p → flies ≡ None) (leaves : (room : ℕ) (p : Point) → lies room p → gone None room p) (left_end : Option (List ℕ)) where
+  module _ (devices : OnDevices) (flies : Option Flight) (idle : (p : Point) → IsSoundPoint p → IsIdleAt (old_stands_for old) p → devices.can_reopen_at 0 p)
+      (flown : (p : Point) → IsSoundPoint p → IsIdleAt (old_stands_for old) p → flies ≡ None) (leaves : (room : ℕ) (p : Point) → devices.can_reopen_at room p → devices.stands_for_kept None room p) (left_end : Option (List ℕ)) where
     still : (status : Status) → Stops status (armed_by_lines first serving.trace) armed
     still status = stops-are status armed armed serving.arms (λ some. refl)
 
-    pub done-ends : IsAtEnd (rest_of reading left) → EndsServing old_sees lies gone fills flies start Done script left_end before old story held first armed
+    pub done-ends : IsAtEnd (rest_of reading left) → EndsServing (old_stands_for old) devices start (script_run Done flies (streams script left_end before held) story) first armed
     done-ends end =
-        ends-at old_sees lies gone fills flies Done start serving.trace old story serving.texts script left_end before held
-        (done-leaves old_sees lies gone fills flies old idle flown leaves start serving.trace story serving.serves) serving.reads
+        ends-at old_stands_for devices flies Done start serving.trace old story serving.texts script left_end before held
+        (done-leaves old_stands_for devices flies old idle flown leaves start serving.trace story serving.serves) serving.reads
         (end-place script reading (rest_of reading left) left_end serving.texts serving.place end serving.within) written-so-far first armed (still Done) (λ between. serving.serves)
 
-    fault-ends : reading.ended ≡ false → TakesNoLine (SCRIPT_MOST - reading.taken) (rest_of reading left) left_end → EndsServing old_sees lies gone fills flies start ReadFault script left_end before old story held first armed
+    fault-ends : reading.ended ≡ false → TakesNoLine (SCRIPT_MOST - reading.taken) (rest_of reading left) left_end → EndsServing (old_stands_for old) devices start (script_run ReadFault flies (streams script left_end before held) story) first armed
     fault-ends unended cut =
-        ends-at old_sees lies gone fills flies ReadFault start serving.trace old story serving.texts script left_end before held
-        (fault-leaves old_sees lies gone fills flies old idle flown leaves start serving.trace story serving.serves) serving.reads
+        ends-at old_stands_for devices flies ReadFault start serving.trace old story serving.texts script left_end before held
+        (fault-leaves old_stands_for devices flies old idle flown leaves start serving.trace story serving.serves) serving.reads
         (fault-place script reading (rest_of reading left) left_end serving.texts serving.place unended cut serving.within) written-so-far first armed (still ReadFault) (λ between. serving.serves)
 
-    long-ends : IsCutOff (SCRIPT_MOST - reading.taken) (rest_of reading left) → EndsServing old_sees lies gone fills flies start ScriptTooLong script left_end before old story held first armed
+    long-ends : IsCutOff (SCRIPT_MOST - reading.taken) (rest_of reading left) → EndsServing (old_stands_for old) devices start (script_run ScriptTooLong flies (streams script left_end before held) story) first armed
     long-ends cut =
-        ends-at old_sees lies gone fills flies ScriptTooLong start serving.trace old story serving.texts script left_end before held
-        (long-leaves old_sees lies gone fills flies old idle flown leaves start serving.trace story serving.serves) serving.reads
+        ends-at old_stands_for devices flies ScriptTooLong start serving.trace old story serving.texts script left_end before held
+        (long-leaves old_stands_for devices flies old idle flown leaves start serving.trace story serving.serves) serving.reads
         (long-place script reading (rest_of reading left) left_end serving.texts serving.place over cut serving.within) written-so-far first armed (still ScriptTooLong) (λ between. serving.serves)
 
-    memory-ends : EndsServing old_sees lies gone fills flies start Memory script left_end before old story held first armed
+    memory-ends : EndsServing (old_stands_for old) devices start (script_run Memory flies (streams script left_end before held) story) first armed
     memory-ends =
-        ends-at old_sees lies gone fills flies Memory start serving.trace old story serving.texts script left_end before held
-        (short-leaves old_sees lies gone fills flies old idle flown leaves start serving.trace story serving.serves) serving.reads
+        ends-at old_stands_for devices flies Memory start serving.trace old story serving.texts script left_end before held
+        (short-leaves old_stands_for devices flies old idle flown leaves start serving.trace story serving.serves) serving.reads
         (first-place stop.Memory tt script reading (rest_of reading left) left_end serving.texts serving.place over serving.within)
         (gains-all-from before (text_under serving.trace (story_before_line serving.trace)) (text_under serving.trace (story_of serving.trace)) held
         (text-begins serving.trace (story_of serving.trace) refl) written-so-far) first armed (still Memory) (λ between. serving.serves)
 
     -- why the next line was not read
     pub reading-stops : (e : LineErr) → (e ≡ LineErr.ReadFault → (reading.ended ≡ false) × TakesNoLine (SCRIPT_MOST - reading.taken) (rest_of reading left) left_end)
-        → (e ≡ LineErr.ScriptTooLong → IsCutOff (SCRIPT_MOST - reading.taken) (rest_of reading left)) → EndsServing old_sees lies gone fills flies start (status_of (stop_of e)) script left_end before old story held first armed
+        → (e ≡ LineErr.ScriptTooLong → IsCutOff (SCRIPT_MOST - reading.taken) (rest_of reading left)) → EndsServing (old_stands_for old) devices start (script_run (status_of (stop_of e)) flies (streams script left_end before held) story) first armed
     reading-stops LineErr.ReadFault fault long = fault-ends (fault refl).0 (fault refl).1
     reading-stops LineErr.ScriptTooLong fault long = long-ends (long refl)
     reading-stops LineErr.Memory fault long = memory-ends

@@ -26,6 +26,7 @@ use Rattle.salt_loop.specs.Stopping.{IsLaterStop, answer_of, numbers_told, statu
 use Rattle.salt_loop.specs.declared.stop.Stop.TheVariants as stop
 use Rattle.salt_loop.specs.declared.stop.Stop.{Stop}
 use Rattle.salt_driver.proofs.Segments.{serves-at, sound-of}
+use Rattle.salt_driver.specs.Devices.{OnDevices}
 use Rattle.salt_driver.specs.Opening.{MayFailAt}
 use Rattle.salt_driver.specs.Reopening.{BreaksOpening, EndsWithin, NotBegun, WithinOpening}
 use Rattle.salt_driver.specs.Serving.{Halts, Serves}
@@ -115,16 +116,16 @@ same-numbers opening.Failed = refl
 same-numbers (opening.Full dev) = refl
 same-numbers opening.Memory = refl
 
-untold : (left : Option Numbers → ℕ → Point → Type 0) → ((numbers : Numbers) (room : ℕ) (p : Point) → left (Some numbers) room p → left None room p) → (told : Option Numbers) (room : ℕ) (p : Point) →
-    left told room p → left None room p
-untold left forgets None room p h = h
-untold left forgets (Some numbers) room p h = forgets numbers room p h
+untold : (devices : OnDevices) → ((numbers : Numbers) (room : ℕ) (p : Point) → devices.stands_for_kept (Some numbers) room p → devices.stands_for_kept None room p) → (told : Option Numbers) (room : ℕ) (p : Point) →
+    devices.stands_for_kept told room p → devices.stands_for_kept None room p
+untold devices forgets None room p h = h
+untold devices forgets (Some numbers) room p h = forgets numbers room p h
 
 -- AN OPENING
 
-module _ (lies : ℕ → Point → Type 0) (left : Option Numbers → ℕ → Point → Type 0) (fills : ToWrite → ℕ → Type 0) (flies : Option Flight) (e : OpenErr) (start : Start) (trace : Trace) (story told : List Event)
-    (b : BreaksOpening lies left fills flies e start trace story told) where
-  not-begun : NotBegun lies left fills flies e b.after b.point → LeavesAt lies left fills flies (status_opening e) start b.after told
+module _ (devices : OnDevices) (flies : Option Flight) (e : OpenErr) (start : Start) (trace : Trace) (story told : List Event)
+    (b : BreaksOpening devices flies e start trace story told) where
+  not-begun : NotBegun devices flies e b.after b.point → LeavesAt devices flies (status_opening e) start b.after told
   not-begun n = record {
     tells = b.tells;
     fits = b.fits;
@@ -137,7 +138,7 @@ module _ (lies : ℕ → Point → Type 0) (left : Option Numbers → ℕ → Po
       boots = n.boots;
       may = may-fail n.room b.point e fell n.fails;
       again = λ some. n.again (λ m. some (ap status_opening m));
-      stands = subst (λ (told : Option Numbers). left told n.room b.point) (same-numbers e) n.stays;
+      stands = subst (λ (told : Option Numbers). devices.stands_for_kept told n.room b.point) (same-numbers e) n.stays;
       full = λ dev is. (OfBoot, inr (fell, refl), n.full dev (full-reason e dev is));
     };
   }
@@ -145,7 +146,7 @@ module _ (lies : ℕ → Point → Type 0) (left : Option Numbers → ℕ → Po
       fell : b.point.state.units.phase ≡ Fallen
       fell = sym b.keeps.state.units.phase ∙ n.fallen
 
-  within : WithinOpening lies left fills flies e b.after b.point → LeavesAt lies left fills flies (status_opening e) start b.after told
+  within : WithinOpening devices flies e b.after b.point → LeavesAt devices flies (status_opening e) start b.after told
   within w = record {
     tells = b.tells;
     fits = b.fits;
@@ -158,7 +159,7 @@ module _ (lies : ℕ → Point → Type 0) (left : Option Numbers → ℕ → Po
       boots = omega arith;
       may = subst (λ x. MayEndAt 0 b.point (status_opening x)) (sym w.halted) (may-halt 0 b.point w.halt);
       again = λ some. w.halts.again (λ m. some (ap status_opening (w.halted ∙ ap halted_by m)));
-      stands = subst (λ (told : Option Numbers). left told 0 b.point) (sym (ap numbers_of w.halted ∙ no_numbers w.halt) ∙ same-numbers e) w.halts.stays;
+      stands = subst (λ (told : Option Numbers). devices.stands_for_kept told 0 b.point) (sym (ap numbers_of w.halted ∙ no_numbers w.halt) ∙ same-numbers e) w.halts.stays;
       full = λ dev is. by dev (w.halts.full dev (same_halt w.halt (halt.DeviceFull dev) (sym w.halted ∙ full-reason e dev is)));
     };
   }
@@ -174,21 +175,21 @@ module _ (lies : ℕ → Point → Type 0) (left : Option Numbers → ℕ → Po
       flown (inl m) = subst (λ x. IsFlightAt (status_opening x) b.after flies) (sym (short m.0)) (inl m.1)
       flown (inr f) = flies-later e b.later b.after flies (f ∙ ap flight_told (sym b.keeps.flight))
 
-      by : (dev : ℕ) → (x : ToWrite) × IsWrittenAt b.point x × fills x dev →
-          (x : ToWrite) × (IsWrittenAt b.point x ⊎ ((b.point.state.units.phase ≡ Fallen) × (x ≡ OfBoot))) × fills x dev
+      by : (dev : ℕ) → (x : ToWrite) × IsWrittenAt b.point x × devices.fills_device x dev →
+          (x : ToWrite) × (IsWrittenAt b.point x ⊎ ((b.point.state.units.phase ≡ Fallen) × (x ≡ OfBoot))) × devices.fills_device x dev
       by dev x = (x.0, inl x.1, x.2)
 
-  pub leaves-opening : LeavesAt lies left fills flies (status_opening e) start b.after told
+  pub leaves-opening : LeavesAt devices flies (status_opening e) start b.after told
   leaves-opening = by b.stops
     where
-      by : NotBegun lies left fills flies e b.after b.point ⊎ WithinOpening lies left fills flies e b.after b.point → LeavesAt lies left fills flies (status_opening e) start b.after told
+      by : NotBegun devices flies e b.after b.point ⊎ WithinOpening devices flies e b.after b.point → LeavesAt devices flies (status_opening e) start b.after told
       by (inl n) = not-begun n
       by (inr w) = within w
 
-  pub ends-early : EndsOpening lies left fills flies (stop_opening e) start trace story told
+  pub ends-early : EndsOpening devices flies (stop_opening e) start trace story told
   ends-early = record { after = b.after; lines = b.lines; ends = leaves-opening; grows = b.grows; along = b.along }
 
-  pub ends-opening : (h : Halt) → (h ≡ halt.Memory → ⊥) → EndsBehind lies left fills flies h (stop_opening e) start trace story told
+  pub ends-opening : (h : Halt) → (h ≡ halt.Memory → ⊥) → EndsBehind devices flies h (stop_opening e) start trace story told
   ends-opening h some = record { after = b.after; lines = b.lines; short = λ m. absurd (some m); ends = leaves-opening; grows = b.grows; along = b.along }
 
 -- A LINE
@@ -205,8 +206,8 @@ device-next p trace e k sound comes devices =
     let good = good-event trace e (replays trace sound.played) (may-stand trace e (is-of-units p.state.units e devices) here) in
     ap (is_device_next trace) here ∙ devices-told p.state.units trace e k.state.units sound.played good ∙ devices
 
-module _ (lies : ℕ → Point → Type 0) (left : Option Numbers → ℕ → Point → Type 0) (fills : ToWrite → ℕ → Type 0) (flies : Option Flight) (start : Start) (trace : Trace) (story : List Event) where
-  pub halts-full : (dev : ℕ) → Halts (lies 0) (left None 0) fills flies (halt.DeviceFull dev) start story trace → EndsBehind lies left fills flies (halt.DeviceFull dev) (stop.DeviceFull dev) start trace story story
+module _ (devices : OnDevices) (flies : Option Flight) (start : Start) (trace : Trace) (story : List Event) where
+  pub halts-full : (dev : ℕ) → Halts devices flies (halt.DeviceFull dev) start story trace → EndsBehind devices flies (halt.DeviceFull dev) (stop.DeviceFull dev) start trace story story
   halts-full dev h = record {
     after = trace;
     lines = refl;
@@ -248,11 +249,11 @@ module _ (lies : ℕ → Point → Type 0) (left : Option Numbers → ℕ → Po
       flown (inl m) = absurd (never m.0)
       flown (inr f) = f ∙ ap flight_told (sym h.keeps.flight)
 
-      by : (d : ℕ) → (x : ToWrite) × IsWrittenAt h.point x × fills x d →
-          (x : ToWrite) × (IsWrittenAt h.point x ⊎ ((h.point.state.units.phase ≡ Fallen) × (x ≡ OfBoot))) × fills x d
+      by : (d : ℕ) → (x : ToWrite) × IsWrittenAt h.point x × devices.fills_device x d →
+          (x : ToWrite) × (IsWrittenAt h.point x ⊎ ((h.point.state.units.phase ≡ Fallen) × (x ≡ OfBoot))) × devices.fills_device x d
       by d x = (x.0, inl x.1, x.2)
 
-  pub halts-short : Halts (lies 0) (left None 0) fills flies halt.Memory start story trace → EndsBehind lies left fills flies halt.Memory stop.Memory start trace story story
+  pub halts-short : Halts devices flies halt.Memory start story trace → EndsBehind devices flies halt.Memory stop.Memory start trace story story
   halts-short h = record {
     after = trace;
     lines = refl;
@@ -300,12 +301,12 @@ complete-flight (trace says Down why) c = absurd (fell c.0)
 complete-flight (trace says Opened boot n) c = decision-none (next (trace says Opened boot n)) c.1
 complete-flight (trace says e) c = decision-none (next (trace says e)) c.1
 
-module _ {E : Type 0} (sees : E → Option Event → State → Type 0) (lies : ℕ → Point → Type 0) (left : Option Numbers → ℕ → Point → Type 0) (fills : ToWrite → ℕ → Type 0) (flies : Option Flight) (e : E)
-    (idle : (p : Point) → IsSoundPoint p → IsIdleAt sees e p → lies 0 p) (flown : (p : Point) → IsSoundPoint p → IsIdleAt sees e p → flies ≡ None)
-    (leaves : (room : ℕ) (p : Point) → lies room p → left None room p) (start : Start) (trace : Trace) (story : List Event) (s : Serves sees start e story trace) where
-  ends-idle : (status : Status) → ((room : ℕ) (p : Point) → MayEndAt room p status) → ((dev : ℕ) → status ≡ DeviceFull dev → ⊥) → numbers_told status ≡ None → EndsFound lies left fills status trace
+module _ {E : Type 0} (stands_for : E → Option Event → State → Type 0) (devices : OnDevices) (flies : Option Flight) (e : E)
+    (idle : (p : Point) → IsSoundPoint p → IsIdleAt (stands_for e) p → devices.can_reopen_at 0 p) (flown : (p : Point) → IsSoundPoint p → IsIdleAt (stands_for e) p → flies ≡ None)
+    (leaves : (room : ℕ) (p : Point) → devices.can_reopen_at room p → devices.stands_for_kept None room p) (start : Start) (trace : Trace) (story : List Event) (s : Serves (stands_for e) start story trace) where
+  ends-idle : (status : Status) → ((room : ℕ) (p : Point) → MayEndAt room p status) → ((dev : ℕ) → status ≡ DeviceFull dev → ⊥) → numbers_told status ≡ None → EndsFound devices status trace
   ends-idle status may never none =
-      let at = idle s.point (serves-at sees sees start e story trace s) s.stands in
+      let at = idle s.point (serves-at stands_for stands_for start e story trace s) s.stands in
       record {
         room = 0;
         point = s.point;
@@ -313,26 +314,26 @@ module _ {E : Type 0} (sees : E → Option Event → State → Type 0) (lies : �
         boots = omega arith;
         may = may 0 s.point;
         again = λ some. at;
-        stands = subst (λ (told : Option Numbers). left told 0 s.point) (sym none) (leaves 0 s.point at);
+        stands = subst (λ (told : Option Numbers). devices.stands_for_kept told 0 s.point) (sym none) (leaves 0 s.point at);
         full = λ dev is. absurd (never dev is);
       }
 
   none-flown : flies ≡ None
-  none-flown = flown s.point (serves-at sees sees start e story trace s) s.stands
+  none-flown = flown s.point (serves-at stands_for stands_for start e story trace s) s.stands
 
-  pub done-leaves : LeavesAt lies left fills flies Done start trace story
+  pub done-leaves : LeavesAt devices flies Done start trace story
   done-leaves = record { tells = s.tells; fits = s.fits; leaves = s.complete; flies = none-flown; ends = ends-idle Done (λ room p. tt) (λ dev is. cc) refl }
 
-  pub fault-leaves : LeavesAt lies left fills flies ReadFault start trace story
+  pub fault-leaves : LeavesAt devices flies ReadFault start trace story
   fault-leaves = record { tells = s.tells; fits = s.fits; leaves = s.complete; flies = none-flown; ends = ends-idle ReadFault (λ room p. tt) (λ dev is. cc) refl }
 
-  pub long-leaves : LeavesAt lies left fills flies ScriptTooLong start trace story
+  pub long-leaves : LeavesAt devices flies ScriptTooLong start trace story
   long-leaves = record { tells = s.tells; fits = s.fits; leaves = s.complete; flies = none-flown; ends = ends-idle ScriptTooLong (λ room p. tt) (λ dev is. cc) refl }
 
-  pub short-leaves : LeavesAt lies left fills flies Memory start trace story
+  pub short-leaves : LeavesAt devices flies Memory start trace story
   short-leaves = record { tells = s.tells; fits = s.fits; leaves = tt; flies = inl none-flown; ends = ends-idle Memory (λ room p. tt) (λ dev is. cc) refl }
 
-  pub unwritten-leaves : LeavesAt lies left fills flies WriteFault start trace story
+  pub unwritten-leaves : LeavesAt devices flies WriteFault start trace story
   unwritten-leaves = record {
     tells = s.tells;
     fits = s.fits;
@@ -342,7 +343,7 @@ module _ {E : Type 0} (sees : E → Option Event → State → Type 0) (lies : �
   }
 
   -- for want of memory it is halted there
-  pub idle-halts : Halts (lies 0) (left None 0) fills flies halt.Memory start story trace
+  pub idle-halts : Halts devices flies halt.Memory start story trace
   idle-halts = record {
     tells = s.tells;
     fits = s.fits;
@@ -353,8 +354,8 @@ module _ {E : Type 0} (sees : E → Option Event → State → Type 0) (lies : �
       reason = inl refl;
       flies = inl (refl, none-flown);
       full = λ dev is. absurd (never dev is);
-      again = λ some. idle s.point (serves-at sees sees start e story trace s) s.stands;
-      stays = leaves 0 s.point (idle s.point (serves-at sees sees start e story trace s) s.stands);
+      again = λ some. idle s.point (serves-at stands_for stands_for start e story trace s) s.stands;
+      stays = leaves 0 s.point (idle s.point (serves-at stands_for stands_for start e story trace s) s.stands);
     };
   }
     where
@@ -363,8 +364,8 @@ module _ {E : Type 0} (sees : E → Option Event → State → Type 0) (lies : �
 
 -- THE SINK FAILED
 
-module _ (lies : ℕ → Point → Type 0) (left : Option Numbers → ℕ → Point → Type 0) (fills : ToWrite → ℕ → Type 0) (flies : Option Flight) (forgets : (numbers : Numbers) (room : ℕ) (p : Point) → left (Some numbers) room p → left None room p) (start : Start) (trace : Trace) (story : List Event) where
-  ends-unwritten : (status : Status) → (status ≡ Memory → ⊥) → EndsFound lies left fills status trace → EndsFound lies left fills WriteFault trace
+module _ (devices : OnDevices) (flies : Option Flight) (forgets : (numbers : Numbers) (room : ℕ) (p : Point) → devices.stands_for_kept (Some numbers) room p → devices.stands_for_kept None room p) (start : Start) (trace : Trace) (story : List Event) where
+  ends-unwritten : (status : Status) → (status ≡ Memory → ⊥) → EndsFound devices status trace → EndsFound devices WriteFault trace
   ends-unwritten status some x = record {
     room = x.room;
     point = x.point;
@@ -372,14 +373,14 @@ module _ (lies : ℕ → Point → Type 0) (left : Option Numbers → ℕ → Po
     boots = x.boots;
     may = tt;
     again = λ other. x.again some;
-    stands = untold left forgets (numbers_told status) x.room x.point x.stands;
+    stands = untold devices forgets (numbers_told status) x.room x.point x.stands;
     full = λ dev is. absurd (never dev is);
   }
     where
       never : (dev : ℕ) → WriteFault ≡ DeviceFull dev → ⊥
       never dev is = cc
 
-  pub leaves-unwritten : (s : Stop) → IsLaterStop s → (s ≡ stop.Memory → ⊥) → LeavesAt lies left fills flies (status_of s) start trace story → LeavesAt lies left fills flies WriteFault start trace story
+  pub leaves-unwritten : (s : Stop) → IsLaterStop s → (s ≡ stop.Memory → ⊥) → LeavesAt devices flies (status_of s) start trace story → LeavesAt devices flies WriteFault start trace story
   leaves-unwritten stop.Memory l some x = absurd (some refl)
   leaves-unwritten stop.DiskFault l some x =
       record { tells = x.tells; fits = x.fits; leaves = inr (at-devices trace x.leaves); flies = x.flies; ends = ends-unwritten (status_of stop.DiskFault) (λ m. cc) x.ends }
@@ -402,11 +403,11 @@ answers-opening opening.Memory some = refl
 
 -- either way a stop leaves of the devices what is kept there
 
-pub left-there : {E T : Type 0} (sees : E → Option Event → State → Type 0) (lies : ℕ → Point → Type 0) (left : Option Numbers → ℕ → Point → Type 0) (fills : ToWrite → ℕ → Type 0) (flies : Option Flight) (e : E)
-    (idle : (p : Point) → IsSoundPoint p → IsIdleAt sees e p → lies 0 p) (flown : (p : Point) → IsSoundPoint p → IsIdleAt sees e p → flies ≡ None)
-    (leaves : (room : ℕ) (p : Point) → lies room p → left None room p) (forgets : (numbers : Numbers) (room : ℕ) (p : Point) → left (Some numbers) room p → left None room p) (start : Start) (told : List Event) (done : Result T Stop) → OnOk done ((trace : Trace) × Serves sees start e told trace) →
-    IfErr done (λ s. (trace : Trace) × LeavesAt lies left fills flies (status_of s) start trace told) → (room : ℕ) × ((p : Point) × left None room p)
-left-there sees lies left fills flies e idle flown leaves forgets start told (Ok x) ok err =
-    let ends = (unwritten-leaves sees lies left fills flies e idle flown leaves start ok.0 told ok.1).ends in
+pub left-there : {E T : Type 0} (stands_for : E → Option Event → State → Type 0) (devices : OnDevices) (flies : Option Flight) (e : E)
+    (idle : (p : Point) → IsSoundPoint p → IsIdleAt (stands_for e) p → devices.can_reopen_at 0 p) (flown : (p : Point) → IsSoundPoint p → IsIdleAt (stands_for e) p → flies ≡ None)
+    (leaves : (room : ℕ) (p : Point) → devices.can_reopen_at room p → devices.stands_for_kept None room p) (forgets : (numbers : Numbers) (room : ℕ) (p : Point) → devices.stands_for_kept (Some numbers) room p → devices.stands_for_kept None room p) (start : Start) (told : List Event) (done : Result T Stop) → OnOk done ((trace : Trace) × Serves (stands_for e) start told trace) →
+    IfErr done (λ s. (trace : Trace) × LeavesAt devices flies (status_of s) start trace told) → (room : ℕ) × ((p : Point) × devices.stands_for_kept None room p)
+left-there stands_for devices flies e idle flown leaves forgets start told (Ok x) ok err =
+    let ends = (unwritten-leaves stands_for devices flies e idle flown leaves start ok.0 told ok.1).ends in
     (ends.room, (ends.point, ends.stands))
-left-there sees lies left fills flies e idle flown leaves forgets start told (Err s) ok err = let ends = err.1.ends in (ends.room, (ends.point, untold left forgets (numbers_told (status_of s)) ends.room ends.point ends.stands))
+left-there stands_for devices flies e idle flown leaves forgets start told (Err s) ok err = let ends = err.1.ends in (ends.room, (ends.point, untold devices forgets (numbers_told (status_of s)) ends.room ends.point ends.stands))

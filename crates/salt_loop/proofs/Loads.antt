@@ -21,18 +21,18 @@ use Rattle.salt_loop.proofs.Leaving.{done-leaves, short-leaves}
 use Rattle.salt_loop.proofs.Texts.{of-later}
 use Rattle.salt_loop.specs.Armed.{EndsArmed, StaysArmed}
 use Rattle.salt_loop.specs.Ending.{EndsOpening, LeavesAt}
-use Rattle.salt_loop.specs.Loading.{AreLoadLines, EndsLoading, IsLoading, IsPlayedLoad, asked_by_load}
+use Rattle.salt_loop.specs.Loading.{AreLoadLines, EndsLoading, IsLoading, IsPlayedLoad, asked_by_load, load_run}
 use Rattle.salt_loop.specs.Serving.{EndsBehind, IsAskable}
 use Rattle.salt_loop.specs.Stopping.{IsLaterStop, IsOfDevices, answer_of, status_of, stop_opening}
 use Rattle.salt_loop.specs.declared.stop.Stop.TheVariants as stop
 use Rattle.salt_loop.specs.declared.stop.Stop.{Stop}
+use Rattle.salt_driver.specs.Devices.{OnDevices}
 use Rattle.salt_driver.specs.Counting.{CountsOpening}
 use Rattle.salt_driver.specs.Opening.{IsUnfound, fallen_often}
 use Rattle.salt_driver.specs.Reopening.{Reopens}
 use Rattle.salt_driver.specs.Serving.{Breaks, Goes}
 use Rattle.salt_driver.specs.Standing.{IsIdleAt, IsSoundPoint}
 use Rattle.salt_storage.specs.Answers.{IsLater}
-use Rattle.salt_storage.specs.Writing.{ToWrite}
 use Rattle.salt_storage.specs.declared.halt.Halt.TheVariants.{Memory}
 use Rattle.salt_storage.specs.declared.halt.Halt.{Halt}
 use Rattle.salt_storage.specs.OpenErr.{OpenErr}
@@ -40,7 +40,6 @@ use Rattle.law_types.specs.Played.{HasKey}
 use Rattle.std.proofs.Common.{ap, arith, get_or, inl, inr, subst, suc, sym, take, zero, ◌∙◌}
 use Rattle.std.proofs.lemmas.List.{take_all, take_more}
 use Rattle.std.specs.List.{flat_map, range_with_len}
-use Rattle.salt_storage.specs.declared.found.Numbers.{Numbers}
 use Rattle.std.specs.Prelude.{Bool, List, None, Option, Some, [], cond, drop, eqb, false, length, map, refl, slice_get, true, ℕ, ◌%◌, ◌+◌, ◌++◌, ◌<◌, ◌∷◌, ◌≡◌, ◌≤◌, ◌⊎◌}
 
 -- each may be asked, and has a key where it is a table
@@ -150,10 +149,10 @@ early-load-lines stop.ReadFault of n lines none = absurd of
 early-load-lines stop.WriteFault of n lines none = absurd of
 early-load-lines stop.ScriptTooLong of n lines none = absurd of
 
-loads-at : (lies : ℕ → Point → Type 0) (left : Option Numbers → ℕ → Point → Type 0) (fills : ToWrite → ℕ → Type 0) (flies : Option Flight) (ends : Status) (start : Start) (trace : Trace) (story : List Event) (n done : ℕ) →
-    LeavesAt lies left fills flies ends start trace story → AreLoadLines ends n (lines_asked trace) → ((ends ≡ status.Memory → ⊥) → length (lines_asked trace) ≡ done) →
-    (first armed : List (ℕ × ℕ)) → Stops ends (armed_by_lines first trace) armed → EndsLoading lies left fills flies start ends n done story first armed
-loads-at lies left fills flies ends start trace story n done x lines count first armed stops =
+loads-at : (devices : OnDevices) (flies : Option Flight) (ends : Status) (start : Start) (trace : Trace) (story : List Event) (n done : ℕ) →
+    LeavesAt devices flies ends start trace story → AreLoadLines ends n (lines_asked trace) → ((ends ≡ status.Memory → ⊥) → length (lines_asked trace) ≡ done) →
+    (first armed : List (ℕ × ℕ)) → Stops ends (armed_by_lines first trace) armed → EndsLoading devices start (load_run ends flies n done story) first armed
+loads-at devices flies ends start trace story n done x lines count first armed stops =
     (record { trace = trace; tells = x.tells; lines = lines; count = count; leaves = x.leaves; flies = x.flies; unspent = x.fits.unspent }, x.ends, stops)
 
 -- so many lines are as many
@@ -164,21 +163,21 @@ length-asked [] (suc i) h = absurd (omega (arith, h))
 length-asked (x ∷ xs) zero h = refl
 length-asked (x ∷ xs) (suc i) h = let e = length-asked xs i (omega (arith, h)) in omega arith
 
-module _ {E : Type 0} (old_sees : E → Option Event → State → Type 0) (start : Start) (n i : ℕ) (old : E) (story : List Event) (first armed : List (ℕ × ℕ)) (loading : IsLoading old_sees start n i old story first armed) where
-  module _ (lies : ℕ → Point → Type 0) (left : Option Numbers → ℕ → Point → Type 0) (fills : ToWrite → ℕ → Type 0) (flies : Option Flight) (idle : (p : Point) → IsSoundPoint p → IsIdleAt old_sees old p → lies 0 p)
-      (flown : (p : Point) → IsSoundPoint p → IsIdleAt old_sees old p → flies ≡ None) (leaves : (room : ℕ) (p : Point) → lies room p → left None room p) where
+module _ {E : Type 0} (old_stands_for : E → Option Event → State → Type 0) (start : Start) (n i : ℕ) (old : E) (story : List Event) (first armed : List (ℕ × ℕ)) (loading : IsLoading (old_stands_for old) start n i story first armed) where
+  module _ (devices : OnDevices) (flies : Option Flight) (idle : (p : Point) → IsSoundPoint p → IsIdleAt (old_stands_for old) p → devices.can_reopen_at 0 p)
+      (flown : (p : Point) → IsSoundPoint p → IsIdleAt (old_stands_for old) p → flies ≡ None) (leaves : (room : ℕ) (p : Point) → devices.can_reopen_at room p → devices.stands_for_kept None room p) where
     -- memory ran out between lines
-    pub short-loading : (done : ℕ) → EndsLoading lies left fills flies start status.Memory n done story first armed
+    pub short-loading : (done : ℕ) → EndsLoading devices start (load_run status.Memory flies n done story) first armed
     short-loading done =
-        loads-at lies left fills flies status.Memory start loading.trace story n done (short-leaves old_sees lies left fills flies old idle flown leaves start loading.trace story loading.serves)
+        loads-at devices flies status.Memory start loading.trace story n done (short-leaves old_stands_for devices flies old idle flown leaves start loading.trace story loading.serves)
         (front-lines n i (lines_asked loading.trace) loading.lines) (λ some. absurd (some refl)) first armed (stops-are status.Memory armed armed loading.arms (λ some. refl))
 
     -- all lines are done
-    pub all-loaded : length (load_lines n) ≤ i → (done : ℕ) → done ≡ length (load_lines n) → EndsLoading lies left fills flies start status.Done n done story first armed
+    pub all-loaded : length (load_lines n) ≤ i → (done : ℕ) → done ≡ length (load_lines n) → EndsLoading devices start (load_run status.Done flies n done story) first armed
     all-loaded past done all =
         let whole = take_all i (load_lines n) past in
         let here : lines_asked loading.trace ≡ map Tree (load_lines n) = loading.lines ∙ ap (map Tree) whole in
-        loads-at lies left fills flies status.Done start loading.trace story n done (done-leaves old_sees lies left fills flies old idle flown leaves start loading.trace story loading.serves)
+        loads-at devices flies status.Done start loading.trace story n done (done-leaves old_stands_for devices flies old idle flown leaves start loading.trace story loading.serves)
         here
         (λ some. ap length (here ∙ sym (ap (map Tree) (take_all (length (load_lines n)) (load_lines n) (omega arith)))) ∙ length-asked (load_lines n) (length (load_lines n)) (omega arith) ∙ sym all)
         first armed (stops-are status.Done armed armed loading.arms (λ some. refl))
@@ -187,24 +186,24 @@ module _ {E : Type 0} (old_sees : E → Option Event → State → Type 0) (star
     asked-here : (after : Trace) → lines_asked after ≡ lines_asked loading.trace ++ Tree line ∷ [] → lines_asked after ≡ map Tree (take (i + 1) (load_lines n))
     asked-here after lines = lines ∙ ap (λ ls. ls ++ Tree line ∷ []) loading.lines ∙ sym (asked-more n i line within is)
 
-    pub line-loaded : {F : Type 0} (sees : F → Option Event → State → Type 0) (new : F) (told : List Event) (armed_after : List (ℕ × ℕ)) → (g : Goes sees start loading.trace (Tree line) story new told) →
-        StaysArmed loading.trace g.after armed armed_after → IsLoading sees start n (i + 1) new told first armed_after
-    line-loaded sees new told armed_after g stays = record { trace = g.after; arms = stays first loading.arms; serves = g.serves; lines = asked-here g.after g.asks }
+    pub line-loaded : {F : Type 0} (stands_for : F → Option Event → State → Type 0) (new : F) (told : List Event) (armed_after : List (ℕ × ℕ)) → (g : Goes (stands_for new) start loading.trace (Tree line) story told) →
+        StaysArmed loading.trace g.after armed armed_after → IsLoading (stands_for new) start n (i + 1) told first armed_after
+    line-loaded stands_for new told armed_after g stays = record { trace = g.after; arms = stays first loading.arms; serves = g.serves; lines = asked-here g.after g.asks }
 
-    module _ (old_lies old_left : Point → Type 0) (old_fills : ToWrite → ℕ → Type 0) (old_flies : Option Flight) (halt : Halt) (mid told : List Event)
-        (b : Breaks old_lies old_left old_fills old_flies halt start loading.trace (Tree line) story mid) (armed_after : List (ℕ × ℕ)) where
-      pub loaded-behind : {F : Type 0} (sees : F → Option Event → State → Type 0) (new : F) → (halt ≡ Memory → ⊥) → (r : Reopens sees start b.after mid new told) → StaysArmed loading.trace r.after armed armed_after →
-          IsLoading sees start n (i + 1) new told first armed_after
-      loaded-behind sees new some r stays = record { trace = r.after; arms = stays first loading.arms; serves = r.serves; lines = r.lines ∙ by b.asks }
+    module _ (old_devices : OnDevices) (old_flies : Option Flight) (halt : Halt) (mid told : List Event)
+        (b : Breaks old_devices old_flies halt start loading.trace (Tree line) story mid) (armed_after : List (ℕ × ℕ)) where
+      pub loaded-behind : {F : Type 0} (stands_for : F → Option Event → State → Type 0) (new : F) → (halt ≡ Memory → ⊥) → (r : Reopens (stands_for new) start b.after mid told) → StaysArmed loading.trace r.after armed armed_after →
+          IsLoading (stands_for new) start n (i + 1) told first armed_after
+      loaded-behind stands_for new some r stays = record { trace = r.after; arms = stays first loading.arms; serves = r.serves; lines = r.lines ∙ by b.asks }
         where
           by : (lines_asked b.after ≡ lines_asked loading.trace ++ Tree line ∷ []) ⊎ ((halt ≡ Memory) × (b.after ≡ loading.trace)) → lines_asked b.after ≡ map Tree (take (i + 1) (load_lines n))
           by (inl more) = asked-here b.after more
           by (inr m) = absurd (some m.0)
 
-      pub ends-loading : (lies : ℕ → Point → Type 0) (left : Option Numbers → ℕ → Point → Type 0) (fills : ToWrite → ℕ → Type 0) (flies : Option Flight) (s : Stop) → IsLaterStop s → (x : EndsBehind lies left fills flies halt s start b.after mid told) →
-          EndsArmed (status_of s) loading.trace x.after armed armed_after → EndsLoading lies left fills flies start (status_of s) n (i + 1) told first armed_after
-      ends-loading lies left fills flies s later x stops =
-          loads-at lies left fills flies (status_of s) start x.after told n (i + 1) x.ends (lines-behind s later n (lines_asked x.after) (subst (λ ls. IsFrontOf ls (asked_by_load n)) (sym x.lines) (by b.asks)))
+      pub ends-loading : (devices : OnDevices) (flies : Option Flight) (s : Stop) → IsLaterStop s → (x : EndsBehind devices flies halt s start b.after mid told) →
+          EndsArmed (status_of s) loading.trace x.after armed armed_after → EndsLoading devices start (load_run (status_of s) flies n (i + 1) told) first armed_after
+      ends-loading devices flies s later x stops =
+          loads-at devices flies (status_of s) start x.after told n (i + 1) x.ends (lines-behind s later n (lines_asked x.after) (subst (λ ls. IsFrontOf ls (asked_by_load n)) (sym x.lines) (by b.asks)))
           (λ some. ap length x.lines ∙ many some b.asks) first armed_after (stops first loading.arms)
         where
           many : (status_of s ≡ status.Memory → ⊥) → (lines_asked b.after ≡ lines_asked loading.trace ++ Tree line ∷ []) ⊎ ((halt ≡ Memory) × (b.after ≡ loading.trace)) → length (lines_asked b.after) ≡ i + 1
@@ -221,21 +220,21 @@ take-none : (xs : List Line) → take 0 xs ≡ []
 take-none [] = refl
 take-none (x ∷ xs) = refl
 
-pub loading-begun : {E : Type 0} (sees : E → Option Event → State → Type 0) (n : ℕ) (start : Start) (trace : Trace) (e : E) (story told : List Event) (a b : View) → lines_asked trace ≡ [] →
-    CountsOpening a b None story told → Reopens sees start trace story e told → (first : List (ℕ × ℕ)) → armed_by_lines first trace ≡ Some a.armed → IsLoading sees start n 0 e told first b.armed
-loading-begun sees n start trace e story told a b unasked counts r first is =
+pub loading-begun : {E : Type 0} (stands_for : E → Option Event → State → Type 0) (n : ℕ) (start : Start) (trace : Trace) (e : E) (story told : List Event) (a b : View) → lines_asked trace ≡ [] →
+    CountsOpening a b None story told → Reopens (stands_for e) start trace story told → (first : List (ℕ × ℕ)) → armed_by_lines first trace ≡ Some a.armed → IsLoading (stands_for e) start n 0 told first b.armed
+loading-begun stands_for n start trace e story told a b unasked counts r first is =
     record { trace = r.after; arms = opening-stays a b story told counts trace r.after r.grows r.along.armed first is; serves = r.serves; lines = r.lines ∙ unasked ∙ sym (ap (map Tree) (take-none (load_lines n))) }
 
-pub not-begun : (lies : ℕ → Point → Type 0) (left : Option Numbers → ℕ → Point → Type 0) (fills : ToWrite → ℕ → Type 0) (flies : Option Flight) (n : ℕ) (start : Start) (trace : Trace) (story told : List Event) (a b : View) (e : Stop) → IsLaterStop e →
-    lines_asked trace ≡ [] → CountsOpening a b (answer_of (status_of e)) story told → EndsOpening lies left fills flies e start trace story told →
-    (first : List (ℕ × ℕ)) → armed_by_lines first trace ≡ Some a.armed → EndsLoading lies left fills flies start (status_of e) n 0 told first b.armed
-not-begun lies left fills flies n start trace story told a b e later unasked counts x first is =
+pub not-begun : (devices : OnDevices) (flies : Option Flight) (n : ℕ) (start : Start) (trace : Trace) (story told : List Event) (a b : View) (e : Stop) → IsLaterStop e →
+    lines_asked trace ≡ [] → CountsOpening a b (answer_of (status_of e)) story told → EndsOpening devices flies e start trace story told →
+    (first : List (ℕ × ℕ)) → armed_by_lines first trace ≡ Some a.armed → EndsLoading devices start (load_run (status_of e) flies n 0 told) first b.armed
+not-begun devices flies n start trace story told a b e later unasked counts x first is =
     let none = x.lines ∙ unasked in
-    loads-at lies left fills flies (status_of e) start x.after told n 0 x.ends (early-load-lines e (of-later e later) n (lines_asked x.after) none) (λ some. ap length none)
+    loads-at devices flies (status_of e) start x.after told n 0 x.ends (early-load-lines e (of-later e later) n (lines_asked x.after) none) (λ some. ap length none)
     first b.armed (opening-ends a b (status_of e) story told counts trace x.after x.grows x.along.armed first is)
 
 -- nothing was found
-pub unfound-loaded : (reason : OpenErr) (n : ℕ) (story : List Event) → IsUnfound story → (story ≡ []) ⊎ IsLater reason → (start : Start) → IsPlayedLoad start (status_of (stop_opening reason)) None n 0 story
+pub unfound-loaded : (reason : OpenErr) (n : ℕ) (story : List Event) → IsUnfound story → (story ≡ []) ⊎ IsLater reason → (start : Start) → IsPlayedLoad start (load_run (status_of (stop_opening reason)) None n 0 story)
 unfound-loaded reason n story u empty start =
     let e = stop_opening reason in
     let asked = often-asked start u.0 in

@@ -6,7 +6,7 @@ use Rattle.salt_io.specs.Streams.{IsAtEnd, Takes, bytes_before}
 use Rattle.salt_promise.specs.Doing.{AreFirstLines, IsFrontOf}
 use Rattle.salt_promise.specs.declared.status.Status.TheVariants.{Done, ReadFault, ScriptTooLong}
 use Rattle.salt_loop.specs.Run.{AreLinesOf}
-use Rattle.salt_loop.specs.Serving.{IsAt, IsAtLine, rest_of}
+use Rattle.salt_loop.specs.Serving.{IsAtPlace, IsAtLine, rest_of}
 use Rattle.salt_loop.specs.Stopping.{IsOfLine, status_of}
 use Rattle.salt_loop.specs.declared.stop.Stop.TheVariants as stop
 use Rattle.salt_loop.specs.declared.stop.Stop.{Stop}
@@ -85,12 +85,12 @@ module _ (reading reading_after : ScriptReading) (left : Option (List ℕ)) (aft
           let b = behind script at.given (rest_of reading left) at.whole in
           absurd (none-taken line.used (rest_of reading left) after b.0 b.1 (over-before reading left of ended) line.given line.some)
 
-  pub next-place : (script : Option (List ℕ)) → IsAt script reading (rest_of reading left) texts → IsAt script reading_after after (texts ++ text ∷ [])
+  pub next-place : (script : Option (List ℕ)) → IsAtPlace script reading (rest_of reading left) texts → IsAtPlace script reading_after after (texts ++ text ∷ [])
   next-place None at = tt
   next-place (Some script) at = next-line-place script at
 
 -- the script's end
-pub end-place : (script : Option (List ℕ)) (reading : ScriptReading) (rest left : Option (List ℕ)) (texts : List (List ℕ)) → IsAt script reading rest texts → IsAtEnd rest → reading.taken ≤ SCRIPT_MOST → AreLinesOf Done script left texts
+pub end-place : (script : Option (List ℕ)) (reading : ScriptReading) (rest left : Option (List ℕ)) (texts : List (List ℕ)) → IsAtPlace script reading rest texts → IsAtEnd rest → reading.taken ≤ SCRIPT_MOST → AreLinesOf Done script left texts
 end-place None reading rest left texts at end within = tt
 end-place (Some script) reading rest left texts at end within =
     let b = behind script at.given rest at.whole in
@@ -99,7 +99,7 @@ end-place (Some script) reading rest left texts at end within =
     (at.lines ∙ ap lines_of (sym all), omega (arith, ap length all, at.counted))
 
 -- a source that failed, which had not told its end
-pub fault-place : (script : Option (List ℕ)) (reading : ScriptReading) (before left : Option (List ℕ)) (texts : List (List ℕ)) → IsAt script reading before texts → reading.ended ≡ false
+pub fault-place : (script : Option (List ℕ)) (reading : ScriptReading) (before left : Option (List ℕ)) (texts : List (List ℕ)) → IsAtPlace script reading before texts → reading.ended ≡ false
     → TakesNoLine (SCRIPT_MOST - reading.taken) before left → reading.taken ≤ SCRIPT_MOST → AreLinesOf ReadFault script left texts
 fault-place None reading before left texts at unended cut within = tt
 fault-place (Some script) reading before left texts at unended cut within = record {
@@ -120,7 +120,7 @@ fault-place (Some script) reading before left texts at unended cut within = reco
         both a b = cc
 
 -- a script of too many bytes
-pub long-place : (script : Option (List ℕ)) (reading : ScriptReading) (before left : Option (List ℕ)) (texts : List (List ℕ)) → IsAt script reading before texts
+pub long-place : (script : Option (List ℕ)) (reading : ScriptReading) (before left : Option (List ℕ)) (texts : List (List ℕ)) → IsAtPlace script reading before texts
     → (reading.ended ≡ true → IsAtEnd before) → IsCutOff (SCRIPT_MOST - reading.taken) before → reading.taken ≤ SCRIPT_MOST → AreLinesOf ScriptTooLong script left texts
 long-place None reading before left texts at over cut within = tt
 long-place (Some script) reading before left texts at over cut within = by at.at_start
@@ -169,7 +169,7 @@ first-lines script reading rest texts at over within = record {
         ([], ap lines_of (b.2 ∙ ap (λ l. at.given ++ l) empty ∙ append-nil at.given) ∙ sym at.lines ∙ sym (append-nil texts))
 
 -- so where a run ends in a line
-pub first-place : (s : Stop) → IsOfLine s → (script : Option (List ℕ)) (reading : ScriptReading) (rest left : Option (List ℕ)) (texts : List (List ℕ)) → IsAt script reading rest texts
+pub first-place : (s : Stop) → IsOfLine s → (script : Option (List ℕ)) (reading : ScriptReading) (rest left : Option (List ℕ)) (texts : List (List ℕ)) → IsAtPlace script reading rest texts
     → (reading.ended ≡ true → IsAtEnd rest) → reading.taken ≤ SCRIPT_MOST → AreLinesOf (status_of s) script left texts
 first-place s of None reading rest left texts at over within = tt
 first-place stop.Memory of (Some script) reading rest left texts at over within = first-lines script reading rest texts at over within

@@ -14,15 +14,15 @@ use Rattle.salt_promise.specs.declared.status.Status.TheVariants as status
 use Rattle.salt_loop.proofs.Armed.{ends-unwritten, stops-are}
 use Rattle.salt_loop.proofs.Leaving.{leaves-unwritten}
 use Rattle.salt_loop.specs.Ending.{LeavesAt}
-use Rattle.salt_loop.specs.Serving.{Continues, EndsIn, EndsTelling, EndsWriting, GainsAtEnd, IsToldLine, added_text}
+use Rattle.salt_loop.specs.Serving.{Continues, EndsIn, EndsTelling, EndsWriting, GainsAtEnd, IsToldLine, added_text, line_behind, moment}
 use Rattle.salt_loop.specs.Stopping.{IsLaterStop, IsOfDevices, IsOfLine, is_memory, outcome, ran_short, status_of}
 use Rattle.salt_loop.specs.Telling.{StopsWriting}
 use Rattle.salt_loop.specs.declared.stop.Stop.TheVariants.{DeviceFull, DiskFault, Memory, NotSalt, NumbersSpent, OtherShape, ReadFault, ScriptTooLong, WriteFault}
 use Rattle.salt_loop.specs.declared.stop.Stop.{Stop}
 use Rattle.salt_driver.proofs.Segments.{serves-at, sound-at}
+use Rattle.salt_driver.specs.Devices.{OnDevices}
 use Rattle.salt_driver.specs.Serving.{Serves}
 use Rattle.salt_driver.specs.Standing.{IsSoundPoint}
-use Rattle.salt_storage.specs.Writing.{ToWrite}
 use Rattle.std.proofs.Common.{ap, inl, inr, subst, sym, ◌∙◌}
 use Rattle.salt_storage.specs.declared.found.Numbers.{Numbers}
 use Rattle.std.specs.Prelude.{Err, List, None, Ok, Option, Result, Some, drop, false, length, refl, true, ℕ, ◌≡◌, ◌⊎◌}
@@ -145,14 +145,14 @@ counts-written done (Err s) before held text P weak p w = by w.0
     by (inl is) = subst (λ d. P (outcome d)) is p
     by (inr w) = subst (λ x. P (status_of x)) (sym w.0) (short done w.1 p)
 
-module _ {E : Type 0} (sees : E → Option Event → State → Type 0) (lies : ℕ → Point → Type 0) (left : Option Numbers → ℕ → Point → Type 0) (fills : ToWrite → ℕ → Type 0) (flies : Option Flight) (new : E)
-    (schema : List TableDef) (serving : (p : Point) → IsSoundPoint p → sees new None p.state → schema ≡ schema_of p.state.units.kept)
-    (lying : (room : ℕ) (p : Point) → IsSoundPoint p → lies room p → schema ≡ schema_of p.state.units.kept) where
+module _ {E : Type 0} (stands_for : E → Option Event → State → Type 0) (devices : OnDevices) (flies : Option Flight) (new : E)
+    (schema : List TableDef) (serving : (p : Point) → IsSoundPoint p → stands_for new None p.state → schema ≡ schema_of p.state.units.kept)
+    (lying : (room : ℕ) (p : Point) → IsSoundPoint p → devices.can_reopen_at room p → schema ≡ schema_of p.state.units.kept) where
   -- the tables that the database knows are those defined at the end of its trace
-  pub tables-serving : (start : Start) (trace : Trace) (told : List Event) → Serves sees start new told trace → schema ≡ schema_of (kept trace)
-  tables-serving start trace told s = serving s.point (serves-at sees sees start new told trace s) s.stands.state ∙ sym (ap schema_of s.keeps.state.units.kept)
+  pub tables-serving : (start : Start) (trace : Trace) (told : List Event) → Serves (stands_for new) start told trace → schema ≡ schema_of (kept trace)
+  tables-serving start trace told s = serving s.point (serves-at stands_for stands_for start new told trace s) s.stands.state ∙ sym (ap schema_of s.keeps.state.units.kept)
 
-  pub tables-lying : (start : Start) (trace : Trace) (told : List Event) (now : Status) → LeavesAt lies left fills flies now start trace told → (now ≡ status.Memory → ⊥) →
+  pub tables-lying : (start : Start) (trace : Trace) (told : List Event) (now : Status) → LeavesAt devices flies now start trace told → (now ≡ status.Memory → ⊥) →
       schema ≡ schema_of (kept trace)
   tables-lying start trace told now x some =
       let p = x.ends.point in
@@ -162,11 +162,11 @@ module _ {E : Type 0} (sees : E → Option Event → State → Type 0) (lies : �
     text-is : (after : Trace) → schema ≡ schema_of (kept after) → story_text schema events ≡ added_text after story told
     text-is after same = ap (story_text schema) are ∙ ap (λ ts. story_text ts (drop (length story) told)) same
 
-    pub line-told : Continues sees start trace text story new told old_armed new_armed → Gains before (story_text schema events) held → IsToldLine sees start trace text story new told before held old_armed new_armed
+    pub line-told : Continues (stands_for new) (line_behind start trace text) (moment story old_armed) (moment told new_armed) → Gains before (story_text schema events) held → IsToldLine (stands_for new) (line_behind start trace text) (moment story old_armed) (moment told new_armed) before held
     line-told c g = record { goes = c; written = subst (λ t. Gains before t held) (text-is c.after (tables-serving start c.after told c.serves)) g }
 
-    pub line-ended : (s : Stop) → EndsIn lies left fills flies s start trace text story told old_armed new_armed → GainsAtEnd s before (story_text schema events) held →
-        EndsTelling lies left fills flies s start trace text story told before held old_armed new_armed
+    pub line-ended : (s : Stop) → EndsIn devices flies s (line_behind start trace text) (moment story old_armed) (moment told new_armed) → GainsAtEnd s before (story_text schema events) held →
+        EndsTelling devices flies s (line_behind start trace text) (moment story old_armed) (moment told new_armed) before held
     line-ended s x g = record {
       ends = x;
       written = gains-under s before held (story_text schema events) (added_text x.after story told)
@@ -174,18 +174,18 @@ module _ {E : Type 0} (sees : E → Option Event → State → Type 0) (lies : �
     }
 
     -- the sink failed behind a line that was done
-    pub line-unwritten : (c : Continues sees start trace text story new told old_armed new_armed) → LeavesAt lies left fills flies status.WriteFault start c.after told → GainsShort before (story_text schema events) held →
-        EndsTelling lies left fills flies WriteFault start trace text story told before held old_armed new_armed
+    pub line-unwritten : (c : Continues (stands_for new) (line_behind start trace text) (moment story old_armed) (moment told new_armed)) → LeavesAt devices flies status.WriteFault start c.after told → GainsShort before (story_text schema events) held →
+        EndsTelling devices flies WriteFault (line_behind start trace text) (moment story old_armed) (moment told new_armed) before held
     line-unwritten c x g = record {
       ends = record { after = c.after; asks = inl c.asks; ends = x; grows = c.grows; armed = λ first is. stops-are status.WriteFault new_armed new_armed (c.armed first is) (λ some. refl) };
       written = subst (λ t. GainsShort before t held) (text-is c.after (tables-serving start c.after told c.serves)) g;
     }
 
     -- or behind one in which the run ends
-    pub end-unwritten : ((numbers : Numbers) (room : ℕ) (p : Point) → left (Some numbers) room p → left None room p) → (s : Stop) → IsLaterStop s → (s ≡ Memory → ⊥) → EndsIn lies left fills flies s start trace text story told old_armed new_armed → GainsShort before (story_text schema events) held →
-        EndsTelling lies left fills flies WriteFault start trace text story told before held old_armed new_armed
+    pub end-unwritten : ((numbers : Numbers) (room : ℕ) (p : Point) → devices.stands_for_kept (Some numbers) room p → devices.stands_for_kept None room p) → (s : Stop) → IsLaterStop s → (s ≡ Memory → ⊥) → EndsIn devices flies s (line_behind start trace text) (moment story old_armed) (moment told new_armed) → GainsShort before (story_text schema events) held →
+        EndsTelling devices flies WriteFault (line_behind start trace text) (moment story old_armed) (moment told new_armed) before held
     end-unwritten forgets s later some x g = record {
-      ends = record { after = x.after; asks = by x.asks; ends = leaves-unwritten lies left fills flies forgets start x.after told s later some x.ends; grows = x.grows; armed = λ first is. ends-unwritten (status_of s) (λ m. some (memory-status s m)) (x.armed first is) };
+      ends = record { after = x.after; asks = by x.asks; ends = leaves-unwritten devices flies forgets start x.after told s later some x.ends; grows = x.grows; armed = λ first is. ends-unwritten (status_of s) (λ m. some (memory-status s m)) (x.armed first is) };
       written = subst (λ t. GainsShort before t held) (text-is x.after (tables-lying start x.after told (status_of s) x.ends (λ m. some (memory-status s m)))) g;
     }
       where

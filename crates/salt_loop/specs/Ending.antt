@@ -13,16 +13,16 @@ use Rattle.salt_promise.specs.Counting.{Stops}
 use Rattle.salt_promise.specs.Status.{ends_between}
 use Rattle.salt_promise.specs.declared.status.Status.{Status}
 use Rattle.salt_promise.specs.declared.status.Status.TheVariants.{Broken, DeviceFull, Memory, NotSalt, NumbersSpent, OtherShape, TranscriptTooLong, Unread, Usage, WriteFault}
-use Rattle.salt_loop.specs.Run.{IsFlightAt, IsRun, leave_of}
+use Rattle.salt_loop.specs.Run.{IsFlightAt, IsRun, ScriptRun, leave_of}
 use Rattle.salt_loop.specs.Stopping.{numbers_told, status_of, status_opening}
 use Rattle.salt_loop.specs.declared.stop.Stop.{Stop}
+use Rattle.salt_driver.specs.Devices.{OnDevices}
 use Rattle.salt_driver.specs.Opening.{AreSpentAt}
 use Rattle.salt_driver.specs.Along.{GoesAlong}
 use Rattle.salt_driver.specs.Serving.{GainsEvents, IsFitting, Serves}
 use Rattle.salt_driver.specs.Writing.{IsWrittenAt}
 use Rattle.salt_storage.specs.Writing.{OfBoot, ToWrite}
 use Rattle.salt_storage.specs.OpenErr.{OpenErr}
-use Rattle.salt_storage.specs.declared.found.Numbers.{Numbers}
 use Rattle.std.specs.Prelude.{List, Option, if◌then◌else◌, true, ℕ, ◌+◌, ◌≡◌, ◌≤◌, ◌⊎◌, ⊤}
 
 -- what may be written at a point: the decision that comes next, or, of a run that is down, the next boot
@@ -43,41 +43,38 @@ MayEndAt room p status = ⊤
 -- A run ends behind its trace: whatever a stop leaves of its devices stands for what is kept there, or for that with the flight, with
 -- no more boots than openings that failed, and with the numbers that the status tells; and unless memory ran out it can be opened there.
 -- Where a device was full, what was to be written there would not fit.
-pub record EndsFound (lies : ℕ → Point → Type 0) (left : Option Numbers → ℕ → Point → Type 0) (fills : ToWrite → ℕ → Type 0) (status : Status) (trace : Trace) : Type 0 where
+pub record EndsFound (devices : OnDevices) (status : Status) (trace : Trace) : Type 0 where
   pub room : ℕ
   pub point : Point
   pub keeps : KeepsPoint point trace
   pub boots : room ≤ downs trace + (if has_opened trace then 0 else 1)
   pub may : MayEndAt room point status
-  pub again : (status ≡ Memory → ⊥) → lies room point
-  pub stands : left (numbers_told status) room point
-  pub full : (dev : ℕ) → status ≡ DeviceFull dev → (w : ToWrite) × MayBeWritten point w × fills w dev
+  pub again : (status ≡ Memory → ⊥) → devices.can_reopen_at room point
+  pub stands : devices.stands_for_kept (numbers_told status) room point
+  pub full : (dev : ℕ) → status ≡ DeviceFull dev → (w : ToWrite) × MayBeWritten point w × devices.fills_device w dev
 
 -- between two lines a database serves there still
-abbrev pub ServesBetween : {E : Type 0} → (E → Option Event → State → Type 0) → Start → Status → E → List Event → Trace → Type 0
-ServesBetween sees start status e story trace = ends_between status ≡ true → Serves sees start e story trace
+abbrev pub ServesBetween : (Option Event → State → Type 0) → Start → Status → List Event → Trace → Type 0
+ServesBetween stands_for start status story trace = ends_between status ≡ true → Serves stands_for start story trace
 
 -- so ends the run of a script from this start, where these were armed first, and last
-abbrev pub EndsServing : {E : Type 0} → (sees : E → Option Event → State → Type 0) → (lies : ℕ → Point → Type 0) (left : Option Numbers → ℕ → Point → Type 0) → (ToWrite → ℕ → Type 0) → Option Flight → Start → Status → (script rest before : Option (List ℕ)) → E → List Event → Option (List ℕ) → (first armed : List (ℕ × ℕ)) → Type 0
-EndsServing sees lies left fills flight start status script rest before e story held first armed =
-    (run : IsRun start status flight script rest before story held) × EndsFound lies left fills status run.played.trace × Stops status (armed_by_lines first run.played.trace) armed ×
-    ServesBetween sees start status e story run.played.trace
+abbrev pub EndsServing : (Option Event → State → Type 0) → OnDevices → Start → ScriptRun → (first armed : List (ℕ × ℕ)) → Type 0
+EndsServing stands_for devices start r first armed =
+    (run : IsRun start r) × EndsFound devices r.status run.played.trace × Stops r.status (armed_by_lines first run.played.trace) armed × ServesBetween stands_for start r.status r.story run.played.trace
 
 -- the trace of a run that ends so, and where it ends
-pub record LeavesAt (lies : ℕ → Point → Type 0) (left : Option Numbers → ℕ → Point → Type 0) (fills : ToWrite → ℕ → Type 0) (flight : Option Flight) (status : Status) (start : Start)
-    (trace : Trace) (story : List Event) : Type 0 where
+pub record LeavesAt (devices : OnDevices) (flight : Option Flight) (status : Status) (start : Start) (trace : Trace) (story : List Event) : Type 0 where
   pub tells : Tells start trace story
   pub fits : IsFitting start trace
   pub leaves : MayLeave (leave_of status) trace
   pub flies : IsFlightAt status trace flight
-  pub ends : EndsFound lies left fills status trace
+  pub ends : EndsFound devices status trace
 
 -- an opening of a run that was down ends early, and with it the run
-pub record EndsOpening (lies : ℕ → Point → Type 0) (left : Option Numbers → ℕ → Point → Type 0) (fills : ToWrite → ℕ → Type 0) (flight : Option Flight) (stop : Stop) (start : Start) (trace : Trace)
-    (story told : List Event) : Type 0 where
+pub record EndsOpening (devices : OnDevices) (flight : Option Flight) (stop : Stop) (start : Start) (trace : Trace) (story told : List Event) : Type 0 where
   pub after : Trace
   pub lines : lines_asked after ≡ lines_asked trace
-  pub ends : LeavesAt lies left fills flight (status_of stop) start after told
+  pub ends : LeavesAt devices flight (status_of stop) start after told
   pub grows : GainsEvents story told
   pub along : GoesAlong trace after grows.0
 

@@ -1,5 +1,4 @@
 -- What the run of a workload has to be: its story, and how far it came.
-use Rattle.law_states.specs.Points.{Point}
 use Rattle.law_states.specs.States.{State}
 use Rattle.salt_promise.specs.Workload.{load_lines}
 use Rattle.salt_model.specs.Arming.{armed_by_lines}
@@ -16,9 +15,8 @@ use Rattle.salt_promise.specs.declared.status.Status.TheVariants.{Broken, Device
 use Rattle.salt_loop.specs.Ending.{EndsFound}
 use Rattle.salt_loop.specs.Run.{IsFlightAt, leave_of}
 use Rattle.salt_stands.specs.Unspent.{OpensUnspent}
+use Rattle.salt_driver.specs.Devices.{OnDevices}
 use Rattle.salt_driver.specs.Serving.{Serves}
-use Rattle.salt_storage.specs.Writing.{ToWrite}
-use Rattle.salt_storage.specs.declared.found.Numbers.{Numbers}
 use Rattle.std.specs.Prelude.{List, Option, Some, length, map, take, ℕ, [], ◌≡◌}
 
 -- what the lines of the workload with so many calls ask
@@ -43,25 +41,36 @@ AreLoadLines TranscriptTooLong calls lines = ⊥
 AreLoadLines ReadFault calls lines = ⊥
 AreLoadLines ScriptTooLong calls lines = ⊥
 
+-- a workload that was run: what is answered, what is told to be in flight, how many calls were asked for and lines done, and the story
+pub record LoadRun : Type 0 where
+  pub status : Status
+  pub flight : Option Flight
+  pub calls : ℕ
+  pub done : ℕ
+  pub story : List Event
+
+abbrev pub load_run : Status → Option Flight → (calls done : ℕ) → List Event → LoadRun
+load_run status flight calls done story = record { status = status; flight = flight; calls = calls; done = done; story = story }
+
 -- The story is that of a trace which is played from this start, and whose lines are the workload's. Unless memory ran out, there are so
 -- many of them. No opening goes on from spent numbers.
-pub record IsPlayedLoad (start : Start) (status : Status) (told : Option Flight) (calls done : ℕ) (story : List Event) : Type 0 where
+pub record IsPlayedLoad (start : Start) (r : LoadRun) : Type 0 where
   pub trace : Trace
-  pub tells : Tells start trace story
-  pub lines : AreLoadLines status calls (lines_asked trace)
-  pub count : (status ≡ Memory → ⊥) → length (lines_asked trace) ≡ done
-  pub leaves : MayLeave (leave_of status) trace
-  pub flies : IsFlightAt status trace told
+  pub tells : Tells start trace r.story
+  pub lines : AreLoadLines r.status r.calls (lines_asked trace)
+  pub count : (r.status ≡ Memory → ⊥) → length (lines_asked trace) ≡ r.done
+  pub leaves : MayLeave (leave_of r.status) trace
+  pub flies : IsFlightAt r.status trace r.flight
   pub unspent : Each OpensUnspent trace
 
--- so ends the run of a workload from this start
-abbrev pub EndsLoading : (lies : ℕ → Point → Type 0) (left : Option Numbers → ℕ → Point → Type 0) → (ToWrite → ℕ → Type 0) → Option Flight → Start → Status → (calls done : ℕ) → List Event → (first armed : List (ℕ × ℕ)) → Type 0
-EndsLoading lies left fills flight start status calls done story first armed =
-    (run : IsPlayedLoad start status flight calls done story) × EndsFound lies left fills status run.trace × Stops status (armed_by_lines first run.trace) armed
+-- so ends the run of a workload from this start, where these were armed first, and last
+abbrev pub EndsLoading : OnDevices → Start → LoadRun → (first armed : List (ℕ × ℕ)) → Type 0
+EndsLoading devices start r first armed =
+    (run : IsPlayedLoad start r) × EndsFound devices r.status run.trace × Stops r.status (armed_by_lines first run.trace) armed
 
 -- a run of the workload of which so many lines are done
-pub record IsLoading {E : Type 0} (sees : E → Option Event → State → Type 0) (start : Start) (calls done : ℕ) (e : E) (story : List Event) (first armed : List (ℕ × ℕ)) : Type 0 where
+pub record IsLoading (stands_for : Option Event → State → Type 0) (start : Start) (calls done : ℕ) (story : List Event) (first armed : List (ℕ × ℕ)) : Type 0 where
   pub trace : Trace
   pub arms : armed_by_lines first trace ≡ Some armed
-  pub serves : Serves sees start e story trace
+  pub serves : Serves stands_for start story trace
   pub lines : lines_asked trace ≡ map Tree (take done (load_lines calls))

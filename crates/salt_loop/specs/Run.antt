@@ -59,8 +59,27 @@ IsWritten status before first text now = promise.IsWritten (way_of status).text 
 abbrev pub IsTold : Status → Option (List ℕ) → Trace → Option (List ℕ) → Type 0
 IsTold status before trace now = IsWritten status before (text_under trace (story_before_line trace)) (text_under trace (story_of trace)) now
 
+-- the bytes that a source tells, at first and at last, and those that a sink held and holds
+pub record Streams : Type 0 where
+  pub script : Option (List ℕ)
+  pub left : Option (List ℕ)
+  pub before : Option (List ℕ)
+  pub now : Option (List ℕ)
+
+abbrev pub streams : (script left before now : Option (List ℕ)) → Streams
+streams script left before now = record { script = script; left = left; before = before; now = now }
+
+-- a script that was served: what is answered, what is told to be in flight, what was read and written, and the story
+pub record ScriptRun : Type 0 where
+  pub status : Status
+  pub flight : Option Flight
+  pub streams : Streams
+  pub story : List Event
+
+abbrev pub script_run : Status → Option Flight → Streams → List Event → ScriptRun
+script_run status flight s story = record { status = status; flight = flight; streams = s; story = story }
+
 -- a run from this start, and what it wrote
-pub record IsRun (start : Start) (status : Status) (flight : Option Flight) (script left before : Option (List ℕ)) (story : List Event)
-    (held : Option (List ℕ)) : Type 0 where
-  pub played : IsPlayedRun start status flight script left story
-  pub told : IsTold status before played.trace held
+pub record IsRun (start : Start) (r : ScriptRun) : Type 0 where
+  pub played : IsPlayedRun start r.status r.flight r.streams.script r.streams.left r.story
+  pub told : IsTold r.status r.streams.before played.trace r.streams.now

@@ -5,7 +5,6 @@ use Rattle.salt_io.specs.Lines.{IsReadingOf, ScriptReading, lines_of, script_of}
 use Rattle.salt_io.specs.Streams.{Gains, GainsShort, IsAtEnd, bytes_before}
 use Rattle.salt_io.specs.declared.lines.Next.TheVariants.{TooLong}
 use Rattle.salt_io.specs.declared.lines.Next.{Next}
-use Rattle.law_states.specs.Points.{Point}
 use Rattle.law_states.specs.States.{State}
 use Rattle.salt_model.specs.Arming.{armed_by_lines}
 use Rattle.salt_model.specs.Lines.{AskInOrder, Asks}
@@ -16,21 +15,20 @@ use Rattle.salt_model.specs.declared.events.Event.{Event}
 use Rattle.salt_model.specs.declared.events.Flight.{Flight}
 use Rattle.salt_model.specs.declared.events.Refusal.TheVariants.{Long}
 use Rattle.salt_promise.specs.Doing.{text_under}
-use Rattle.salt_promise.specs.declared.status.Status.TheVariants as status
 use Rattle.salt_loop.specs.Armed.{EndsArmed, HaltsArmed, StaysArmed}
 use Rattle.salt_loop.specs.Ending.{EndsServing, LeavesAt}
+use Rattle.salt_loop.specs.Run.{ScriptRun, Streams}
 use Rattle.salt_loop.specs.Stopping.{status_of}
 use Rattle.salt_loop.specs.declared.stop.Stop.TheVariants.{Memory, WriteFault}
 use Rattle.salt_loop.specs.declared.stop.Stop.{Stop}
 use Rattle.law_decisions.specs.Spelled.{IsSpelledLine}
 use Rattle.salt_driver.specs.Along.{GoesAlong}
+use Rattle.salt_driver.specs.Devices.{OnDevices}
 use Rattle.salt_driver.specs.Serving.{GainsEvents, Halts, IsDown, Serves}
 use Rattle.salt_storage.specs.Answers.{disk_err_of}
-use Rattle.salt_storage.specs.Writing.{ToWrite}
 use Rattle.salt_storage.specs.declared.halt.Halt.TheVariants as halting
 use Rattle.salt_storage.specs.declared.halt.Halt.{Halt}
 use Rattle.salt_values.specs.declared.limits.TheConstants.{PICK_MOST, SCRIPT_MOST}
-use Rattle.salt_storage.specs.declared.found.Numbers.{Numbers}
 use Rattle.std.specs.Prelude.{Bool, Err, List, None, Ok, Option, Result, Some, [], drop, false, length, true, ℕ, ⊤, ◌++◌, ◌∷◌, ◌≡◌, ◌≤◌, ◌⊎◌}
 
 -- The texts are the lines of the bytes that were given of a script, and the rest of it begins a line, or the source has told its end.
@@ -42,25 +40,25 @@ pub record IsAtLine (script : List ℕ) (reading : ScriptReading) (rest : Option
   pub at_start : ((script_of given).rest ≡ []) ⊎ (reading.ended ≡ true)
 
 -- where the source tells its bytes
-abbrev pub IsAt : Option (List ℕ) → ScriptReading → Option (List ℕ) → List (List ℕ) → Type 0
-IsAt None reading rest texts = ⊤
-IsAt (Some script) reading rest texts = IsAtLine script reading rest texts
+abbrev pub IsAtPlace : Option (List ℕ) → ScriptReading → Option (List ℕ) → List (List ℕ) → Type 0
+IsAtPlace None reading rest texts = ⊤
+IsAtPlace (Some script) reading rest texts = IsAtLine script reading rest texts
 
 -- the bytes that a reader has taken and not given, and those that its source has left
 abbrev pub rest_of : ScriptReading → Option (List ℕ) → Option (List ℕ)
 rest_of reading left = bytes_before reading.kept left
 
 -- a run between its lines, from this start: of a script, over a sink that held these bytes
-pub record IsServing {E : Type 0} (sees : E → Option Event → State → Type 0) (start : Start) (script before : Option (List ℕ)) (e : E)
-    (reading : ScriptReading) (left : Option (List ℕ)) (story : List Event) (held : Option (List ℕ)) (first armed : List (ℕ × ℕ)) : Type 0 where
+pub record IsServing (stands_for : Option Event → State → Type 0) (start : Start) (s : Streams) (reading : ScriptReading) (story : List Event)
+    (first armed : List (ℕ × ℕ)) : Type 0 where
   pub trace : Trace
   pub arms : armed_by_lines first trace ≡ Some armed
   pub texts : List (List ℕ)
-  pub serves : Serves sees start e story trace
+  pub serves : Serves stands_for start story trace
   pub reads : AskInOrder texts (trace_words.lines_asked trace)
-  pub of : IsReadingOf reading left
-  pub place : IsAt script reading (rest_of reading left) texts
-  pub written : Gains before (text_under trace story) held
+  pub of : IsReadingOf reading s.left
+  pub place : IsAtPlace s.script reading (rest_of reading s.left) texts
+  pub written : Gains s.before (text_under trace story) s.now
   pub within : reading.taken ≤ SCRIPT_MOST
 
 -- a line's text asks; one that is too long has none here, and is told so
@@ -82,42 +80,55 @@ IsAskable line = IsSpelledLine line
 abbrev pub AsksMore : Option (List ℕ) → Trace → Trace → Type 0
 AsksMore text trace after = (asked : Asked) × TextAsks text asked × (trace_words.lines_asked after ≡ trace_words.lines_asked trace ++ asked ∷ [])
 
+-- a line that is asked behind a trace, by its text
+pub record LineBehind : Type 0 where
+  pub start : Start
+  pub trace : Trace
+  pub text : Option (List ℕ)
+
+abbrev pub line_behind : Start → Trace → Option (List ℕ) → LineBehind
+line_behind start trace text = record { start = start; trace = trace; text = text }
+
+-- what was told until then, and which stops are armed
+pub record Moment : Type 0 where
+  pub story : List Event
+  pub armed : List (ℕ × ℕ)
+
+abbrev pub moment : List Event → List (ℕ × ℕ) → Moment
+moment story armed = record { story = story; armed = armed }
+
 -- A line was done: the trace goes on by its segment, or by a front of that, a fall and the opening behind it.
-pub record Continues {E : Type 0} (sees : E → Option Event → State → Type 0) (start : Start) (trace : Trace) (text : Option (List ℕ)) (story : List Event)
-    (e : E) (told : List Event) (old new : List (ℕ × ℕ)) : Type 0 where
+pub record Continues (stands_for : Option Event → State → Type 0) (line : LineBehind) (old new : Moment) : Type 0 where
   pub after : Trace
-  pub asks : AsksMore text trace after
-  pub serves : Serves sees start e told after
-  pub grows : GainsEvents story told
-  pub armed : StaysArmed trace after old new
+  pub asks : AsksMore line.text line.trace after
+  pub serves : Serves stands_for line.start new.story after
+  pub grows : GainsEvents old.story new.story
+  pub armed : StaysArmed line.trace after old.armed new.armed
 
 -- It is broken off in a line, or, for want of memory, before that was asked.
-pub record BreaksIn (lies left : Point → Type 0) (fills : ToWrite → ℕ → Type 0) (flight : Option Flight) (halt : Halt) (start : Start) (trace : Trace)
-    (text : Option (List ℕ)) (story told : List Event) (old new : List (ℕ × ℕ)) : Type 0 where
+pub record BreaksIn (devices : OnDevices) (flight : Option Flight) (halt : Halt) (line : LineBehind) (old new : Moment) : Type 0 where
   pub after : Trace
-  pub asks : AsksMore text trace after ⊎ ((halt ≡ halting.Memory) × (after ≡ trace))
-  pub halts : Halts lies left fills flight halt start told after
-  pub grows : GainsEvents story told
-  pub armed : HaltsArmed (disk_err_of halt) trace after old new
+  pub asks : AsksMore line.text line.trace after ⊎ ((halt ≡ halting.Memory) × (after ≡ line.trace))
+  pub halts : Halts devices flight halt line.start new.story after
+  pub grows : GainsEvents old.story new.story
+  pub armed : HaltsArmed (disk_err_of halt) line.trace after old.armed new.armed
 
 -- a run that was broken off so ends, within the opening behind that or before it; for want of memory it goes no further
-pub record EndsBehind (lies : ℕ → Point → Type 0) (left : Option Numbers → ℕ → Point → Type 0) (fills : ToWrite → ℕ → Type 0) (flight : Option Flight) (halt : Halt) (stop : Stop) (start : Start)
-    (trace : Trace) (story told : List Event) : Type 0 where
+pub record EndsBehind (devices : OnDevices) (flight : Option Flight) (halt : Halt) (stop : Stop) (start : Start) (trace : Trace) (story told : List Event) : Type 0 where
   pub after : Trace
   pub lines : trace_words.lines_asked after ≡ trace_words.lines_asked trace
   pub short : halt ≡ halting.Memory → (stop ≡ Memory) × (after ≡ trace)
-  pub ends : LeavesAt lies left fills flight (status_of stop) start after told
+  pub ends : LeavesAt devices flight (status_of stop) start after told
   pub grows : GainsEvents story told
   pub along : GoesAlong trace after grows.0
 
 -- so a run ends in a line, or, for want of memory, before that was asked
-pub record EndsIn (lies : ℕ → Point → Type 0) (left : Option Numbers → ℕ → Point → Type 0) (fills : ToWrite → ℕ → Type 0) (flight : Option Flight) (stop : Stop) (start : Start) (trace : Trace)
-    (text : Option (List ℕ)) (story told : List Event) (old new : List (ℕ × ℕ)) : Type 0 where
+pub record EndsIn (devices : OnDevices) (flight : Option Flight) (stop : Stop) (line : LineBehind) (old new : Moment) : Type 0 where
   pub after : Trace
-  pub asks : AsksMore text trace after ⊎ ((stop ≡ Memory) × (after ≡ trace))
-  pub ends : LeavesAt lies left fills flight (status_of stop) start after told
-  pub grows : GainsEvents story told
-  pub armed : EndsArmed (status_of stop) trace after old new
+  pub asks : AsksMore line.text line.trace after ⊎ ((stop ≡ Memory) × (after ≡ line.trace))
+  pub ends : LeavesAt devices flight (status_of stop) line.start after new.story
+  pub grows : GainsEvents old.story new.story
+  pub armed : EndsArmed (status_of stop) line.trace after old.armed new.armed
 
 -- the text of what a line has added, under the tables that are defined at the trace's end
 abbrev pub added_text : Trace → (story told : List Event) → List ℕ
@@ -136,33 +147,29 @@ EndsWriting done text before held (Err stop) =
     ((done ≡ Err stop) ⊎ ((stop ≡ WriteFault) × (done ≡ Err Memory → ⊥))) × GainsAtEnd stop before text held
 
 -- a line was done, and is told
-pub record IsToldLine {E : Type 0} (sees : E → Option Event → State → Type 0) (start : Start) (trace : Trace) (text : Option (List ℕ)) (story : List Event)
-    (e : E) (told : List Event) (before held : Option (List ℕ)) (old new : List (ℕ × ℕ)) : Type 0 where
-  pub goes : Continues sees start trace text story e told old new
-  pub written : Gains before (added_text goes.after story told) held
+pub record IsToldLine (stands_for : Option Event → State → Type 0) (line : LineBehind) (old new : Moment) (before held : Option (List ℕ)) : Type 0 where
+  pub goes : Continues stands_for line old new
+  pub written : Gains before (added_text goes.after old.story new.story) held
 
 -- or a run ends in it
-pub record EndsTelling (lies : ℕ → Point → Type 0) (left : Option Numbers → ℕ → Point → Type 0) (fills : ToWrite → ℕ → Type 0) (flight : Option Flight) (stop : Stop) (start : Start) (trace : Trace)
-    (text : Option (List ℕ)) (story told : List Event) (before held : Option (List ℕ)) (old new : List (ℕ × ℕ)) : Type 0 where
-  pub ends : EndsIn lies left fills flight stop start trace text story told old new
-  pub written : GainsAtEnd stop before (added_text ends.after story told) held
+pub record EndsTelling (devices : OnDevices) (flight : Option Flight) (stop : Stop) (line : LineBehind) (old new : Moment) (before held : Option (List ℕ)) : Type 0 where
+  pub ends : EndsIn devices flight stop line old new
+  pub written : GainsAtEnd stop before (added_text ends.after old.story new.story) held
 
 -- a run is down, and was asked nothing yet
-pub record IsToBegin (lies : ℕ → Point → Type 0) (flight : Option Flight) (start : Start) (story : List Event) (trace : Trace) : Type 0 where
-  pub down : IsDown lies flight start story trace
+pub record IsToBegin (devices : OnDevices) (flight : Option Flight) (start : Start) (story : List Event) (trace : Trace) : Type 0 where
+  pub down : IsDown devices flight start story trace
   pub unasked : trace_words.lines_asked trace ≡ []
 
 -- it has begun, and its opening is told
-pub record IsBegun {E : Type 0} (sees : E → Option Event → State → Type 0) (start : Start) (e : E) (story : List Event) (before held : Option (List ℕ)) (first armed : List (ℕ × ℕ)) : Type 0 where
+pub record IsBegun (stands_for : Option Event → State → Type 0) (start : Start) (story : List Event) (before held : Option (List ℕ)) (first armed : List (ℕ × ℕ)) : Type 0 where
   pub trace : Trace
   pub arms : armed_by_lines first trace ≡ Some armed
   pub lines : trace_words.lines_asked trace ≡ []
-  pub serves : Serves sees start e story trace
+  pub serves : Serves stands_for start story trace
   pub written : Gains before (text_under trace story) held
 
 -- after a line: the run goes on, or the script was at its end
-abbrev pub IsAfterLine : {E : Type 0} → Bool → (E → Option Event → State → Type 0) → (lies : ℕ → Point → Type 0) (left : Option Numbers → ℕ → Point → Type 0) → (ToWrite → ℕ → Type 0) → Option Flight →
-    Start → (script before : Option (List ℕ)) → E → ScriptReading → Option (List ℕ) → List Event → Option (List ℕ) → (first armed : List (ℕ × ℕ)) → Type 0
-IsAfterLine true sees lies left fills flight start script before e reading rest story held first armed = IsServing sees start script before e reading rest story held first armed
-IsAfterLine false sees lies left fills flight start script before e reading rest story held first armed =
-    EndsServing sees lies left fills flight start status.Done script rest before e story held first armed × IsAtEnd rest
+abbrev pub IsAfterLine : Bool → (Option Event → State → Type 0) → OnDevices → Start → ScriptRun → ScriptReading → (first armed : List (ℕ × ℕ)) → Type 0
+IsAfterLine true stands_for devices start r reading first armed = IsServing stands_for start r.streams reading r.story first armed
+IsAfterLine false stands_for devices start r reading first armed = EndsServing stands_for devices start r first armed × IsAtEnd r.streams.left

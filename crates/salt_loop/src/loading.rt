@@ -6,7 +6,7 @@ ghost use Rattle.salt_values.specs.declared.limits.TheConstants.{CALLS_MOST};
 ghost use Rattle.salt_model.specs.Arming.{armed_by_lines};
 ghost use Rattle.salt_model.specs.Trace.{Start, Trace};
 ghost use Rattle.salt_loop.specs.Counted.{CountsAdded};
-ghost use Rattle.salt_loop.specs.Loading.{EndsLoading, IsLoading};
+ghost use Rattle.salt_loop.specs.Loading.{EndsLoading, IsLoading, load_run};
 ghost use Rattle.salt_loop.specs.Serving.{IsAskable, IsToBegin};
 ghost use Rattle.salt_loop.specs.Stopping.{IsLaterStop, outcome, status_of};
 ghost use Rattle.salt_storage.specs.Staying.{StaysWithin};
@@ -48,12 +48,11 @@ fn load_one<E: Openable, D: Disks, F: Fn(PlaceKind, &Key, u32) -> u32>(
     requires within { i < length (load_lines calls) }
     requires is { Some line.now ≡ slice_get (load_lines calls) i }
     requires serves { (line : Line) → IsAskable line → E.serves line }
-    requires stands { (start : Start) × (first : List (ℕ × ℕ)) × IsLoading (E.sees (D.view disks.old)) start calls i database.old story.old first (D.view disks.old).armed }
-    ensures ok { OnOk result ((start : Start) (first : List (ℕ × ℕ)) → IsLoading (E.sees (D.view disks.old)) start calls i database.old story.old first (D.view disks.old).armed →
-        IsLoading (E.sees (D.view disks.new)) start calls (i + 1) database.new story.new first (D.view disks.new).armed) }
-    ensures err { IfErr result (λ stop. (start : Start) (first : List (ℕ × ℕ)) → IsLoading (E.sees (D.view disks.old)) start calls i database.old story.old first (D.view disks.old).armed →
-        EndsLoading (E.lies (D.view disks.new) database.new) (E.left (D.view disks.new) database.new) (E.fills (D.view disks.new) database.new) (E.flight database.new) start
-        (status_of stop) calls (i + 1) story.new first (D.view disks.new).armed) }
+    requires stands { (start : Start) × (first : List (ℕ × ℕ)) × IsLoading (E.stands_for (D.view disks.old) database.old) start calls i story.old first (D.view disks.old).armed }
+    ensures ok { OnOk result ((start : Start) (first : List (ℕ × ℕ)) → IsLoading (E.stands_for (D.view disks.old) database.old) start calls i story.old first (D.view disks.old).armed →
+        IsLoading (E.stands_for (D.view disks.new) database.new) start calls (i + 1) story.new first (D.view disks.new).armed) }
+    ensures err { IfErr result (λ stop. (start : Start) (first : List (ℕ × ℕ)) → IsLoading (E.stands_for (D.view disks.old) database.old) start calls i story.old first (D.view disks.old).armed →
+        EndsLoading (E.on_devices (D.view disks.new) database.new) start (load_run (status_of stop) (E.flight database.new) calls (i + 1) story.new) first (D.view disks.new).armed) }
     ensures later { IfErr result IsLaterStop }
     ensures within { StaysWithin (E.asked database.old) (E.asked database.new) (D.view disks.old) (D.view disks.new) }
     ensures counts { CountsAdded (D.view disks.old) (D.view disks.new) (outcome result) story.old story.new }
@@ -82,12 +81,11 @@ fn serve_load_line<E: Openable, D: Disks, F: Fn(PlaceKind, &Key, u32) -> u32>(
     requires most { calls ≤ CALLS_MOST }
     requires within { i < length (load_lines calls) }
     requires serves { (line : Line) → IsAskable line → E.serves line }
-    requires stands { (start : Start) × (first : List (ℕ × ℕ)) × IsLoading (E.sees (D.view disks.old)) start calls i database.old story.old first (D.view disks.old).armed }
-    ensures ok { OnOk result ((start : Start) (first : List (ℕ × ℕ)) → IsLoading (E.sees (D.view disks.old)) start calls i database.old story.old first (D.view disks.old).armed →
-        IsLoading (E.sees (D.view disks.new)) start calls (i + 1) database.new story.new first (D.view disks.new).armed) }
-    ensures err { IfErr result (λ stop. (start : Start) (first : List (ℕ × ℕ)) → IsLoading (E.sees (D.view disks.old)) start calls i database.old story.old first (D.view disks.old).armed →
-        EndsLoading (E.lies (D.view disks.new) database.new) (E.left (D.view disks.new) database.new) (E.fills (D.view disks.new) database.new) (E.flight database.new) start
-        (status_of stop) calls (i + 1) story.new first (D.view disks.new).armed) }
+    requires stands { (start : Start) × (first : List (ℕ × ℕ)) × IsLoading (E.stands_for (D.view disks.old) database.old) start calls i story.old first (D.view disks.old).armed }
+    ensures ok { OnOk result ((start : Start) (first : List (ℕ × ℕ)) → IsLoading (E.stands_for (D.view disks.old) database.old) start calls i story.old first (D.view disks.old).armed →
+        IsLoading (E.stands_for (D.view disks.new) database.new) start calls (i + 1) story.new first (D.view disks.new).armed) }
+    ensures err { IfErr result (λ stop. (start : Start) (first : List (ℕ × ℕ)) → IsLoading (E.stands_for (D.view disks.old) database.old) start calls i story.old first (D.view disks.old).armed →
+        EndsLoading (E.on_devices (D.view disks.new) database.new) start (load_run (status_of stop) (E.flight database.new) calls (i + 1) story.new) first (D.view disks.new).armed) }
     ensures later { IfErr result IsLaterStop }
     ensures within { StaysWithin (E.asked database.old) (E.asked database.new) (D.view disks.old) (D.view disks.new) }
     ensures counts { CountsAdded (D.view disks.old) (D.view disks.new) (outcome result) story.old story.new }
@@ -114,11 +112,10 @@ pub fn load<E: Openable, D: Disks, F: Fn(PlaceKind, &Key, u32) -> u32>(
     requires most { calls ≤ CALLS_MOST }
     requires serves { (line : Line) → IsAskable line → E.serves line }
     requires settled { E.settled (D.view disks.old) database.old }
-    requires begins { (start : Start) × (trace : Trace) × IsToBegin (E.lies (D.view disks.old) database.old) (E.flight database.old) start story.old trace ×
+    requires begins { (start : Start) × (trace : Trace) × IsToBegin (E.on_devices (D.view disks.old) database.old) (E.flight database.old) start story.old trace ×
         (first : List (ℕ × ℕ)) × (armed_by_lines first trace ≡ Some (D.view disks.old).armed) }
-    ensures ended { (start : Start) (trace : Trace) → IsToBegin (E.lies (D.view disks.old) database.old) (E.flight database.old) start story.old trace →
-        (first : List (ℕ × ℕ)) → armed_by_lines first trace ≡ Some (D.view disks.old).armed → EndsLoading (E.lies (D.view disks.new) database.new) (E.left (D.view disks.new) database.new) (E.fills (D.view disks.new) database.new) (E.flight database.new) start
-        (outcome result.done) calls result.lines story.new first (D.view disks.new).armed }
+    ensures ended { (start : Start) (trace : Trace) → IsToBegin (E.on_devices (D.view disks.old) database.old) (E.flight database.old) start story.old trace →
+        (first : List (ℕ × ℕ)) → armed_by_lines first trace ≡ Some (D.view disks.old).armed → EndsLoading (E.on_devices (D.view disks.new) database.new) start (load_run (outcome result.done) (E.flight database.new) calls result.lines story.new) first (D.view disks.new).armed }
     ensures later { IfErr result.done IsLaterStop }
     ensures within { StaysWithin (E.asked database.old) (E.asked database.new) (D.view disks.old) (D.view disks.new) }
     ensures counts { CountsAdded (D.view disks.old) (D.view disks.new) (outcome result.done) story.old story.new }

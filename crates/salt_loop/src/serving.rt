@@ -4,6 +4,8 @@ ghost use Rattle.salt_ast.specs.declared.lines.Line.{Line};
 ghost use Rattle.salt_io.specs.Streams.{IsAtEnd, Rose};
 ghost use Rattle.salt_model.specs.Arming.{armed_by_lines};
 ghost use Rattle.salt_model.specs.Trace.{Start, Trace};
+ghost use Rattle.salt_promise.specs.declared.status.Status.TheVariants.{Done};
+ghost use Rattle.salt_loop.specs.Run.{script_run, streams};
 ghost use Rattle.salt_loop.specs.Counted.{CountsAdded};
 ghost use Rattle.salt_loop.specs.Ending.{EndsServing};
 ghost use Rattle.salt_loop.specs.Serving.{IsAfterLine, IsAskable, IsBegun, IsServing, IsToBegin, text_of};
@@ -60,15 +62,13 @@ impl Serving {
         requires answers { GivesPlaceOf (F.post place.now.place) }
         requires serves { (line : Line) → IsAskable line → E.serves line }
         requires stands { (start : Start) × (script : Option (List ℕ)) × (before : Option (List ℕ)) × (first : List (ℕ × ℕ)) ×
-            IsServing (E.sees (D.view disks.old)) start script before database.old self.old.lines (S.left source.old) story.old (K.held sink.old) first (D.view disks.old).armed }
+            IsServing (E.stands_for (D.view disks.old) database.old) start (streams script (S.left source.old) before (K.held sink.old)) self.old.lines story.old first (D.view disks.old).armed }
         ensures goes { IfOk result (λ more. (start : Start) (script before : Option (List ℕ)) (first : List (ℕ × ℕ)) →
-            IsServing (E.sees (D.view disks.old)) start script before database.old self.old.lines (S.left source.old) story.old (K.held sink.old) first (D.view disks.old).armed →
-            IsAfterLine more (E.sees (D.view disks.new)) (E.lies (D.view disks.new) database.new) (E.left (D.view disks.new) database.new) (E.fills (D.view disks.new) database.new)
-            (E.flight database.new) start script before database.new self.new.lines (S.left source.new) story.new (K.held sink.new) first (D.view disks.new).armed) }
+            IsServing (E.stands_for (D.view disks.old) database.old) start (streams script (S.left source.old) before (K.held sink.old)) self.old.lines story.old first (D.view disks.old).armed →
+            IsAfterLine more (E.stands_for (D.view disks.new) database.new) (E.on_devices (D.view disks.new) database.new) start (script_run Done (E.flight database.new) (streams script (S.left source.new) before (K.held sink.new)) story.new) self.new.lines first (D.view disks.new).armed) }
         ensures stops { IfErr result (λ stop. (start : Start) (script before : Option (List ℕ)) (first : List (ℕ × ℕ)) →
-            IsServing (E.sees (D.view disks.old)) start script before database.old self.old.lines (S.left source.old) story.old (K.held sink.old) first (D.view disks.old).armed →
-            EndsServing (E.sees (D.view disks.new)) (E.lies (D.view disks.new) database.new) (E.left (D.view disks.new) database.new) (E.fills (D.view disks.new) database.new)
-            (E.flight database.new) start (status_of stop) script (S.left source.new) before database.new story.new (K.held sink.new) first (D.view disks.new).armed) }
+            IsServing (E.stands_for (D.view disks.old) database.old) start (streams script (S.left source.old) before (K.held sink.old)) self.old.lines story.old first (D.view disks.old).armed →
+            EndsServing (E.stands_for (D.view disks.new) database.new) (E.on_devices (D.view disks.new) database.new) start (script_run (status_of stop) (E.flight database.new) (streams script (S.left source.new) before (K.held sink.new)) story.new) first (D.view disks.new).armed) }
         ensures nearer { result ≡ Ok true → self.old.lines.taken < self.new.lines.taken }
         ensures most { self.new.lines.taken ≤ SCRIPT_MOST }
         ensures read_fault { result ≡ Err Stop.ReadFault → Rose (S.faults source.old) (S.faults source.new) }
@@ -102,13 +102,12 @@ fn begin<E: Openable, D: Disks, K: Sink, F: Fn(PlaceKind, &Key, u32) -> u32>(
     requires callable { TakesEachKey (F.pre place.now.place) }
     requires answers { GivesPlaceOf (F.post place.now.place) }
     requires settled { E.settled (D.view disks.old) database.old }
-    requires begins { (start : Start) × (trace : Trace) × IsToBegin (E.lies (D.view disks.old) database.old) (E.flight database.old) start story.old trace ×
+    requires begins { (start : Start) × (trace : Trace) × IsToBegin (E.on_devices (D.view disks.old) database.old) (E.flight database.old) start story.old trace ×
         (first : List (ℕ × ℕ)) × (armed_by_lines first trace ≡ Some (D.view disks.old).armed) }
-    ensures ok { OnOk result ((start : Start) (trace : Trace) → IsToBegin (E.lies (D.view disks.old) database.old) (E.flight database.old) start story.old trace →
-        (first : List (ℕ × ℕ)) → armed_by_lines first trace ≡ Some (D.view disks.old).armed → IsBegun (E.sees (D.view disks.new)) start database.new story.new (K.held sink.old) (K.held sink.new) first (D.view disks.new).armed) }
-    ensures stops { IfErr result (λ stop. (start : Start) (trace : Trace) → IsToBegin (E.lies (D.view disks.old) database.old) (E.flight database.old) start story.old trace →
-        (script rest : Option (List ℕ)) (first : List (ℕ × ℕ)) → armed_by_lines first trace ≡ Some (D.view disks.old).armed → EndsServing (E.sees (D.view disks.new)) (E.lies (D.view disks.new) database.new) (E.left (D.view disks.new) database.new)
-        (E.fills (D.view disks.new) database.new) (E.flight database.new) start (status_of stop) script rest (K.held sink.old) database.new story.new (K.held sink.new) first (D.view disks.new).armed) }
+    ensures ok { OnOk result ((start : Start) (trace : Trace) → IsToBegin (E.on_devices (D.view disks.old) database.old) (E.flight database.old) start story.old trace →
+        (first : List (ℕ × ℕ)) → armed_by_lines first trace ≡ Some (D.view disks.old).armed → IsBegun (E.stands_for (D.view disks.new) database.new) start story.new (K.held sink.old) (K.held sink.new) first (D.view disks.new).armed) }
+    ensures stops { IfErr result (λ stop. (start : Start) (trace : Trace) → IsToBegin (E.on_devices (D.view disks.old) database.old) (E.flight database.old) start story.old trace →
+        (script rest : Option (List ℕ)) (first : List (ℕ × ℕ)) → armed_by_lines first trace ≡ Some (D.view disks.old).armed → EndsServing (E.stands_for (D.view disks.new) database.new) (E.on_devices (D.view disks.new) database.new) start (script_run (status_of stop) (E.flight database.new) (streams script rest (K.held sink.old) (K.held sink.new)) story.new) first (D.view disks.new).armed) }
     ensures unread { result ≢ Err Stop.ReadFault }
     ensures write_fault { result ≡ Err Stop.WriteFault → Rose (K.faults sink.old) (K.faults sink.new) }
     ensures no_write_fault { result ≢ Err Stop.WriteFault → K.faults sink.new ≡ K.faults sink.old }
@@ -135,11 +134,10 @@ pub fn serve<E: Openable, D: Disks, S: Source, K: Sink, F: Fn(PlaceKind, &Key, u
     requires answers { GivesPlaceOf (F.post place.now.place) }
     requires serves { (line : Line) → IsAskable line → E.serves line }
     requires settled { E.settled (D.view disks.old) database.old }
-    requires begins { (start : Start) × (trace : Trace) × IsToBegin (E.lies (D.view disks.old) database.old) (E.flight database.old) start story.old trace ×
+    requires begins { (start : Start) × (trace : Trace) × IsToBegin (E.on_devices (D.view disks.old) database.old) (E.flight database.old) start story.old trace ×
         (first : List (ℕ × ℕ)) × (armed_by_lines first trace ≡ Some (D.view disks.old).armed) }
-    ensures ended { (start : Start) (trace : Trace) → IsToBegin (E.lies (D.view disks.old) database.old) (E.flight database.old) start story.old trace →
-        (first : List (ℕ × ℕ)) → armed_by_lines first trace ≡ Some (D.view disks.old).armed → EndsServing (E.sees (D.view disks.new)) (E.lies (D.view disks.new) database.new) (E.left (D.view disks.new) database.new)
-        (E.fills (D.view disks.new) database.new) (E.flight database.new) start (outcome result) (S.left source.old) (S.left source.new) (K.held sink.old) database.new story.new (K.held sink.new) first (D.view disks.new).armed }
+    ensures ended { (start : Start) (trace : Trace) → IsToBegin (E.on_devices (D.view disks.old) database.old) (E.flight database.old) start story.old trace →
+        (first : List (ℕ × ℕ)) → armed_by_lines first trace ≡ Some (D.view disks.old).armed → EndsServing (E.stands_for (D.view disks.new) database.new) (E.on_devices (D.view disks.new) database.new) start (script_run (outcome result) (E.flight database.new) (streams (S.left source.old) (S.left source.new) (K.held sink.old) (K.held sink.new)) story.new) first (D.view disks.new).armed }
     ensures end { OnOk result (IsAtEnd (S.left source.new)) }
     ensures read_fault { result ≡ Err Stop.ReadFault → Rose (S.faults source.old) (S.faults source.new) }
     ensures write_fault { result ≡ Err Stop.WriteFault → Rose (K.faults sink.old) (K.faults sink.new) }

@@ -4,7 +4,7 @@ ghost use Rattle.salt_storage.specs.OpenErr.{OpenErr};
 ghost use Rattle.salt_io.specs.Streams.{Rose};
 ghost use Rattle.salt_model.specs.Trace.{Start, Trace};
 ghost use Rattle.salt_loop.specs.Ending.{EndsOpening, IsStatusOf};
-ghost use Rattle.salt_loop.specs.Run.{IsRun};
+ghost use Rattle.salt_loop.specs.Run.{IsRun, script_run, streams};
 ghost use Rattle.salt_loop.specs.Stopping.{IsLaterStop, answer_of, outcome};
 ghost use Rattle.salt_driver.specs.Counting.{CountsOpening};
 ghost use Rattle.salt_driver.specs.Opening.{IsUnfound};
@@ -37,11 +37,11 @@ pub fn start<E: Openable, D: Disks, F: Fn(PlaceKind, &Key, u32) -> u32>(
     requires callable { TakesEachKey (F.pre place.now.place) }
     requires answers { GivesPlaceOf (F.post place.now.place) }
     requires settled { E.settled (D.view disks.old) database.old }
-    requires down { (start : Start) × (trace : Trace) × IsDown (E.lies (D.view disks.old) database.old) (E.flight database.old) start story.old trace }
-    ensures ok { OnOk result ((start : Start) (trace : Trace) → IsDown (E.lies (D.view disks.old) database.old) (E.flight database.old) start story.old trace →
-        Reopens (E.sees (D.view disks.new)) start trace story.old database.new story.new) }
-    ensures err { IfErr result (λ stop. (start : Start) (trace : Trace) → IsDown (E.lies (D.view disks.old) database.old) (E.flight database.old) start story.old trace →
-        EndsOpening (E.lies (D.view disks.new) database.new) (E.left (D.view disks.new) database.new) (E.fills (D.view disks.new) database.new) (E.flight database.new) stop start trace story.old story.new) }
+    requires down { (start : Start) × (trace : Trace) × IsDown (E.on_devices (D.view disks.old) database.old) (E.flight database.old) start story.old trace }
+    ensures ok { OnOk result ((start : Start) (trace : Trace) → IsDown (E.on_devices (D.view disks.old) database.old) (E.flight database.old) start story.old trace →
+        Reopens (E.stands_for (D.view disks.new) database.new) start trace story.old story.new) }
+    ensures err { IfErr result (λ stop. (start : Start) (trace : Trace) → IsDown (E.on_devices (D.view disks.old) database.old) (E.flight database.old) start story.old trace →
+        EndsOpening (E.on_devices (D.view disks.new) database.new) (E.flight database.new) stop start trace story.old story.new) }
     ensures later { IfErr result IsLaterStop }
     ensures within { StaysWithin (E.asked database.old) (E.asked database.new) (D.view disks.old) (D.view disks.new) }
     ensures counts { CountsOpening (D.view disks.old) (D.view disks.new) (answer_of (outcome result)) story.old story.new }
@@ -64,7 +64,7 @@ pub fn tell_unfound<K: Sink>(
     requires unfound { IsUnfound story.now }
     requires empty { (story.now ≡ []) ⊎ IsLater reason }
     ensures is { IsStatusOf reason (outcome result) }
-    ensures run { (start : Start) (script rest : Option (List ℕ)) → IsRun start (outcome result) None script rest (K.held sink.old) story.now (K.held sink.new) }
+    ensures run { (start : Start) (script rest : Option (List ℕ)) → IsRun start (script_run (outcome result) None (streams script rest (K.held sink.old) (K.held sink.new)) story.now) }
     ensures unread { result ≢ Err Stop.ReadFault }
     ensures write_fault { result ≡ Err Stop.WriteFault → Rose (K.faults sink.old) (K.faults sink.new) }
     ensures no_write_fault { result ≢ Err Stop.WriteFault → K.faults sink.new ≡ K.faults sink.old }

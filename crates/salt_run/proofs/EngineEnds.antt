@@ -2,7 +2,7 @@
 use Rattle.salt_books.specs.declared.books.Books.{Books}
 use Rattle.salt_database.proofs.Lying.{opened-first}
 use Rattle.salt_database.specs.Finding.{IsNew}
-use Rattle.salt_database.specs.Halves.{IfEither, by_half, database_flight, database_fresh, database_left, database_lies, no_setup, opening_lies}
+use Rattle.salt_database.specs.Halves.{IfEither, by_half, database_flight, database_fresh, database_stands_for_kept, database_can_reopen, no_setup, opening_can_reopen, opening_stands_for_kept}
 use Rattle.salt_database.specs.Standing.{opening_books}
 use Rattle.salt_database.specs.declared.database.Database.{Database}
 use Rattle.salt_database.specs.declared.database.Database.TheVariants.{Closed, Moving, Open}
@@ -16,9 +16,8 @@ use Rattle.salt_devices.specs.declared.devices.Devices.{Devices}
 use Rattle.salt_disk.specs.Disks.{AreUnchanged, IsUnchanged, KeepsAll, SameShape, View}
 use Rattle.salt_disk.specs.declared.disks.DiskErr.{DiskErr}
 use Rattle.salt_engine.specs.Flights.{flight_of}
-use Rattle.salt_engine.specs.Netted.{LiesNet}
-use Rattle.salt_engine.specs.Standing.{LeavesOnDevices, CanReopenAt, serving_books}
-use Rattle.salt_engine.specs.Stored.{IsAlone}
+use Rattle.salt_engine.specs.Netted.{CanReopenNet}
+use Rattle.salt_engine.specs.Standing.{CanReopenAt, left_on_devices, serving_books}
 use Rattle.salt_engine.specs.declared.flights.InFlight.{InFlight}
 use Rattle.law_states.specs.Points.{Point}
 use Rattle.law_states.specs.States.{State}
@@ -45,7 +44,6 @@ use Rattle.salt_run.proofs.Replayed.{load-replays, script-replays}
 use Rattle.salt_run.proofs.Tallied.{armed-at-first, behind-along}
 use Rattle.salt_run.proofs.Unwritten.{front-lines, load-unwritten}
 use Rattle.salt_promise.specs.Given.{shape_of}
-use Rattle.salt_run.specs.Doing.{Streams}
 use Rattle.salt_run.specs.Ending.{EndsBehind, IsNetLeft, flight_at, flight_left}
 use Rattle.salt_run.specs.Running.{DoTheirRests, FindsNothing, Replays, Runs, RunsOver}
 use Rattle.salt_run.specs.Summing.{IsSummary}
@@ -54,8 +52,8 @@ use Rattle.salt_loop.proofs.Counts.{run-added, run-opened, run-unwritten}
 use Rattle.salt_loop.proofs.Leaving.{answers-opening, full-reason}
 use Rattle.salt_loop.specs.Counted.{AreFaultsOf, CountsAdded, CountsRun}
 use Rattle.salt_loop.specs.Ending.{EndsFound, IsStatusOf, MayEndAt, ServesBetween}
-use Rattle.salt_loop.specs.Loading.{IsPlayedLoad, asked_by_load}
-use Rattle.salt_loop.specs.Run.{IsFlightAt, IsRun}
+use Rattle.salt_loop.specs.Loading.{IsPlayedLoad, asked_by_load, load_run}
+use Rattle.salt_loop.specs.Run.{IsFlightAt, IsRun, Streams, script_run}
 use Rattle.salt_loop.specs.Serving.{IsToBegin}
 use Rattle.salt_loop.specs.Stopping.{numbers_told, status_opening}
 use Rattle.salt_driver.proofs.AtFirst.{down-at-first}
@@ -63,6 +61,7 @@ use Rattle.salt_stands.specs.Stands.{are_spent}
 use Rattle.salt_stands.specs.Turning.{turning}
 use Rattle.salt_driver.specs.Along.{armed_along}
 use Rattle.salt_driver.specs.Counting.{CountsOpening}
+use Rattle.salt_driver.specs.Devices.{OnDevices, on_devices}
 use Rattle.salt_driver.specs.Opening.{FailsToFind, IsOpenedFirst, IsUnfound, start_over}
 use Rattle.salt_storage.specs.Answers.{IsRefusal, open_disk_err_of}
 use Rattle.salt_storage.specs.Netted.{net_begun, net_told}
@@ -77,7 +76,7 @@ use Rattle.salt_place.specs.declared.placement.Shape.{Shape}
 use Rattle.salt_promise.specs.declared.command.Command.{Command}
 use Rattle.salt_promise.specs.declared.command.Command.TheVariants.{Load, Script}
 use Rattle.std.proofs.Common.{ap, inl, inr, subst, sym, ◌∙◌}
-use Rattle.std.specs.Prelude.{Bool, IfSome, IsSome, IsTrue, List, None, Option, Some, [], false, if◌then◌else◌, option_map, refl, true, ℕ, ◌&&◌, ◌≡◌, ◌⊎◌}
+use Rattle.std.specs.Prelude.{Bool, IfSome, IsTrue, List, None, Option, Some, [], false, if◌then◌else◌, option_map, refl, true, ℕ, ◌&&◌, ◌≡◌, ◌⊎◌}
 
 -- THE STATUS, and the one of its engine: the same, or the sink failed behind it
 
@@ -178,17 +177,17 @@ module _ (command : Command) (d : View) (started0 : Bool) (shape0 : Shape) (was 
         by dev full (inr w) = absurd (not-full status dev w.0 full)
 
 -- a run over it begins, and these stops are armed there
-begins-over : (k : Kept) (now early over_net : Bool) (lies : ℕ → Point → Type 0) (flies : Option Flight) (d mid : View) (story : List Event) → IsUnfound story → IsSoundKept k →
-    IsOpenedFirst lies k now early over_net → flies ≡ None → CountsOpening d mid None [] story →
-    (trace : Trace) × IsToBegin lies flies (start_over k now early over_net) story trace × (armed_by_lines d.armed trace ≡ Some mid.armed)
-begins-over k now early over_net lies flies d mid story unfound sound opens none counts =
-    let x = down-at-first k now early over_net lies flies story unfound sound opens none in
+begins-over : (k : Kept) (now early over_net : Bool) (devices : OnDevices) (flies : Option Flight) (d mid : View) (story : List Event) → IsUnfound story → IsSoundKept k →
+    IsOpenedFirst devices.can_reopen_at k now early over_net → flies ≡ None → CountsOpening d mid None [] story →
+    (trace : Trace) × IsToBegin devices flies (start_over k now early over_net) story trace × (armed_by_lines d.armed trace ≡ Some mid.armed)
+begins-over k now early over_net devices flies d mid story unfound sound opens none counts =
+    let x = down-at-first k now early over_net devices flies story unfound sound opens none in
     (x.0, record { down = x.1; unasked = x.2 }, armed-at-first d mid (start_over k now early over_net) x.0 story x.1.tells x.2 counts)
 
 -- it can be opened, and nothing was sent yet
-opens-over : (lies : ℕ → Point → Type 0) (k : Kept) (can_stop early over_net : Bool) (setup : Setup) (net : Option Turning) (found : Option Numbers) → setup.over_net ≡ over_net → net ≡ net_begun setup →
-    IsOpenedFirst lies k can_stop early over_net → IsOpenedFirst (λ room p. lies room p × LiesNet setup net found p.state) k can_stop early over_net
-opens-over lies k can_stop early over_net setup net found over begun opens = λ p u. (opens p u, record { over = u.over_net ∙ sym over; begun = by found })
+opens-over : (can : ℕ → Point → Type 0) (k : Kept) (can_stop early over_net : Bool) (setup : Setup) (net : Option Turning) (found : Option Numbers) → setup.over_net ≡ over_net → net ≡ net_begun setup →
+    IsOpenedFirst can k can_stop early over_net → IsOpenedFirst (λ room p. can room p × CanReopenNet setup net found p.state) k can_stop early over_net
+opens-over can k can_stop early over_net setup net found over begun opens = λ p u. (opens p u, record { over = u.over_net ∙ sym over; begun = by found })
   where
     by : (found : Option Numbers) → IfSome found (λ numbers. net ≡ net_begun setup)
     by None = tt
@@ -197,14 +196,19 @@ opens-over lies k can_stop early over_net setup net found over begun opens = λ 
 -- an opening of what was found can be opened
 abbrev pub can_open : View → Opening Devices → ℕ → Point → Type 0
 can_open d o room p =
-    opening_lies (λ x k. StandsHeld x.shape x.started x.store x.pending d k) (λ x a b. StandsLeft x.shape x.started x.store x.pending d a b) d.can_stop o room p ×
-    LiesNet (setup_in o.storage.shape o.storage.over_net) (net_in o.storage.store) o.found p.state
+    opening_can_reopen (λ x k. StandsHeld x.shape x.started x.store x.pending d k) (λ x a b. StandsLeft x.shape x.started x.store x.pending d a b) d.can_stop o room p ×
+    CanReopenNet (setup_in o.storage.shape o.storage.over_net) (net_in o.storage.store) o.found p.state
+
+abbrev pub left_by : View → Opening Devices → OnDevices
+left_by d o =
+    on_devices (can_open d o) (λ numbers room p. opening_stands_for_kept (λ x k. StandsHeld x.shape x.started x.store x.pending d k) (λ x a b. StandsLeft x.shape x.started x.store x.pending d a b)
+    (λ x k. RestsAs x.shape x.started d k) o numbers room p) (λ w dev. FillsIn d o.storage.shape w dev)
 
 pub begins-found : (k : Kept) (early over_net : Bool) (o : Opening Devices) (y : Devices) (d mid : View) (story : List Event) → o.storage ≡ y → y.over_net ≡ over_net → net_in y.store ≡ net_begun (setup_in y.shape y.over_net) →
     IsNew early k o.found o.stage o.single o.in_flight → StandsHeld y.shape y.started y.store y.pending mid k → IsSoundKept k → IsUnfound story → CountsOpening d mid None [] story →
-    (trace : Trace) × IsToBegin (can_open mid o) (flight_of o.in_flight) (start_over k mid.can_stop early over_net) story trace × (armed_by_lines d.armed trace ≡ Some mid.armed)
+    (trace : Trace) × IsToBegin (left_by mid o) (flight_of o.in_flight) (start_over k mid.can_stop early over_net) story trace × (armed_by_lines d.armed trace ≡ Some mid.armed)
 begins-found k early over_net o y d mid story same over begun new holding sound unfound counts =
-    begins-over k mid.can_stop early over_net (can_open mid o) (flight_of o.in_flight) d mid story unfound sound
+    begins-over k mid.can_stop early over_net (left_by mid o) (flight_of o.in_flight) d mid story unfound sound
     (opens-over (CanReopenAt (λ k. StandsHeld o.storage.shape o.storage.started o.storage.store o.storage.pending mid k)
     (λ a b. StandsLeft o.storage.shape o.storage.started o.storage.store o.storage.pending mid a b) mid.can_stop o.found (opening_books o.stage) o.single o.in_flight) k mid.can_stop early over_net (setup_in o.storage.shape o.storage.over_net) (net_in o.storage.store) o.found (ap (λ (x : Devices). x.over_net) same ∙ over)
     (subst (λ (x : Devices). net_in x.store ≡ net_begun (setup_in x.shape x.over_net)) (sym same) begun)
@@ -227,7 +231,7 @@ and-both false b is = absurd (cc is)
 
 -- its net is what its commits have come to
 module _ {E : Type 0} (sees : E → Option Event → State → Type 0) (x : E) (setup : Setup) (shape : Shape) (early over_net : Bool) (asked : setup ≡ setup_in shape over_net) (start : Start) (status : Status)
-    (story : List Event) (trace : Trace) (net : Option (List NetEvent)) (serves : ServesBetween sees start status x story trace) where
+    (story : List Event) (trace : Trace) (net : Option (List NetEvent)) (serves : ServesBetween (sees x) start status story trace) where
   given : (b : Bool) → (over_net && ends_between status) ≡ b → IsNetLeft b (sees x None) setup net → net ≡ (if b then Some (turning shape trace).events else None)
   given false is left = left
   given true is left =
@@ -272,26 +276,25 @@ module _ (e : View) where
   rested x k = RestsAs x.shape x.started e k
 
   ends-over : (x : Devices) (target : Shape) → x.shape ≡ target → (found : Option Numbers) (books : Option Books) (single : Bool) (i : Option InFlight) (status : Status) (trace : Trace) →
-      IsPlayed trace → EndsFound (CanReopenAt (held x) (left x) e.can_stop found books single i)
-      (λ numbers room p. LeavesOnDevices (held x) (left x) (IsSome i) found room p × IsAlone (rested x) numbers room p) (FillsIn e x.shape) status trace → EndsBehind e target status (flight_at status (flight_of i)) trace
+      IsPlayed trace → EndsFound (left_on_devices (held x) (left x) (rested x) (FillsIn e x.shape) e.can_stop found books single i) status trace → EndsBehind e target status (flight_at status (flight_of i)) trace
   ends-over x target same found books single i status trace played f =
       subst (λ (s : Shape). EndsBehind e s status (flight_at status (flight_of i)) trace) same (ends-behind x.shape x.started x.store x.pending e found books single i status trace played f)
 
   abbrev LeftIn : Database Devices → Option Numbers → ℕ → Point → Type 0
-  LeftIn x numbers room p = database_left held left rested x numbers room p
+  LeftIn x numbers room p = database_stands_for_kept held left rested x numbers room p
 
   abbrev FoundAt : Database Devices → Status → Trace → Type 0
   FoundAt x status trace =
-      EndsFound (λ room p. database_lies held left e.can_stop x room p × database_fresh (λ y. setup_in y.shape y.over_net) (λ y. net_in y.store) x p.state) (LeftIn x) (λ w dev. IfEither (λ o. FillsIn e o.storage.shape w dev) (λ g. FillsIn e g.storage.shape w dev) x)
-      status trace
+      EndsFound (on_devices (λ room p. database_can_reopen held left e.can_stop x room p × database_fresh (λ y. setup_in y.shape y.over_net) (λ y. net_in y.store) x p.state) (LeftIn x)
+      (λ w dev. IfEither (λ o. FillsIn e o.storage.shape w dev) (λ g. FillsIn e g.storage.shape w dev) x)) status trace
 
   same_shape : {was is : Setup} → was ≡ is → was.shape ≡ is.shape
   same_shape same = ap (λ (s : Setup). s.shape) same
 
   -- what was sent until then does not matter
-  unsent : (lies more : ℕ → Point → Type 0) (left_at : Option Numbers → ℕ → Point → Type 0) (fills : ToWrite → ℕ → Type 0) (status : Status) (trace : Trace) →
-      EndsFound (λ room p. lies room p × more room p) left_at fills status trace → EndsFound lies left_at fills status trace
-  unsent lies more left_at fills status trace f = record {
+  unsent : (can more : ℕ → Point → Type 0) (left_at : Option Numbers → ℕ → Point → Type 0) (fills : ToWrite → ℕ → Type 0) (status : Status) (trace : Trace) →
+      EndsFound (on_devices (λ room p. can room p × more room p) left_at fills) status trace → EndsFound (on_devices can left_at fills) status trace
+  unsent can more left_at fills status trace f = record {
     room = f.room;
     point = f.point;
     keeps = f.keeps;
@@ -335,8 +338,8 @@ module _ (d e : View) (x : Database Devices) where
 
     module _ (sees : Database Devices → Option Event → State → Type 0) (drained : (texts : List (List ℕ)) → DoTheirRests (AskInOrder texts)) (shape : Shape) (early over_net : Bool) (is_early : start.early ≡ early) (over : start.over_net ≡ over_net)
         (asked : setup_of x ≡ setup_in shape over_net) (stood : Finds d true shape start.kept) (status : Status)
-        (y : (run : IsRun start status (database_flight x) s.script s.left s.before story s.now) × FoundAt e x status run.played.trace × Stops status (armed_by_lines d.armed run.played.trace) e.armed ×
-        ServesBetween sees start status x story run.played.trace) (net : Option (List NetEvent))
+        (y : (run : IsRun start (script_run status (database_flight x) s story)) × FoundAt e x status run.played.trace × Stops status (armed_by_lines d.armed run.played.trace) e.armed ×
+        ServesBetween (sees x) start status story run.played.trace) (net : Option (List NetEvent))
         (told : Status) (same : told ≡ status) (left : IsNetLeft (over_net && ends_between told) (sees x None) (setup_of x) net) where
       pub script-over : RunsOver (Script shape early over_net) d e status (flight_at status (database_flight x)) net s story
       script-over = record {
@@ -359,9 +362,9 @@ module _ (d e : View) (x : Database Devices) where
     module _ (calls done : ℕ) (is_early : start.early ≡ false) (over : start.over_net ≡ false) (drained : DoTheirRests (λ lines. IsFrontOf lines (asked_by_load calls)))
         (asked : setup_of x ≡ setup_in (shape_of (Load calls)) false) (stood : Finds d true (shape_of (Load calls)) start.kept) (old status : Status) (how : IsBehind old status)
         (summed : IsSummary status (summary_of calls done story) s.before s.now)
-        (y : (run : IsPlayedLoad start old (database_flight x) calls done story) × FoundAt e x old run.trace × Stops old (armed_by_lines d.armed run.trace) e.armed) where
+        (y : (run : IsPlayedLoad start (load_run old (database_flight x) calls done story)) × FoundAt e x old run.trace × Stops old (armed_by_lines d.armed run.trace) e.armed) where
       abbrev Loaded : Status → Type 0
-      Loaded t = (r : IsPlayedLoad start t (database_flight x) calls done story) × FoundAt e x t r.trace × Stops t (armed_by_lines d.armed r.trace) e.armed
+      Loaded t = (r : IsPlayedLoad start (load_run t (database_flight x) calls done story)) × FoundAt e x t r.trace × Stops t (armed_by_lines d.armed r.trace) e.armed
 
       loaded : Loaded status
       loaded = by how
@@ -390,9 +393,9 @@ module _ (d e : View) (x : Database Devices) where
       }
 
 -- a workload that was not begun
-pub unfound-load : (calls : ℕ) (old status : Status) → IsBehind old status → (start : Start) (story : List Event) → IsPlayedLoad start old None calls 0 story → IsPlayedLoad start status None calls 0 story
-unfound-load calls old status (inl same) start story p = subst (λ (t : Status). IsPlayedLoad start t None calls 0 story) (sym same) p
-unfound-load calls old status (inr w) start story p = subst (λ (t : Status). IsPlayedLoad start t None calls 0 story) (sym w.0) (load-unwritten start old None calls 0 story w.1 p)
+pub unfound-load : (calls : ℕ) (old status : Status) → IsBehind old status → (start : Start) (story : List Event) → IsPlayedLoad start (load_run old None calls 0 story) → IsPlayedLoad start (load_run status None calls 0 story)
+unfound-load calls old status (inl same) start story p = subst (λ (t : Status). IsPlayedLoad start (load_run t None calls 0 story)) (sym same) p
+unfound-load calls old status (inr w) start story p = subst (λ (t : Status). IsPlayedLoad start (load_run t None calls 0 story)) (sym w.0) (load-unwritten start old None calls 0 story w.1 p)
 
 pub unfound-status : (reason : OpenErr) (old status : Status) → old ≡ status_opening reason → IsBehind old status → IsStatusOf reason status
 unfound-status reason old status is (inl same) = inl (same ∙ is)

@@ -6,7 +6,7 @@ use Rattle.salt_devices.specs.Standing.{RestsAs, StandsHeld, StandsLeft}
 use Rattle.salt_devices.specs.declared.pending.Pending.{Pending}
 use Rattle.salt_disk.specs.Disks.{IsImage, View}
 use Rattle.salt_engine.specs.Flights.{flight_of}
-use Rattle.salt_engine.specs.Standing.{LeavesOnDevices, CanReopenAt}
+use Rattle.salt_engine.specs.Standing.{LeavesOnDevices, left_on_devices}
 use Rattle.salt_engine.specs.Stored.{IsAlone}
 use Rattle.salt_engine.specs.declared.flights.InFlight.{InFlight}
 use Rattle.law_states.specs.Points.{Point}
@@ -36,7 +36,7 @@ module _ (shape : Shape) (started : Bool) (o : Option Store) (q : Pending) (d : 
   abbrev LeftAt : Option Numbers → ℕ → Point → Type 0
   LeftAt numbers room p = LeavesOnDevices (StandsHeld shape started o q d) (StandsLeft shape started o q d) (IsSome i) found room p × IsAlone (RestsAs shape started d) numbers room p
 
-  module _ (x : EndsFound (CanReopenAt (StandsHeld shape started o q d) (StandsLeft shape started o q d) d.can_stop found books single i) LeftAt (FillsIn d shape) status trace) where
+  module _ (x : EndsFound (left_on_devices (StandsHeld shape started o q d) (StandsLeft shape started o q d) (RestsAs shape started d) (FillsIn d shape) d.can_stop found books single i) status trace) where
     images : IsTrue d.told → (image : ℕ → List ℕ) → IsImage d image → StandsBehind shape status (flight_at status (flight_of i)) trace image
     images told image is = by status x.stands
       where

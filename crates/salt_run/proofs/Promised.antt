@@ -15,7 +15,8 @@ use Rattle.salt_promise.specs.declared.status.Status.TheVariants.{Done}
 use Rattle.salt_run.proofs.Left.{ends-as}
 use Rattle.salt_run.proofs.Standing.{open-as}
 use Rattle.salt_run.proofs.Ways.{lines-way, load-lines-way}
-use Rattle.salt_run.specs.Doing.{Does, Streams, streams}
+use Rattle.salt_loop.specs.Run.{Streams, streams}
+use Rattle.salt_run.specs.Doing.{Does}
 use Rattle.salt_run.specs.Running.{RunsOver}
 use Rattle.salt_place.specs.Placement.{IsParts}
 use Rattle.salt_place.specs.declared.placement.Shape.{Shape}

@@ -7,12 +7,11 @@ use Rattle.salt_model.specs.declared.events.Flight.{Flight}
 use Rattle.salt_promise.specs.Promises.{Promises}
 use Rattle.salt_promise.specs.declared.status.Status.{Status}
 use Rattle.salt_promise.specs.declared.status.Status.TheVariants.{Memory, NumbersSpent}
-use Rattle.salt_run.specs.Doing.{Streams}
 use Rattle.salt_run.specs.Ending.{IsFlightTold, flight_at}
 use Rattle.salt_run.specs.Running.{Replays}
 use Rattle.salt_run.specs.Summing.{IsSummary}
-use Rattle.salt_loop.specs.Loading.{IsPlayedLoad}
-use Rattle.salt_loop.specs.Run.{IsFlightAt, IsRun}
+use Rattle.salt_loop.specs.Loading.{IsPlayedLoad, load_run}
+use Rattle.salt_loop.specs.Run.{IsFlightAt, IsRun, Streams, script_run}
 use Rattle.salt_place.specs.declared.placement.Shape.{Shape}
 use Rattle.salt_model.specs.Summary.{summary_of}
 use Rattle.salt_promise.specs.declared.command.Command.TheVariants.{Load, Script}
@@ -28,7 +27,7 @@ module _ (promised : (trace : Trace) → IsPlayed trace → WellKept (start_of t
   keeps start trace story well tells = promised trace tells.played (subst (λ (s : Start). WellKept s.kept) (sym tells.begins) well)
 
   abbrev pub script-replays : (shape : Shape) (early over_net : Bool) (status : Status) (f : Option Flight) (s : Streams) (story : List Event) (start : Start) → WellKept start.kept →
-      IsRun start status f s.script s.left s.before story s.now → Replays (Script shape early over_net) status (flight_at status f) s story start
+      IsRun start (script_run status f s story) → Replays (Script shape early over_net) status (flight_at status f) s story start
   script-replays shape early over_net status f s story start well x =
       let p = x.played in
       record {
@@ -47,7 +46,7 @@ module _ (promised : (trace : Trace) → IsPlayed trace → WellKept (start_of t
   summed-as status a b before now same h = subst (λ t. IsSummary status t before now) (same (λ m. cc)) h
 
   abbrev pub load-replays : (calls done : ℕ) (status : Status) (f : Option Flight) (s : Streams) (story : List Event) (start : Start) → WellKept start.kept →
-      IsPlayedLoad start status f calls done story → IsSummary status (summary_of calls done story) s.before s.now → Replays (Load calls) status (flight_at status f) s story start
+      IsPlayedLoad start (load_run status f calls done story) → IsSummary status (summary_of calls done story) s.before s.now → Replays (Load calls) status (flight_at status f) s story start
   load-replays calls done status f s story start well x summed = record {
     trace = x.trace;
     played = x.tells;

@@ -10,7 +10,7 @@ use Rattle.salt_promise.specs.Doing.{IsFrontOf}
 use Rattle.salt_promise.specs.declared.status.Status.{Status}
 use Rattle.salt_promise.specs.declared.status.Status.TheVariants.{Broken, DeviceFull, DiskFault, Done, Memory, NotSalt, NumbersSpent, OtherShape, ReadFault, ScriptTooLong, TranscriptTooLong, Unread, Usage, WriteFault}
 use Rattle.salt_loop.proofs.Leaving.{at-devices, complete-flight}
-use Rattle.salt_loop.specs.Loading.{AreLoadLines, IsPlayedLoad, asked_by_load}
+use Rattle.salt_loop.specs.Loading.{AreLoadLines, IsPlayedLoad, asked_by_load, load_run}
 use Rattle.salt_loop.specs.Run.{IsFlightAt, leave_of}
 use Rattle.std.proofs.Common.{ap, append-nil, inl, inr, sym, ◌∙◌}
 use Rattle.std.specs.Prelude.{List, None, Option, [], refl, ℕ, ◌++◌, ◌∷◌, ◌≡◌}
@@ -82,8 +82,8 @@ module _ (trace : Trace) (played : IsPlayed trace) (calls : ℕ) where
   flies-output ReadFault told some l h f = absurd l
   flies-output ScriptTooLong told some l h f = absurd l
 
-abbrev pub load-unwritten : (start : Start) (status : Status) (told : Option Flight) (calls done : ℕ) (story : List Event) → (status ≡ Memory → ⊥) → IsPlayedLoad start status told calls done story →
-    IsPlayedLoad start WriteFault told calls done story
+abbrev pub load-unwritten : (start : Start) (status : Status) (told : Option Flight) (calls done : ℕ) (story : List Event) → (status ≡ Memory → ⊥) → IsPlayedLoad start (load_run status told calls done story) →
+    IsPlayedLoad start (load_run WriteFault told calls done story)
 load-unwritten start status told calls done story some x = record {
   trace = x.trace;
   tells = x.tells;

@@ -4,17 +4,10 @@ use Rattle.salt_model.specs.Trace.{Trace, lines_asked}
 use Rattle.salt_promise.specs.declared.status.Status.{Status}
 use Rattle.salt_run.specs.Summing.{IsSummed}
 use Rattle.salt_loop.specs.Loading.{AreLoadLines}
-use Rattle.salt_loop.specs.Run.{AreLinesOf, IsTold}
+use Rattle.salt_loop.specs.Run.{AreLinesOf, IsTold, Streams}
 use Rattle.salt_promise.specs.declared.command.Command.TheVariants.{Load, Script}
 use Rattle.salt_promise.specs.declared.command.Command.{Command}
 use Rattle.std.specs.Prelude.{List, Option, ℕ}
-
--- the bytes that a source tells, at first and at last, and those that a sink held and holds
-pub record Streams : Type 0 where
-  pub script : Option (List ℕ)
-  pub left : Option (List ℕ)
-  pub before : Option (List ℕ)
-  pub now : Option (List ℕ)
 
 -- the lines of a trace are what the lines of the script ask that were done
 pub record DoesLines (status : Status) (script left : Option (List ℕ)) (trace : Trace) : Type 0 where
@@ -26,6 +19,3 @@ pub record DoesLines (status : Status) (script left : Option (List ℕ)) (trace 
 abbrev pub Does : Command → Status → Streams → Trace → Type 0
 Does (Script shape early over_net) status s trace = DoesLines status s.script s.left trace × IsTold status s.before trace s.now
 Does (Load calls) status s trace = AreLoadLines status calls (lines_asked trace) × IsSummed status calls trace s.before s.now
-
-abbrev pub streams : (script left before now : Option (List ℕ)) → Streams
-streams script left before now = record { script = script; left = left; before = before; now = now }

@@ -20,10 +20,10 @@ use Rattle.salt_promise.specs.Runs.{AreAsBefore, IsNoRefusal, may_have_failed, n
 use Rattle.salt_promise.specs.declared.status.Status.{Status}
 use Rattle.salt_promise.specs.declared.status.Status.TheVariants.{DeviceFull}
 use Rattle.salt_promise.specs.Given.{early_of, over_net_of, shape_of}
-use Rattle.salt_run.specs.Doing.{Does, Streams}
+use Rattle.salt_run.specs.Doing.{Does}
 use Rattle.salt_run.specs.Ending.{EndsBehind, IsFlightTold}
 use Rattle.salt_loop.specs.Ending.{IsStatusOf}
-use Rattle.salt_loop.specs.Run.{leave_of}
+use Rattle.salt_loop.specs.Run.{Streams, leave_of}
 use Rattle.salt_stands.specs.Stands.{are_spent}
 use Rattle.salt_stands.specs.Unspent.{OpensUnspent}
 use Rattle.salt_driver.specs.Opening.{IsUnfound}

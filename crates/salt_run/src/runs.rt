@@ -10,7 +10,7 @@ ghost use Rattle.salt_model.specs.Lines.{AskInOrder};
 ghost use Rattle.salt_model.specs.Played.{IsPlayed};
 ghost use Rattle.salt_model.specs.Trace.{Trace, start_of};
 ghost use Rattle.salt_promise.specs.Given.{shape_of};
-ghost use Rattle.salt_run.specs.Doing.{streams};
+ghost use Rattle.salt_loop.specs.Run.{streams};
 ghost use Rattle.salt_run.specs.Ending.{IsNetLeft, flight_at, flight_left};
 ghost use Rattle.salt_promise.specs.Doing.{IsFrontOf};
 ghost use Rattle.salt_promise.specs.Promises.{Promises};
@@ -67,9 +67,9 @@ struct Leaving {
 
 /// Gives a database up where its run ends.
 fn leave<E: Openable, D: Disks>(database: E, disks: &D, status: Status, over_net: bool) -> Leaving
-    requires stands { over_net ≡ true → ends_between status ≡ true → (s : State) × E.sees (D.view disks.now) database None s }
+    requires stands { over_net ≡ true → ends_between status ≡ true → (s : State) × E.stands_for (D.view disks.now) database None s }
     ensures flight { result.flight ≡ flight_left (over_net && ends_between status) status (E.flight database) }
-    ensures net { IsNetLeft (over_net && ends_between status) (E.sees (D.view disks.now) database None) (E.asked database) result.net }
+    ensures net { IsNetLeft (over_net && ends_between status) (E.stands_for (D.view disks.now) database None) (E.asked database) result.net }
 {
     if gives_net(over_net, status) {
         return Leaving {

@@ -12,7 +12,7 @@ use Rattle.std.specs.Prelude.{None, [], ◌<◌, ◌≡◌}
 pub loop-next-init : goal.loop-next-init
 loop-next-init g c =
     let view = g.D.Disks.view c.args.disks.now in (
-      λ p sound at. drains-none (g.E.Stepping.sees view) p c.args.first c.args.story.now c.args.database.now c.args.steps.now at,
+      λ p sound at. drains-none (g.E.Stepping.stands_for view) p c.args.first c.args.story.now c.args.database.now c.args.steps.now at,
       opening-none view c.args.story.now,
       c.requires.unarmed,
       stays-same (g.E.Stepping.asked c.args.database.now) view,
@@ -21,9 +21,9 @@ loop-next-init g c =
 pub go_on-requires-clause-stands : goal.go_on-requires-clause-stands
 go_on-requires-clause-stands g c =
     let r = c.requires.stands in
-    let sees = g.E.Stepping.sees (g.D.Disks.view c.loop-next.disks) in
+    let stands_for = g.E.Stepping.stands_for (g.D.Disks.view c.loop-next.disks) in
     let d =
-    subst (λ o. Drains sees r.0 c.args.first c.args.story.now c.loop-next.database o c.loop-next.story c.args.steps.now c.loop-next.steps) c.in-Some.is (c.loop-next.invariant.0 r.0 r.1 r.2) in
+    subst (λ o. Drains stands_for r.0 c.args.first c.args.story.now c.loop-next.database o c.loop-next.story c.args.steps.now c.loop-next.steps) c.in-Some.is (c.loop-next.invariant.0 r.0 r.1 r.2) in
     (d.on.point, sound-on d.on.moves r.0 d.on.point r.1 d.on.inside d.on.runs, d.on.stands)
 
 pub loop-next-smaller : goal.loop-next-smaller
@@ -36,16 +36,16 @@ loop-next-preserved g c =
     let story = c.args.story.now in
     let first = c.args.first in
     let e = c.in-Some.event in
-    let sees = g.E.Stepping.sees (view c.loop-next.disks) in
-    let now = g.E.Stepping.sees (view c.go_on.new.disks) in
+    let stands_for = g.E.Stepping.stands_for (view c.loop-next.disks) in
+    let now = g.E.Stepping.stands_for (view c.go_on.new.disks) in
     let known = c.loop-next.invariant in
     let r = c.requires.stands in
-    let here = subst (λ o. Drains sees r.0 first story c.loop-next.database o c.loop-next.story c.args.steps.now c.loop-next.steps) c.in-Some.is (known.0 r.0 r.1 r.2) in
+    let here = subst (λ o. Drains stands_for r.0 first story c.loop-next.database o c.loop-next.story c.args.steps.now c.loop-next.steps) c.in-Some.is (known.0 r.0 r.1 r.2) in
     let moved = c.in_ok-next.ensures.moves here.on.point (sound-on here.on.moves r.0 here.on.point r.1 here.on.inside here.on.runs) here.on.stands in (
       λ p sound at.
-          let d = subst (λ o. Drains sees p first story c.loop-next.database o c.loop-next.story c.args.steps.now c.loop-next.steps) c.in-Some.is (known.0 p sound at) in
+          let d = subst (λ o. Drains stands_for p first story c.loop-next.database o c.loop-next.story c.args.steps.now c.loop-next.steps) c.in-Some.is (known.0 p sound at) in
           let m = c.in_ok-next.ensures.moves d.on.point (sound-on d.on.moves p d.on.point sound d.on.inside d.on.runs) d.on.stands in
-          drains-on sees p sound first at.comes at.opening story c.loop-next.database e c.loop-next.story c.args.steps.now c.loop-next.steps d now c.go_on.new.self c.in_ok-next.next c.go_on.new.story
+          drains-on stands_for p sound first at.comes at.opening story c.loop-next.database e c.loop-next.story c.args.steps.now c.loop-next.steps d now c.go_on.new.self c.in_ok-next.next c.go_on.new.story
           c.go_on.new.steps m.0 m.1 m.2 c.in_ok-next.ensures.tells c.in_ok-next.ensures.ticks,
       opening-join (view c.args.disks.now) (view c.loop-next.disks) (view c.go_on.new.disks) None story c.loop-next.story c.go_on.new.story known.1
           (opening-said (view c.loop-next.disks) (view c.go_on.new.disks) None c.loop-next.story c.go_on.new.story e c.in_ok-next.ensures.counts
@@ -56,8 +56,8 @@ loop-next-preserved g c =
 
 pub returns-clause-ok : goal.returns-clause-ok
 returns-clause-ok g c = λ p sound at.
-    let sees = g.E.Stepping.sees (g.D.Disks.view c.loop-next.disks) in
-    (subst (λ o. Drains sees p c.args.first c.args.story.now c.loop-next.database o c.loop-next.story c.args.steps.now c.loop-next.steps) (none-of c.loop-next.next c.in_default.not-Some)
+    let stands_for = g.E.Stepping.stands_for (g.D.Disks.view c.loop-next.disks) in
+    (subst (λ o. Drains stands_for p c.args.first c.args.story.now c.loop-next.database o c.loop-next.story c.args.steps.now c.loop-next.steps) (none-of c.loop-next.next c.in_default.not-Some)
     (c.loop-next.invariant.0 p sound at)).on
 
 pub returns-clause-units : goal.returns-clause-units
@@ -67,9 +67,9 @@ returns-clause-units g c = λ more grows.
 pub returns-clause-ticks : goal.returns-clause-ticks
 returns-clause-ticks g c =
     let r = c.requires.stands in
-    let sees = g.E.Stepping.sees (g.D.Disks.view c.loop-next.disks) in
-    drains-counted sees r.0 c.args.first c.args.story.now c.loop-next.database c.loop-next.story c.args.steps.now c.loop-next.steps
-    (subst (λ o. Drains sees r.0 c.args.first c.args.story.now c.loop-next.database o c.loop-next.story c.args.steps.now c.loop-next.steps) (none-of c.loop-next.next c.in_default.not-Some)
+    let stands_for = g.E.Stepping.stands_for (g.D.Disks.view c.loop-next.disks) in
+    drains-counted stands_for r.0 c.args.first c.args.story.now c.loop-next.database c.loop-next.story c.args.steps.now c.loop-next.steps
+    (subst (λ o. Drains stands_for r.0 c.args.first c.args.story.now c.loop-next.database o c.loop-next.story c.args.steps.now c.loop-next.steps) (none-of c.loop-next.next c.in_default.not-Some)
     (c.loop-next.invariant.0 r.0 r.1 r.2))
 
 pub returns-clause-most : goal.returns-clause-most
@@ -84,10 +84,9 @@ returns-in_err-next-clause-err g c =
     rw (q.1, q.2) (λ p sound at.
     let view = g.D.Disks.view c.go_on.new.disks in
     let f = c.go_on.new.self in
-    let sees = g.E.Stepping.sees (g.D.Disks.view c.loop-next.disks) in
-    let d = subst (λ o. Drains sees p c.args.first c.args.story.now c.loop-next.database o c.loop-next.story c.args.steps.now c.loop-next.steps) c.in-Some.is (c.loop-next.invariant.0 p sound at) in
-    drains-breaks sees p sound c.args.first at.comes at.opening c.args.story.now c.loop-next.database c.in-Some.event c.loop-next.story c.args.steps.now c.loop-next.steps d (g.E.Stepping.lies view f 0)
-    (g.E.Stepping.left view f None 0) (g.E.Stepping.fills view f) (g.E.Stepping.flight f) _ c.go_on.new.story
+    let stands_for = g.E.Stepping.stands_for (g.D.Disks.view c.loop-next.disks) in
+    let d = subst (λ o. Drains stands_for p c.args.first c.args.story.now c.loop-next.database o c.loop-next.story c.args.steps.now c.loop-next.steps) c.in-Some.is (c.loop-next.invariant.0 p sound at) in
+    drains-breaks stands_for p sound c.args.first at.comes at.opening c.args.story.now c.loop-next.database c.in-Some.event c.loop-next.story c.args.steps.now c.loop-next.steps d (g.E.Stepping.on_devices view f) (g.E.Stepping.flight f) _ c.go_on.new.story
     (c.in_err-next.ensures.halts d.on.point (sound-on d.on.moves p d.on.point sound d.on.inside d.on.runs) d.on.stands))
 
 pub returns-in_err-next-clause-short : goal.returns-in_err-next-clause-short
@@ -95,21 +94,20 @@ returns-in_err-next-clause-short g c =
     let q = err_from_is_err_and c.from_residual.result c.from_residual.ensures.1 in
     let view = g.D.Disks.view c.go_on.new.disks in
     let f = c.go_on.new.self in
-    let sees = g.E.Stepping.sees (g.D.Disks.view c.loop-next.disks) in
+    let stands_for = g.E.Stepping.stands_for (g.D.Disks.view c.loop-next.disks) in
     let r = c.requires.stands in
     let d =
-    subst (λ o. Drains sees r.0 c.args.first c.args.story.now c.loop-next.database o c.loop-next.story c.args.steps.now c.loop-next.steps) c.in-Some.is (c.loop-next.invariant.0 r.0 r.1 r.2) in
+    subst (λ o. Drains stands_for r.0 c.args.first c.args.story.now c.loop-next.database o c.loop-next.story c.args.steps.now c.loop-next.steps) c.in-Some.is (c.loop-next.invariant.0 r.0 r.1 r.2) in
     let here = sound-on d.on.moves r.0 d.on.point r.1 d.on.inside d.on.runs in
     rw q.1
-    (drains-short sees r.0 r.1 c.args.first r.2.comes r.2.opening c.args.story.now c.loop-next.database c.in-Some.event c.loop-next.story c.args.steps.now c.loop-next.steps d (g.E.Stepping.lies view f 0)
-    (g.E.Stepping.left view f None 0) (g.E.Stepping.fills view f) (g.E.Stepping.flight f) _ c.go_on.new.story c.go_on.new.steps
+    (drains-short stands_for r.0 r.1 c.args.first r.2.comes r.2.opening c.args.story.now c.loop-next.database c.in-Some.event c.loop-next.story c.args.steps.now c.loop-next.steps d (g.E.Stepping.on_devices view f) (g.E.Stepping.flight f) _ c.go_on.new.story c.go_on.new.steps
     (c.in_err-next.ensures.halts d.on.point here d.on.stands) (c.in_err-next.ensures.short d.on.point here d.on.stands))
 
 pub returns-in_err-next-clause-most : goal.returns-in_err-next-clause-most
 returns-in_err-next-clause-most g c = λ p sound at can.
-    let sees = g.E.Stepping.sees (g.D.Disks.view c.loop-next.disks) in
-    let d = subst (λ o. Drains sees p c.args.first c.args.story.now c.loop-next.database o c.loop-next.story c.args.steps.now c.loop-next.steps) c.in-Some.is (c.loop-next.invariant.0 p sound at) in
-    drains-most sees p sound c.args.first at.comes at.opening c.args.story.now c.loop-next.database c.in-Some.event c.loop-next.story c.args.steps.now c.loop-next.steps d c.go_on.new.story
+    let stands_for = g.E.Stepping.stands_for (g.D.Disks.view c.loop-next.disks) in
+    let d = subst (λ o. Drains stands_for p c.args.first c.args.story.now c.loop-next.database o c.loop-next.story c.args.steps.now c.loop-next.steps) c.in-Some.is (c.loop-next.invariant.0 p sound at) in
+    drains-most stands_for p sound c.args.first at.comes at.opening c.args.story.now c.loop-next.database c.in-Some.event c.loop-next.story c.args.steps.now c.loop-next.steps d c.go_on.new.story
     c.go_on.new.steps (c.in_err-next.ensures.short d.on.point (sound-on d.on.moves p d.on.point sound d.on.inside d.on.runs) d.on.stands) can
 
 pub returns-in_err-next-clause-counts : goal.returns-in_err-next-clause-counts
@@ -117,13 +115,13 @@ returns-in_err-next-clause-counts g c =
     let view = g.D.Disks.view in
     let story = c.args.story.now in
     let known = c.loop-next.invariant in
-    let sees = g.E.Stepping.sees (view c.loop-next.disks) in
+    let stands_for = g.E.Stepping.stands_for (view c.loop-next.disks) in
     let r = c.requires.stands in
-    let d = subst (λ o. Drains sees r.0 c.args.first story c.loop-next.database o c.loop-next.story c.args.steps.now c.loop-next.steps) c.in-Some.is (known.0 r.0 r.1 r.2) in
+    let d = subst (λ o. Drains stands_for r.0 c.args.first story c.loop-next.database o c.loop-next.story c.args.steps.now c.loop-next.steps) c.in-Some.is (known.0 r.0 r.1 r.2) in
     let broken = c.in_err-next.ensures.halts d.on.point (sound-on d.on.moves r.0 d.on.point r.1 d.on.inside d.on.runs) d.on.stands in
     let q = err_from_is_err_and c.from_residual.result c.from_residual.ensures.1 in
     rw (q.1, q.2) (opening-stop (view c.args.disks.now) (view c.loop-next.disks) (view c.go_on.new.disks) _ story c.loop-next.story c.go_on.new.story c.in-Some.event known.1 c.in_err-next.ensures.counts
-    (subst (λ o. armed_at Nothing o ≡ []) c.in-Some.is known.2) (broken-by _ _ _ _ _ d.on.point c.in-Some.event c.loop-next.story c.go_on.new.story broken))
+    (subst (λ o. armed_at Nothing o ≡ []) c.in-Some.is known.2) (broken-by _ _ _ d.on.point c.in-Some.event c.loop-next.story c.go_on.new.story broken))
 
 pub returns-clause-within : goal.returns-clause-within
 returns-clause-within g c = c.loop-next.invariant.3

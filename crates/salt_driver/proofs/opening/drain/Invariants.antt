@@ -9,8 +9,8 @@ use Rattle.std.specs.Prelude.{None, Some, [], ◌≡◌}
 
 abbrev pub invariant-loop-next : goal.invariant-loop-next
 invariant-loop-next g l =
-    ((p : Point) → IsSoundPoint p → IsOpeningAt (g.E.Stepping.sees (g.D.Disks.view l.fn.disks)) l.fn.database (Some l.fn.first) p →
-    Drains (g.E.Stepping.sees (g.D.Disks.view l.disks)) p l.fn.first l.fn.story l.database l.next l.story l.fn.steps l.steps)
+    ((p : Point) → IsSoundPoint p → IsOpeningAt (g.E.Stepping.stands_for (g.D.Disks.view l.fn.disks) l.fn.database) (Some l.fn.first) p →
+    Drains (g.E.Stepping.stands_for (g.D.Disks.view l.disks)) p l.fn.first l.fn.story l.database l.next l.story l.fn.steps l.steps)
     × CountsOpening (g.D.Disks.view l.fn.disks) (g.D.Disks.view l.disks) None l.fn.story l.story
     × (armed_at Nothing l.next ≡ [])
     × StaysWithin (g.E.Stepping.asked l.fn.database) (g.E.Stepping.asked l.database) (g.D.Disks.view l.fn.disks) (g.D.Disks.view l.disks)

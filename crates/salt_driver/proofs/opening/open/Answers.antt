@@ -12,7 +12,7 @@ stops-init g c =
     let view = g.D.Disks.view c.args.disks.now in
     let story = c.args.story.now in (
       c.requires.settled,
-      (λ start trace down. not-fallen (g.E.Stepping.lies view c.args.database.now) (g.E.Stepping.flight c.args.database.now) start trace story down),
+      (λ start trace down. not-fallen (g.E.Stepping.on_devices view c.args.database.now) (g.E.Stepping.flight c.args.database.now) start trace story down),
       opening-none view story,
       stays-same (g.E.Stepping.asked c.args.database.now) view,
     )
@@ -29,7 +29,7 @@ returns-in_err-try_open-clause-err g c =
     let p = err_from_is_err_and c.from_residual.result c.from_residual.ensures.1 in
     rw (p.1, p.2) (λ start trace d.
     let f = c.stops.invariant.1 start trace d in
-    breaks-behind _ (g.E.Stepping.lies (view c.try_open.new.disks) c.try_open.new.database) _ (g.E.Stepping.flight c.try_open.new.database) start trace c.args.story.now c.stops.story c.try_open.new.story f _ _ _
+    breaks-behind _ (g.E.Stepping.on_devices (view c.try_open.new.disks) c.try_open.new.database) _ (g.E.Stepping.flight c.try_open.new.database) start trace c.args.story.now c.stops.story c.try_open.new.story f _
     (c.in_err-try_open.ensures.err start f.after f.down))
 
 pub returns-in_err-try_open-clause-counts : goal.returns-in_err-try_open-clause-counts
@@ -41,15 +41,15 @@ returns-in_err-try_open-clause-counts g c =
 pub stops-preserved : goal.stops-preserved
 stops-preserved g c =
     let view = g.D.Disks.view in
-    let lies = g.E.Stepping.lies (view c.try_open.new.disks) c.try_open.new.database in
+    let devices = g.E.Stepping.on_devices (view c.try_open.new.disks) c.try_open.new.database in
     let flies = g.E.Stepping.flight c.try_open.new.database in
     let fell = c.if-not-branch.true in
     let told = c.args.story.now in (
       c.in_ok-try_open.ensures.settled (ap Ok fell),
       (λ start trace d.
           let f = c.stops.invariant.1 start trace d in
-          falls-behind _ lies _ flies start trace told c.stops.story c.try_open.new.story f
-          (subst (λ (b : Bool). OpensOrFalls b (g.E.Stepping.sees (view c.try_open.new.disks)) lies flies start f.after c.stops.story c.try_open.new.database c.try_open.new.story) fell (c.in_ok-try_open.ensures.ok start f.after f.down))),
+          falls-behind _ devices _ flies start trace told c.stops.story c.try_open.new.story f
+          (subst (λ (b : Bool). OpensOrFalls b (g.E.Stepping.stands_for (view c.try_open.new.disks) c.try_open.new.database) devices flies start f.after c.stops.story c.try_open.new.story) fell (c.in_ok-try_open.ensures.ok start f.after f.down))),
       opening-join (view c.args.disks.now) (view c.stops.disks) (view c.try_open.new.disks) _ told c.stops.story c.try_open.new.story c.stops.invariant.2 c.in_ok-try_open.ensures.counts,
       stays-behind c.stops.invariant.3 c.in_ok-try_open.ensures.within,
     )
@@ -58,11 +58,11 @@ pub returns-clause-ok : goal.returns-clause-ok
 returns-clause-ok g c = λ start trace d.
     let view = g.D.Disks.view in
     let f = c.stops.invariant.1 start trace d in
-    let sees = g.E.Stepping.sees (view c.try_open.new.disks) in
-    let lies = g.E.Stepping.lies (view c.try_open.new.disks) c.try_open.new.database in
+    let stands_for = g.E.Stepping.stands_for (view c.try_open.new.disks) in
+    let devices = g.E.Stepping.on_devices (view c.try_open.new.disks) c.try_open.new.database in
     let flies = g.E.Stepping.flight c.try_open.new.database in
-    reopens-behind _ lies _ flies start trace c.args.story.now c.stops.story c.try_open.new.story f sees c.try_open.new.database
-    (subst (λ (b : Bool). OpensOrFalls b sees lies flies start f.after c.stops.story c.try_open.new.database c.try_open.new.story) c.if-not-branch.false (c.in_ok-try_open.ensures.ok start f.after f.down))
+    reopens-behind _ devices _ flies start trace c.args.story.now c.stops.story c.try_open.new.story f stands_for c.try_open.new.database
+    (subst (λ (b : Bool). OpensOrFalls b (stands_for c.try_open.new.database) devices flies start f.after c.stops.story c.try_open.new.story) c.if-not-branch.false (c.in_ok-try_open.ensures.ok start f.after f.down))
 
 pub returns-clause-counts : goal.returns-clause-counts
 returns-clause-counts g c =

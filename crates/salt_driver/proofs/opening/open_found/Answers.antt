@@ -7,15 +7,15 @@ use Rattle.std.proofs.Common.{ap, refl}
 use Rattle.std.proofs.lemmas.Result.{IfErr-weaker, err_from_is_err_and, on_ok_weaker}
 use Rattle.std.specs.Prelude.{Err, None}
 
-pub open-requires-clause-lies : goal.open-requires-clause-lies
-open-requires-clause-lies g c =
+pub open-requires-clause-down : goal.open-requires-clause-down
+open-requires-clause-down g c =
     let view = g.D.Disks.view in
     let d = c.requires.down.2 in
     let start = c.requires.down.0 in
     let trace = c.requires.down.1 in
-    let lies = g.E.Stepping.lies (view c.args.disks.now) c.args.database.now in
+    let devices = g.E.Stepping.on_devices (view c.args.disks.now) c.args.database.now in
     let flies = g.E.Stepping.flight c.args.database.now in
-    (d.room, d.point, down-sound lies flies start c.args.story.now trace d, down-fallen lies flies start c.args.story.now trace d, d.again)
+    (d.room, d.point, down-sound devices flies start c.args.story.now trace d, down-fallen devices flies start c.args.story.now trace d, d.again)
 
 pub finish_opening-requires-clause-stands : goal.finish_opening-requires-clause-stands
 finish_opening-requires-clause-stands g c =
@@ -23,32 +23,32 @@ finish_opening-requires-clause-stands g c =
     let start = c.requires.down.0 in
     let trace = c.requires.down.1 in
     let story = c.args.story.now in
-    let lies = g.E.Stepping.lies (g.D.Disks.view c.args.disks.now) c.args.database.now in
+    let devices = g.E.Stepping.on_devices (g.D.Disks.view c.args.disks.now) c.args.database.now in
     let flies = g.E.Stepping.flight c.args.database.now in
-    let o = c.in_ok-first.ensures.opens d.room d.point (down-sound lies flies start story trace d) (down-fallen lies flies start story trace d) d.again in
-    (o.has.point, opened-sound lies flies start story trace d o.has, o.stands)
+    let o = c.in_ok-first.ensures.opens d.room d.point (down-sound devices flies start story trace d) (down-fallen devices flies start story trace d) d.again in
+    (o.has.point, opened-sound devices flies start story trace d o.has, o.stands)
 
 pub returns-clause-ok : goal.returns-clause-ok
 returns-clause-ok g c = on_ok_weaker c.finish_opening.result (λ ends start trace d.
     let view = g.D.Disks.view in
     let story = c.args.story.now in
-    let lies = g.E.Stepping.lies (view c.args.disks.now) c.args.database.now in
+    let devices = g.E.Stepping.on_devices (view c.args.disks.now) c.args.database.now in
     let flies = g.E.Stepping.flight c.args.database.now in
-    let sees = g.E.Stepping.sees (view c.finish_opening.new.disks) in
-    let o = c.in_ok-first.ensures.opens d.room d.point (down-sound lies flies start story trace d) (down-fallen lies flies start story trace d) d.again in
-    opening-ends lies flies start story trace d sees o.has c.finish_opening.new.database c.finish_opening.new.story
-    (behind-opened lies flies start story trace d sees o.has c.finish_opening.new.database c.open.new.story c.finish_opening.new.story o.tells
-    (ends o.has.point (opened-sound lies flies start story trace d o.has) o.stands))) c.finish_opening.ensures.ok
+    let stands_for = g.E.Stepping.stands_for (view c.finish_opening.new.disks) in
+    let o = c.in_ok-first.ensures.opens d.room d.point (down-sound devices flies start story trace d) (down-fallen devices flies start story trace d) d.again in
+    opening-ends devices flies start story trace d stands_for o.has c.finish_opening.new.database c.finish_opening.new.story
+    (behind-opened devices flies start story trace d stands_for o.has c.finish_opening.new.database c.open.new.story c.finish_opening.new.story o.tells
+    (ends o.has.point (opened-sound devices flies start story trace d o.has) o.stands))) c.finish_opening.ensures.ok
 
 pub returns-clause-err : goal.returns-clause-err
 returns-clause-err g c = IfErr-weaker c.finish_opening.result _ _ (λ halt breaks start trace d.
     let view = g.D.Disks.view in
     let story = c.args.story.now in
-    let lies = g.E.Stepping.lies (view c.args.disks.now) c.args.database.now in
+    let devices = g.E.Stepping.on_devices (view c.args.disks.now) c.args.database.now in
     let flies = g.E.Stepping.flight c.args.database.now in
-    let o = c.in_ok-first.ensures.opens d.room d.point (down-sound lies flies start story trace d) (down-fallen lies flies start story trace d) d.again in
-    opening-breaks lies flies start story trace d _ _ _ _ halt o.has c.open.new.story c.finish_opening.new.story o.tells
-    (breaks o.has.point (opened-sound lies flies start story trace d o.has) o.stands)) c.finish_opening.ensures.err
+    let o = c.in_ok-first.ensures.opens d.room d.point (down-sound devices flies start story trace d) (down-fallen devices flies start story trace d) d.again in
+    opening-breaks devices flies start story trace d _ _ halt o.has c.open.new.story c.finish_opening.new.story o.tells
+    (breaks o.has.point (opened-sound devices flies start story trace d o.has) o.stands)) c.finish_opening.ensures.err
 
 pub returns-clause-within : goal.returns-clause-within
 returns-clause-within g c = stays-behind c.in_ok-first.ensures.within c.finish_opening.ensures.within
@@ -60,9 +60,9 @@ returns-clause-counts g c =
     let d = c.requires.down.2 in
     let start = c.requires.down.0 in
     let trace = c.requires.down.1 in
-    let lies = g.E.Stepping.lies (view c.args.disks.now) c.args.database.now in
+    let devices = g.E.Stepping.on_devices (view c.args.disks.now) c.args.database.now in
     let flies = g.E.Stepping.flight c.args.database.now in
-    let o = c.in_ok-first.ensures.opens d.room d.point (down-sound lies flies start story trace d) (down-fallen lies flies start story trace d) d.again in
+    let o = c.in_ok-first.ensures.opens d.room d.point (down-sound devices flies start story trace d) (down-fallen devices flies start story trace d) d.again in
     opening-join (view c.args.disks.now) (view c.open.new.disks) (view c.finish_opening.new.disks) _ story c.open.new.story c.finish_opening.new.story
     (opening-said (view c.args.disks.now) (view c.open.new.disks) None story c.open.new.story (Opened o.has.boot o.has.number) c.in_ok-first.ensures.counts refl refl refl o.tells)
     c.finish_opening.ensures.counts
@@ -72,13 +72,13 @@ returns-in_err-first-clause-err g c =
     let p = err_from_is_err_and c.from_residual.result c.from_residual.ensures.1 in
     rw (p.1, p.2) (λ start trace d.
     let view = g.D.Disks.view in
-    let lies = g.E.Stepping.lies (view c.args.disks.now) c.args.database.now in
+    let devices = g.E.Stepping.on_devices (view c.args.disks.now) c.args.database.now in
     let flies = g.E.Stepping.flight c.args.database.now in
     let story = c.args.story.now in
-    opening-fails lies flies start story trace d _ _ _ _ _ c.open.new.story c.in_err-first.ensures.untold c.in_err-first.ensures.flies
+    opening-fails devices flies start story trace d _ _ _ c.open.new.story c.in_err-first.ensures.untold c.in_err-first.ensures.flies
     (λ dev is. c.in_err-first.ensures.full dev (ap Err is))
-    (λ some. c.in_err-first.ensures.lies some d.room d.point (down-sound lies flies start story trace d) (down-fallen lies flies start story trace d) d.again)
-    (c.in_err-first.ensures.left d.room d.point (down-sound lies flies start story trace d) (down-fallen lies flies start story trace d) d.again))
+    (λ some. c.in_err-first.ensures.reopens some d.room d.point (down-sound devices flies start story trace d) (down-fallen devices flies start story trace d) d.again)
+    (c.in_err-first.ensures.stands d.room d.point (down-sound devices flies start story trace d) (down-fallen devices flies start story trace d) d.again))
 
 pub returns-in_err-first-clause-counts : goal.returns-in_err-first-clause-counts
 returns-in_err-first-clause-counts g c =

@@ -12,7 +12,7 @@ open_found-requires-clause-down g c =
     let d = c.requires.down.2 in (
       c.requires.down.0,
       c.requires.down.1,
-      found-down (g.E.Stepping.lies (view c.args.disks.now) c.args.database.now) (g.E.Stepping.lies (view c.find.new.disks) c.find.new.self) (g.E.Stepping.flight c.args.database.now) (g.E.Stepping.flight c.find.new.self)
+      found-down (g.E.Stepping.on_devices (view c.args.disks.now) c.args.database.now) (g.E.Stepping.on_devices (view c.find.new.disks) c.find.new.self) (g.E.Stepping.flight c.args.database.now) (g.E.Stepping.flight c.find.new.self)
           c.requires.down.0 c.args.story.now c.requires.down.1 d (c.in_ok-find.ensures.again (λ never. cc)) c.find.ensures.flies,
     )
 
@@ -20,7 +20,7 @@ pub returns-clause-ok : goal.returns-clause-ok
 returns-clause-ok g c = λ start trace d.
     let view = g.D.Disks.view in
     c.in_ok-open_found.ensures.ok start trace
-    (found-down (g.E.Stepping.lies (view c.args.disks.now) c.args.database.now) (g.E.Stepping.lies (view c.find.new.disks) c.find.new.self) (g.E.Stepping.flight c.args.database.now) (g.E.Stepping.flight c.find.new.self)
+    (found-down (g.E.Stepping.on_devices (view c.args.disks.now) c.args.database.now) (g.E.Stepping.on_devices (view c.find.new.disks) c.find.new.self) (g.E.Stepping.flight c.args.database.now) (g.E.Stepping.flight c.find.new.self)
     start c.args.story.now trace d (c.in_ok-find.ensures.again (λ never. cc)) c.find.ensures.flies)
 
 pub returns-clause-within : goal.returns-clause-within
@@ -34,8 +34,8 @@ returns-in_err-find-clause-err g c =
     let p = err_from_is_err_and c.from_residual.result c.from_residual.ensures.1 in
     rw (p.1, p.2) (λ start trace d.
     let view = g.D.Disks.view in
-    finding-fails (g.E.Stepping.lies (view c.args.disks.now) c.args.database.now) (g.E.Stepping.lies (view c.find.new.disks) c.find.new.self) (g.E.Stepping.left (view c.find.new.disks) c.find.new.self) _
-    (g.E.Stepping.flight c.args.database.now) (g.E.Stepping.flight c.find.new.self) _ start c.args.story.now trace d (λ some. c.in_err-find.ensures.again (not-short _ some)) c.in_err-find.ensures.left
+    finding-fails (g.E.Stepping.on_devices (view c.args.disks.now) c.args.database.now) (g.E.Stepping.on_devices (view c.find.new.disks) c.find.new.self)
+    (g.E.Stepping.flight c.args.database.now) (g.E.Stepping.flight c.find.new.self) _ start c.args.story.now trace d (λ some. c.in_err-find.ensures.again (not-short _ some)) c.in_err-find.ensures.stands
     c.find.ensures.flies c.in_err-find.ensures.later (λ dev is. c.in_err-find.ensures.full dev (ap Err is)))
 
 pub returns-in_err-open_found-clause-err : goal.returns-in_err-open_found-clause-err
@@ -44,7 +44,7 @@ returns-in_err-open_found-clause-err g c =
     rw (p.1, p.2) (λ start trace d.
     let view = g.D.Disks.view in
     c.in_err-open_found.ensures.err start trace
-    (found-down (g.E.Stepping.lies (view c.args.disks.now) c.args.database.now) (g.E.Stepping.lies (view c.find.new.disks) c.find.new.self) (g.E.Stepping.flight c.args.database.now) (g.E.Stepping.flight c.find.new.self)
+    (found-down (g.E.Stepping.on_devices (view c.args.disks.now) c.args.database.now) (g.E.Stepping.on_devices (view c.find.new.disks) c.find.new.self) (g.E.Stepping.flight c.args.database.now) (g.E.Stepping.flight c.find.new.self)
     start c.args.story.now trace d (c.in_ok-find.ensures.again (λ never. cc)) c.find.ensures.flies))
 
 pub returns-in_err-find-clause-counts : goal.returns-in_err-find-clause-counts

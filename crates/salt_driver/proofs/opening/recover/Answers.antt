@@ -6,13 +6,13 @@ use Rattle.salt_model.specs.declared.events.Event.{Event}
 use Rattle.salt_storage.proofs.Staying.{stays-behind, stays-same}
 use Rattle.std.proofs.Common.{subst, sym}
 use Rattle.std.proofs.lemmas.Result.{IfErr-weaker, err_from_is_err_and, on_ok_weaker}
-use Rattle.std.specs.Prelude.{List, None}
+use Rattle.std.specs.Prelude.{List}
 
 pub returns-in_err-push-clause-err : goal.returns-in_err-push-clause-err
 returns-in_err-push-clause-err g c =
     let p = err_from_is_err_and c.from_residual.result c.from_residual.ensures.1 in
     rw (p.1, p.2) (λ start trace h.
-    halted-short (g.E.Stepping.lies (g.D.Disks.view c.args.disks.now) c.args.database.now) (g.E.Stepping.left (g.D.Disks.view c.args.disks.now) c.args.database.now) (g.E.Stepping.fills (g.D.Disks.view c.args.disks.now) c.args.database.now) _ (g.E.Stepping.flight c.args.database.now) c.args.why start trace c.args.story.now c.push.new.self
+    halted-short (g.E.Stepping.on_devices (g.D.Disks.view c.args.disks.now) c.args.database.now) (g.E.Stepping.flight c.args.database.now) c.args.why start trace c.args.story.now c.push.new.self
     c.in_err-push.ensures.err h)
 
 pub returns-in_err-push-clause-counts : goal.returns-in_err-push-clause-counts
@@ -29,29 +29,29 @@ open-requires-clause-down g c =
     let view = g.D.Disks.view in
     let h = c.requires.halted in
     let f =
-    falls-served (g.E.Stepping.lies (view c.args.disks.now) c.args.database.now 0) (g.E.Stepping.left (view c.args.disks.now) c.args.database.now None 0) (g.E.Stepping.fills (view c.args.disks.now) c.args.database.now) (g.E.Stepping.flight c.args.database.now) c.args.why h.0 h.1 c.args.story.now h.2
-    (g.E.Stepping.lies (view c.fall.new.disks) c.fall.new.self) (g.E.Stepping.flight c.fall.new.self) c.push.new.self (c.fall.ensures.lies 0) c.fall.ensures.flies c.in_ok-push.ensures.ok in
+    falls-served (g.E.Stepping.on_devices (view c.args.disks.now) c.args.database.now) (g.E.Stepping.flight c.args.database.now) c.args.why h.0 h.1 c.args.story.now h.2
+    (g.E.Stepping.on_devices (view c.fall.new.disks) c.fall.new.self) (g.E.Stepping.flight c.fall.new.self) c.push.new.self (c.fall.ensures.reopens 0) c.fall.ensures.flies c.in_ok-push.ensures.ok in
     (h.0, f.after, f.down)
 
 pub returns-clause-ok : goal.returns-clause-ok
 returns-clause-ok g c = on_ok_weaker c.open.result (λ done start trace h.
     let view = g.D.Disks.view in
-    let lies = g.E.Stepping.lies (view c.fall.new.disks) c.fall.new.self in
+    let devices = g.E.Stepping.on_devices (view c.fall.new.disks) c.fall.new.self in
     let flies = g.E.Stepping.flight c.fall.new.self in
     let f =
-    falls-served (g.E.Stepping.lies (view c.args.disks.now) c.args.database.now 0) (g.E.Stepping.left (view c.args.disks.now) c.args.database.now None 0) (g.E.Stepping.fills (view c.args.disks.now) c.args.database.now) (g.E.Stepping.flight c.args.database.now) c.args.why start trace c.args.story.now h
-    lies flies c.push.new.self (c.fall.ensures.lies 0) c.fall.ensures.flies c.in_ok-push.ensures.ok in
-    reopens-behind lies lies flies flies start trace c.args.story.now c.push.new.self c.open.new.story f (g.E.Stepping.sees (view c.open.new.disks)) c.open.new.database (done start f.after f.down)) c.open.ensures.ok
+    falls-served (g.E.Stepping.on_devices (view c.args.disks.now) c.args.database.now) (g.E.Stepping.flight c.args.database.now) c.args.why start trace c.args.story.now h
+    devices flies c.push.new.self (c.fall.ensures.reopens 0) c.fall.ensures.flies c.in_ok-push.ensures.ok in
+    reopens-behind devices devices flies flies start trace c.args.story.now c.push.new.self c.open.new.story f (g.E.Stepping.stands_for (view c.open.new.disks)) c.open.new.database (done start f.after f.down)) c.open.ensures.ok
 
 pub returns-clause-err : goal.returns-clause-err
 returns-clause-err g c = IfErr-weaker c.open.result _ _ (λ e broken start trace h.
     let view = g.D.Disks.view in
-    let lies = g.E.Stepping.lies (view c.fall.new.disks) c.fall.new.self in
+    let devices = g.E.Stepping.on_devices (view c.fall.new.disks) c.fall.new.self in
     let flies = g.E.Stepping.flight c.fall.new.self in
     let f =
-    falls-served (g.E.Stepping.lies (view c.args.disks.now) c.args.database.now 0) (g.E.Stepping.left (view c.args.disks.now) c.args.database.now None 0) (g.E.Stepping.fills (view c.args.disks.now) c.args.database.now) (g.E.Stepping.flight c.args.database.now) c.args.why start trace c.args.story.now h
-    lies flies c.push.new.self (c.fall.ensures.lies 0) c.fall.ensures.flies c.in_ok-push.ensures.ok in
-    breaks-behind lies (g.E.Stepping.lies (view c.open.new.disks) c.open.new.database) flies (g.E.Stepping.flight c.open.new.database) start trace c.args.story.now c.push.new.self c.open.new.story f _ _ e
+    falls-served (g.E.Stepping.on_devices (view c.args.disks.now) c.args.database.now) (g.E.Stepping.flight c.args.database.now) c.args.why start trace c.args.story.now h
+    devices flies c.push.new.self (c.fall.ensures.reopens 0) c.fall.ensures.flies c.in_ok-push.ensures.ok in
+    breaks-behind devices (g.E.Stepping.on_devices (view c.open.new.disks) c.open.new.database) flies (g.E.Stepping.flight c.open.new.database) start trace c.args.story.now c.push.new.self c.open.new.story f e
     (broken start f.after f.down)) c.open.ensures.err
 
 pub returns-clause-counts : goal.returns-clause-counts

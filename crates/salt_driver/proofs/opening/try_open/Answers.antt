@@ -1,5 +1,5 @@
 use Rattle.salt_driver.proofs.Counted.{fewer-stops, opening-fallen, short-counts}
-use Rattle.salt_driver.proofs.Falling.{breaks-short, falls-anew, lies-somewhere}
+use Rattle.salt_driver.proofs.Falling.{breaks-short, falls-anew, reopens-somewhere}
 use Rattle.salt_driver.proofs.opening.try_open.Goals as goal
 use Rattle.salt_driver.specs.Counting.{CountsOpening}
 use Rattle.salt_driver.specs.Reopening.{BreaksOpening}
@@ -14,7 +14,7 @@ fall-requires g c =
     let down = c.requires.down in
     let view = g.D.Disks.view c.open_once.new.disks in
     let e = c.open_once.new.database in
-    lies-somewhere (g.E.Stepping.lies view e) (g.E.Stepping.left view e) (g.E.Stepping.fills view e) (g.E.Stepping.flight e) c.in-Err-Stopped.field-0 down.0 down.1 c.args.story.now c.open_once.new.story
+    reopens-somewhere (g.E.Stepping.on_devices view e) (g.E.Stepping.flight e) c.in-Err-Stopped.field-0 down.0 down.1 c.args.story.now c.open_once.new.story
     c.in-Err-Stopped.field-0-is (c.in-Err-Stopped.ensures.err down.0 down.1 down.2)
 
 pub returns-in_err-push-in-Err-Stopped-clause-err : goal.returns-in_err-push-in-Err-Stopped-clause-err
@@ -24,14 +24,14 @@ returns-in_err-push-in-Err-Stopped-clause-err g c =
     let view = g.D.Disks.view c.open_once.new.disks in
     let e = c.open_once.new.database in
     let stop = c.in-Err-Stopped in
-    breaks-short (g.E.Stepping.lies view e) (g.E.Stepping.left view e) (g.E.Stepping.fills view e) (g.E.Stepping.flight e) stop.field-0 start trace c.args.story.now c.open_once.new.story c.push.new.self stop.field-0-is
+    breaks-short (g.E.Stepping.on_devices view e) (g.E.Stepping.flight e) stop.field-0 start trace c.args.story.now c.open_once.new.story c.push.new.self stop.field-0-is
     c.in_err-push-in-Err-Stopped.ensures.err (stop.ensures.err start trace d))
 
 pub returns-in_ok-push-in-Err-Stopped-clause-ok : goal.returns-in_ok-push-in-Err-Stopped-clause-ok
 returns-in_ok-push-in-Err-Stopped-clause-ok g c = λ start trace d.
     let stop = c.in-Err-Stopped in
-    falls-anew (g.E.Stepping.lies (g.D.Disks.view c.open_once.new.disks) c.open_once.new.database) (g.E.Stepping.left (g.D.Disks.view c.open_once.new.disks) c.open_once.new.database) (g.E.Stepping.lies (g.D.Disks.view c.fall.new.disks) c.fall.new.self) (g.E.Stepping.fills (g.D.Disks.view c.open_once.new.disks) c.open_once.new.database) (g.E.Stepping.flight c.open_once.new.database) (g.E.Stepping.flight c.fall.new.self)
-    stop.field-0 start trace c.args.story.now c.open_once.new.story c.push.new.self stop.field-0-is c.fall.ensures.lies c.fall.ensures.flies
+    falls-anew (g.E.Stepping.on_devices (g.D.Disks.view c.open_once.new.disks) c.open_once.new.database) (g.E.Stepping.on_devices (g.D.Disks.view c.fall.new.disks) c.fall.new.self) (g.E.Stepping.flight c.open_once.new.database) (g.E.Stepping.flight c.fall.new.self)
+    stop.field-0 start trace c.args.story.now c.open_once.new.story c.push.new.self stop.field-0-is c.fall.ensures.reopens c.fall.ensures.flies
     c.in_ok-push-in-Err-Stopped.ensures.ok (stop.ensures.err start trace d)
 
 pub returns-in_ok-push-in-Err-Stopped-clause-counts : goal.returns-in_ok-push-in-Err-Stopped-clause-counts
@@ -65,5 +65,5 @@ pub returns-in-Err-clause-err : goal.returns-in-Err-clause-err
 returns-in-Err-clause-err g c = λ start trace d.
     let view = g.D.Disks.view c.open_once.new.disks in
     let e = c.open_once.new.database in
-    subst (λ (x : OpenErr). BreaksOpening (g.E.Stepping.lies view e) (g.E.Stepping.left view e) (g.E.Stepping.fills view e) (g.E.Stepping.flight e) x start trace c.args.story.now c.open_once.new.story)
+    subst (λ (x : OpenErr). BreaksOpening (g.E.Stepping.on_devices view e) (g.E.Stepping.flight e) x start trace c.args.story.now c.open_once.new.story)
     (search rules) (c.in-Err.ensures.err start trace d)

@@ -44,7 +44,7 @@ loop-base-preserved g c =
           let here = known.0 p starts at in
           let sound = sound-on here.moves p here.point starts here.inside here.runs in
           let r = c.in_ok-next.ensures.moves here.point sound here.stands (sym (c.next_turn.ensures here.point sound here.stands.state) ∙ c.in-Some.is) in
-          turn-on (g.E.Stepping.sees (view c.settle-in-Some.new.disks)) c.args.line.now (g.E.Stepping.sees (view c.loop-base.disks)) c.in-Some.base p r.0 c.args.story.now c.loop-base.story c.settle-in-Some.new.story c.loop-base.engine c.settle-in-Some.new.engine here r.1
+          turn-on (g.E.Stepping.stands_for (view c.settle-in-Some.new.disks)) c.args.line.now (g.E.Stepping.stands_for (view c.loop-base.disks)) c.in-Some.base p r.0 c.args.story.now c.loop-base.story c.settle-in-Some.new.story c.loop-base.engine c.settle-in-Some.new.engine here r.1
           (c.in_ok-settle-2.ensures.ok r.0 (sound-moved (Turn c.in-Some.base) here.point r.0 tt sound r.1) r.2),
       count-so-far _ (view c.args.disks.now) (view c.settle-in-Some.new.disks) c.args.first c.args.story.now c.settle-in-Some.new.story
           (count-join _ (view c.args.disks.now) (view c.turn.new.disks) (view c.settle-in-Some.new.disks) None c.args.first c.in_ok-next.next c.args.story.now c.loop-base.story c.settle-in-Some.new.story
@@ -61,7 +61,7 @@ pub returns-clause-ok : goal.returns-clause-ok
 returns-clause-ok g c = λ p starts at.
     let here = c.loop-base.invariant.0 p starts at in
     let sound = sound-on here.moves p here.point starts here.inside here.runs in
-    finish-where (g.E.Stepping.sees (g.D.Disks.view c.loop-base.disks)) c.args.line.now p c.args.story.now c.loop-base.story c.loop-base.engine here
+    finish-where (g.E.Stepping.stands_for (g.D.Disks.view c.loop-base.disks)) c.args.line.now p c.args.story.now c.loop-base.story c.loop-base.engine here
     (sym (c.next_turn.ensures here.point sound here.stands.state) ∙ none-of c.next_turn.result c.in_default.not-Some)
 
 pub returns-clause-counts : goal.returns-clause-counts
@@ -103,7 +103,7 @@ returns-in_err-next-clause-err g c =
     rw (p.1, p.2) (λ p starts at.
     let here = c.loop-base.invariant.0 p starts at in
     let sound = sound-on here.moves p here.point starts here.inside here.runs in
-    stop-turning (g.E.Stepping.sees (g.D.Disks.view c.loop-base.disks)) c.args.line.now _ _ _ _ _ c.in-Some.base p c.args.story.now c.loop-base.story c.loop-base.engine here
+    stop-turning (g.E.Stepping.stands_for (g.D.Disks.view c.loop-base.disks)) c.args.line.now _ _ _ c.in-Some.base p c.args.story.now c.loop-base.story c.loop-base.engine here
     (c.in_err-next.ensures.halts here.point sound here.stands (sym (c.next_turn.ensures here.point sound here.stands.state) ∙ c.in-Some.is)))
 
 pub returns-in_err-next-clause-counts : goal.returns-in_err-next-clause-counts
@@ -119,7 +119,7 @@ returns-in_err-settle-2-clause-err g c =
     let here = c.loop-base.invariant.0 p starts at in
     let sound = sound-on here.moves p here.point starts here.inside here.runs in
     let r = c.in_ok-next.ensures.moves here.point sound here.stands (sym (c.next_turn.ensures here.point sound here.stands.state) ∙ c.in-Some.is) in
-    stop-turned (g.E.Stepping.sees (g.D.Disks.view c.loop-base.disks)) c.args.line.now _ _ _ _ _ c.in-Some.base p r.0 c.args.story.now c.loop-base.story c.settle-in-Some.new.story c.loop-base.engine here r.1
+    stop-turned (g.E.Stepping.stands_for (g.D.Disks.view c.loop-base.disks)) c.args.line.now _ _ _ c.in-Some.base p r.0 c.args.story.now c.loop-base.story c.settle-in-Some.new.story c.loop-base.engine here r.1
     (c.in_err-settle-2.ensures.err r.0 (sound-moved (Turn c.in-Some.base) here.point r.0 tt sound r.1) r.2))
 
 pub returns-in_err-settle-2-clause-counts : goal.returns-in_err-settle-2-clause-counts

@@ -14,16 +14,16 @@ use Rattle.std.specs.Prelude.{None, Option}
 
 pub ask_rejected-requires : goal.ask_rejected-requires
 ask_rejected-requires g c =
-    let sees = g.E.Stepping.sees (g.D.Disks.view c.args.disks.now) in
-    let s = c.requires.stands.2 in (s.point, serves-at sees sees c.requires.stands.0 c.args.engine.now c.args.story.now c.requires.stands.1 s, s.stands)
+    let stands_for = g.E.Stepping.stands_for (g.D.Disks.view c.args.disks.now) in
+    let s = c.requires.stands.2 in (s.point, serves-at stands_for stands_for c.requires.stands.0 c.args.engine.now c.args.story.now c.requires.stands.1 s, s.stands)
 
 pub returns-in_err-first-clause-broken_off : goal.returns-in_err-first-clause-broken_off
 returns-in_err-first-clause-broken_off g c =
     let p = err_from_is_err_and c.from_residual.result c.from_residual.ensures.1 in
     rw (p.1, p.2) (λ start trace s.
-    let old = g.E.Stepping.sees (g.D.Disks.view c.args.disks.now) in
+    let old = g.E.Stepping.stands_for (g.D.Disks.view c.args.disks.now) in
     let sound = serves-at old old start c.args.engine.now c.args.story.now trace s in
-    breaks-untold old old start _ _ _ _ _ trace (Rejected c.args.refusal) c.args.engine.now c.args.story.now s tt (c.in_err-first.ensures.halts s.point sound s.stands))
+    breaks-untold old old start _ _ _ trace (Rejected c.args.refusal) c.args.engine.now c.args.story.now s tt (c.in_err-first.ensures.halts s.point sound s.stands))
 
 pub returns-in_err-first-clause-counts : goal.returns-in_err-first-clause-counts
 returns-in_err-first-clause-counts g c =
@@ -35,26 +35,26 @@ returns-in_err-first-clause-counts g c =
 pub say-requires-clause-stands : goal.say-requires-clause-stands
 say-requires-clause-stands g c =
     let view = g.D.Disks.view in
-    let sees = g.E.Stepping.sees (view c.args.disks.now) in
+    let stands_for = g.E.Stepping.stands_for (view c.args.disks.now) in
     let s = c.requires.stands.2 in
-    let sound = serves-at sees sees c.requires.stands.0 c.args.engine.now c.args.story.now c.requires.stands.1 s in
+    let sound = serves-at stands_for stands_for c.requires.stands.0 c.args.engine.now c.args.story.now c.requires.stands.1 s in
     let r = c.in_ok-first.ensures.moves s.point sound s.stands in (
       r.0,
       sound-asked (Rejected c.args.refusal) s.point r.0 tt sound r.1,
-      subst (λ (o : Option Event). IsAt (g.E.Stepping.sees (view c.ask_rejected.new.disks)) Nothing c.ask_rejected.new.self o r.0) c.in-Some.is r.2,
+      subst (λ (o : Option Event). IsAt (g.E.Stepping.stands_for (view c.ask_rejected.new.disks) c.ask_rejected.new.self) Nothing o r.0) c.in-Some.is r.2,
     )
 
 pub returns-in_ok-say-clause-segment : goal.returns-in_ok-say-clause-segment
 returns-in_ok-say-clause-segment g c = λ start trace s.
     let view = g.D.Disks.view in
-    let old = g.E.Stepping.sees (view c.args.disks.now) in
+    let old = g.E.Stepping.stands_for (view c.args.disks.now) in
     let asked = Rejected c.args.refusal in
     let story = c.args.story.now in
     let sound = serves-at old old start c.args.engine.now story trace s in
     let r = c.in_ok-first.ensures.moves s.point sound s.stands in
-    let at = subst (λ (o : Option Event). IsAt (g.E.Stepping.sees (view c.ask_rejected.new.disks)) Nothing c.ask_rejected.new.self o r.0) c.in-Some.is r.2 in
+    let at = subst (λ (o : Option Event). IsAt (g.E.Stepping.stands_for (view c.ask_rejected.new.disks) c.ask_rejected.new.self) Nothing o r.0) c.in-Some.is r.2 in
     let moved = c.in_ok-say.ensures.moves r.0 (sound-asked asked s.point r.0 tt sound r.1) at in
-    let now = g.E.Stepping.sees (view c.say.new.disks) in
+    let now = g.E.Stepping.stands_for (view c.say.new.disks) in
     goes-by old now start trace asked Nothing c.args.engine.now c.say.new.self story c.say.new.story s r.0 tt r.1
     (refused-whole now c.args.refusal c.in-Some.event s.point r.0 story c.say.new.story c.say.new.self c.in_ok-say.field-0 sound r.1 at.comes moved c.in_ok-say.ensures.tells)
 
@@ -63,26 +63,26 @@ returns-in_err-say-clause-broken_off g c =
     let p = err_from_is_err_and c.from_residual-in_err-say.result c.from_residual-in_err-say.ensures.1 in
     rw (p.1, p.2) (λ start trace s.
     let view = g.D.Disks.view in
-    let old = g.E.Stepping.sees (view c.args.disks.now) in
-    let sees = g.E.Stepping.sees (view c.ask_rejected.new.disks) in
+    let old = g.E.Stepping.stands_for (view c.args.disks.now) in
+    let stands_for = g.E.Stepping.stands_for (view c.ask_rejected.new.disks) in
     let asked = Rejected c.args.refusal in
     let story = c.args.story.now in
     let sound = serves-at old old start c.args.engine.now story trace s in
     let r = c.in_ok-first.ensures.moves s.point sound s.stands in
-    let at = subst (λ (o : Option Event). IsAt sees Nothing c.ask_rejected.new.self o r.0) c.in-Some.is r.2 in
-    breaks-by old old start _ _ _ _ _ trace asked c.args.engine.now story c.say.new.story s r.0 tt r.1
-    (stop-first _ _ _ _ _ c.in-Some.event r.0 story c.say.new.story (c.in_err-say.ensures.halts r.0 (sound-asked asked s.point r.0 tt sound r.1) at)))
+    let at = subst (λ (o : Option Event). IsAt (stands_for c.ask_rejected.new.self) Nothing o r.0) c.in-Some.is r.2 in
+    breaks-by old old start _ _ _ trace asked c.args.engine.now story c.say.new.story s r.0 tt r.1
+    (stop-first _ _ _ c.in-Some.event r.0 story c.say.new.story (c.in_err-say.ensures.halts r.0 (sound-asked asked s.point r.0 tt sound r.1) at)))
 
 pub returns-in_ok-say-clause-unwritten : goal.returns-in_ok-say-clause-unwritten
 returns-in_ok-say-clause-unwritten g c =
-    let old = g.E.Stepping.sees (g.D.Disks.view c.args.disks.now) in
+    let old = g.E.Stepping.stands_for (g.D.Disks.view c.args.disks.now) in
     let s = c.requires.stands.2 in
     let r = c.in_ok-first.ensures.moves s.point (serves-at old old c.requires.stands.0 c.args.engine.now c.args.story.now c.requires.stands.1 s) s.stands in
     c.in_ok-say.ensures.refused c.args.refusal (refused-first c.args.refusal c.in-Some.event s.point r.0 r.1 (r.2.comes ∙ c.in-Some.is)) ∙ c.in_ok-first.ensures.unwritten
 
 pub returns-in_err-say-clause-unwritten : goal.returns-in_err-say-clause-unwritten
 returns-in_err-say-clause-unwritten g c =
-    let old = g.E.Stepping.sees (g.D.Disks.view c.args.disks.now) in
+    let old = g.E.Stepping.stands_for (g.D.Disks.view c.args.disks.now) in
     let s = c.requires.stands.2 in
     let r = c.in_ok-first.ensures.moves s.point (serves-at old old c.requires.stands.0 c.args.engine.now c.args.story.now c.requires.stands.1 s) s.stands in
     c.in_err-say.ensures.refused c.args.refusal (refused-first c.args.refusal c.in-Some.event s.point r.0 r.1 (r.2.comes ∙ c.in-Some.is)) ∙ c.in_ok-first.ensures.unwritten
@@ -90,12 +90,12 @@ returns-in_err-say-clause-unwritten g c =
 pub returns-in_ok-say-clause-counts : goal.returns-in_ok-say-clause-counts
 returns-in_ok-say-clause-counts g c =
     let view = g.D.Disks.view in
-    let old = g.E.Stepping.sees (view c.args.disks.now) in
+    let old = g.E.Stepping.stands_for (view c.args.disks.now) in
     let story = c.args.story.now in
     let s = c.requires.stands.2 in
     let sound = serves-at old old c.requires.stands.0 c.args.engine.now story c.requires.stands.1 s in
     let r = c.in_ok-first.ensures.moves s.point sound s.stands in
-    let at = subst (λ (o : Option Event). IsAt (g.E.Stepping.sees (view c.ask_rejected.new.disks)) Nothing c.ask_rejected.new.self o r.0) c.in-Some.is r.2 in
+    let at = subst (λ (o : Option Event). IsAt (g.E.Stepping.stands_for (view c.ask_rejected.new.disks) c.ask_rejected.new.self) Nothing o r.0) c.in-Some.is r.2 in
     let moved = c.in_ok-say.ensures.moves r.0 (sound-asked (Rejected c.args.refusal) s.point r.0 tt sound r.1) at in
     let idle = refused-done c.args.refusal c.in-Some.event s.point r.0 moved.0 sound r.1 at.comes moved.1 in
     count-all _ (view c.args.disks.now) (view c.say.new.disks) None story c.say.new.story
@@ -108,15 +108,15 @@ returns-in_ok-say-clause-counts g c =
 pub returns-in_err-say-clause-counts : goal.returns-in_err-say-clause-counts
 returns-in_err-say-clause-counts g c =
     let view = g.D.Disks.view in
-    let old = g.E.Stepping.sees (view c.args.disks.now) in
+    let old = g.E.Stepping.stands_for (view c.args.disks.now) in
     let story = c.args.story.now in
     let s = c.requires.stands.2 in
     let sound = serves-at old old c.requires.stands.0 c.args.engine.now story c.requires.stands.1 s in
     let r = c.in_ok-first.ensures.moves s.point sound s.stands in
-    let at = subst (λ (o : Option Event). IsAt (g.E.Stepping.sees (view c.ask_rejected.new.disks)) Nothing c.ask_rejected.new.self o r.0) c.in-Some.is r.2 in
+    let at = subst (λ (o : Option Event). IsAt (g.E.Stepping.stands_for (view c.ask_rejected.new.disks) c.ask_rejected.new.self) Nothing o r.0) c.in-Some.is r.2 in
     let broken = c.in_err-say.ensures.halts r.0 (sound-asked (Rejected c.args.refusal) s.point r.0 tt sound r.1) at in
     let p = err_from_is_err_and c.from_residual-in_err-say.result c.from_residual-in_err-say.ensures.1 in
     rw (p.1, p.2) (count-stop _ (view c.args.disks.now) (view c.ask_rejected.new.disks) (view c.say.new.disks) _ None story story c.say.new.story c.in-Some.event
     (subst (λ (o : Option Event). CountsSoFar Nothing (view c.args.disks.now) (view c.ask_rejected.new.disks) None story story o) c.in-Some.is
     (count-turn _ (view c.args.disks.now) (view c.args.disks.now) (view c.ask_rejected.new.disks) None story story c.in_ok-first.first (count-none _ (view c.args.disks.now) None story) c.in_ok-first.ensures.counts))
-    c.in_err-say.ensures.counts (broken-by _ _ _ _ _ r.0 c.in-Some.event story c.say.new.story broken))
+    c.in_err-say.ensures.counts (broken-by _ _ _ r.0 c.in-Some.event story c.say.new.story broken))

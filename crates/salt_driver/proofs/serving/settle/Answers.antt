@@ -14,7 +14,7 @@ use Rattle.std.specs.Prelude.{Some, refl, ◌<◌}
 
 pub loop-next-init : goal.loop-next-init
 loop-next-init g c = (
-  λ p sound at. advance-none (g.E.Stepping.sees (g.D.Disks.view c.args.disks.now)) c.args.line.now p c.args.story.now c.args.engine.now c.args.first at,
+  λ p sound at. advance-none (g.E.Stepping.stands_for (g.D.Disks.view c.args.disks.now)) c.args.line.now p c.args.story.now c.args.engine.now c.args.first at,
   count-none _ (g.D.Disks.view c.args.disks.now) c.args.first c.args.story.now,
   omega arith,
   stays-same (g.E.Stepping.asked c.args.engine.now) (g.D.Disks.view c.args.disks.now),
@@ -26,7 +26,7 @@ say-requires-clause-stands g c =
     let here = c.loop-next.invariant.0 c.requires.stands.0 c.requires.stands.1 c.requires.stands.2 in (
       here.point,
       sound-on here.moves c.requires.stands.0 here.point c.requires.stands.1 here.inside here.runs,
-      subst (λ o. IsAt (g.E.Stepping.sees (g.D.Disks.view c.loop-next.disks)) c.args.line.now c.loop-next.engine o here.point) c.in-Some.is here.stands,
+      subst (λ o. IsAt (g.E.Stepping.stands_for (g.D.Disks.view c.loop-next.disks) c.loop-next.engine) c.args.line.now o here.point) c.in-Some.is here.stands,
     )
 
 pub loop-next-smaller : goal.loop-next-smaller
@@ -40,14 +40,14 @@ loop-next-preserved g c =
     let line = c.args.line.now in
     let known = c.loop-next.invariant in
     let first = known.0 c.requires.stands.0 c.requires.stands.1 c.requires.stands.2 in
-    let at = subst (λ o. IsAt (g.E.Stepping.sees (view c.loop-next.disks)) line c.loop-next.engine o first.point) c.in-Some.is first.stands in
+    let at = subst (λ o. IsAt (g.E.Stepping.stands_for (view c.loop-next.disks) c.loop-next.engine) line o first.point) c.in-Some.is first.stands in
     let moved = c.in_ok-next.ensures.moves first.point (sound-on first.moves c.requires.stands.0 first.point c.requires.stands.1 first.inside first.runs) at in (
       λ p sound starts.
           let here =
-          subst (λ o. Advances (g.E.Stepping.sees (view c.loop-next.disks)) line p c.args.story.now c.loop-next.engine o c.loop-next.story) c.in-Some.is (known.0 p sound starts) in
+          subst (λ o. Advances (g.E.Stepping.stands_for (view c.loop-next.disks) c.loop-next.engine) line p c.args.story.now o c.loop-next.story) c.in-Some.is (known.0 p sound starts) in
           let r = c.in_ok-next.ensures.moves here.point (sound-on here.moves p here.point sound here.inside here.runs) here.stands in
-          advance-on (g.E.Stepping.sees (view c.say.new.disks)) line (g.E.Stepping.sees (view c.loop-next.disks)) p c.args.story.now c.loop-next.story c.say.new.story c.loop-next.engine c.say.new.self (Some c.in-Some.event) c.in_ok-next.next here
-          (advance-once (g.E.Stepping.sees (view c.say.new.disks)) line (Say c.in-Some.event) tt here.point r.0 c.loop-next.story c.say.new.story c.say.new.self c.in_ok-next.next r.1 r.2 c.in_ok-next.ensures.tells),
+          advance-on (g.E.Stepping.stands_for (view c.say.new.disks)) line (g.E.Stepping.stands_for (view c.loop-next.disks)) p c.args.story.now c.loop-next.story c.say.new.story c.loop-next.engine c.say.new.self (Some c.in-Some.event) c.in_ok-next.next here
+          (advance-once (g.E.Stepping.stands_for (view c.say.new.disks)) line (Say c.in-Some.event) tt here.point r.0 c.loop-next.story c.say.new.story c.say.new.self c.in_ok-next.next r.1 r.2 c.in_ok-next.ensures.tells),
       count-on _ (view c.args.disks.now) (view c.loop-next.disks) (view c.say.new.disks) c.args.first c.args.story.now c.loop-next.story c.say.new.story c.in-Some.event c.in_ok-next.next
           (subst (λ o. CountsSoFar c.args.line.now (view c.args.disks.now) (view c.loop-next.disks) c.args.first c.args.story.now c.loop-next.story o) c.in-Some.is known.1)
           c.in_ok-next.ensures.counts moved.1.1 c.in_ok-next.ensures.tells,
@@ -63,7 +63,7 @@ loop-next-preserved g c =
 
 pub returns-clause-ok : goal.returns-clause-ok
 returns-clause-ok g c = λ p sound starts.
-    subst (λ o. Advances (g.E.Stepping.sees (g.D.Disks.view c.loop-next.disks)) c.args.line.now p c.args.story.now c.loop-next.engine o c.loop-next.story)
+    subst (λ o. Advances (g.E.Stepping.stands_for (g.D.Disks.view c.loop-next.disks) c.loop-next.engine) c.args.line.now p c.args.story.now o c.loop-next.story)
     (none-of c.loop-next.next c.in_default.not-Some) (c.loop-next.invariant.0 p sound starts)
 
 pub returns-clause-turns : goal.returns-clause-turns
@@ -88,11 +88,11 @@ pub returns-in_err-next-clause-err : goal.returns-in_err-next-clause-err
 returns-in_err-next-clause-err g c =
     let p = err_from_is_err_and c.from_residual.result c.from_residual.ensures.1 in
     rw (p.1, p.2) (λ p sound at.
-    let sees = g.E.Stepping.sees (g.D.Disks.view c.loop-next.disks) in
+    let stands_for = g.E.Stepping.stands_for (g.D.Disks.view c.loop-next.disks) in
     let line = c.args.line.now in
     let here =
-    subst (λ o. Advances sees line p c.args.story.now c.loop-next.engine o c.loop-next.story) c.in-Some.is (c.loop-next.invariant.0 p sound at) in
-    stop-saying sees line _ _ _ _ _ c.loop-next.engine c.in-Some.event p c.args.story.now c.loop-next.story c.say.new.story here
+    subst (λ o. Advances (stands_for c.loop-next.engine) line p c.args.story.now o c.loop-next.story) c.in-Some.is (c.loop-next.invariant.0 p sound at) in
+    stop-saying stands_for line _ _ _ c.loop-next.engine c.in-Some.event p c.args.story.now c.loop-next.story c.say.new.story here
     (c.in_err-next.ensures.halts here.point (sound-on here.moves p here.point sound here.inside here.runs) here.stands))
 
 pub returns-in_err-next-clause-counts : goal.returns-in_err-next-clause-counts
@@ -101,12 +101,12 @@ returns-in_err-next-clause-counts g c =
     let line = c.args.line.now in
     let known = c.loop-next.invariant in
     let here = known.0 c.requires.stands.0 c.requires.stands.1 c.requires.stands.2 in
-    let at = subst (λ o. IsAt (g.E.Stepping.sees (view c.loop-next.disks)) line c.loop-next.engine o here.point) c.in-Some.is here.stands in
+    let at = subst (λ o. IsAt (g.E.Stepping.stands_for (view c.loop-next.disks) c.loop-next.engine) line o here.point) c.in-Some.is here.stands in
     let broken = c.in_err-next.ensures.halts here.point (sound-on here.moves c.requires.stands.0 here.point c.requires.stands.1 here.inside here.runs) at in
     let p = err_from_is_err_and c.from_residual.result c.from_residual.ensures.1 in
     rw (p.1, p.2) (count-stop _ (view c.args.disks.now) (view c.loop-next.disks) (view c.say.new.disks) _ c.args.first c.args.story.now c.loop-next.story c.say.new.story c.in-Some.event
     (subst (λ o. CountsSoFar c.args.line.now (view c.args.disks.now) (view c.loop-next.disks) c.args.first c.args.story.now c.loop-next.story o) c.in-Some.is known.1)
-    c.in_err-next.ensures.counts (broken-by _ _ _ _ _ here.point c.in-Some.event c.loop-next.story c.say.new.story broken))
+    c.in_err-next.ensures.counts (broken-by _ _ _ here.point c.in-Some.event c.loop-next.story c.say.new.story broken))
 
 pub returns-in_err-next-clause-within : goal.returns-in_err-next-clause-within
 returns-in_err-next-clause-within g c = stays-behind c.loop-next.invariant.3 c.in_err-next.ensures.within

@@ -9,8 +9,8 @@ use Rattle.std.specs.Prelude.{None, Some, ◌≡◌, ◌≤◌, ◌⊎◌}
 
 abbrev pub invariant-loop-next : goal.invariant-loop-next
 invariant-loop-next g l =
-    ((p : Point) → IsSoundPoint p → IsAt (g.E.Stepping.sees (g.D.Disks.view l.initial.disks)) l.line l.initial.engine l.initial.next p →
-    Advances (g.E.Stepping.sees (g.D.Disks.view l.disks)) l.line p l.initial.story l.engine l.next l.story)
+    ((p : Point) → IsSoundPoint p → IsAt (g.E.Stepping.stands_for (g.D.Disks.view l.initial.disks) l.initial.engine) l.line l.initial.next p →
+    Advances (g.E.Stepping.stands_for (g.D.Disks.view l.disks) l.engine) l.line p l.initial.story l.next l.story)
     × CountsSoFar l.line (g.D.Disks.view l.initial.disks) (g.D.Disks.view l.disks) l.initial.next l.initial.story l.story l.next
     × (g.E.Stepping.turns l.engine ≤ g.E.Stepping.turns l.initial.engine)
     × StaysWithin (g.E.Stepping.asked l.initial.engine) (g.E.Stepping.asked l.engine) (g.D.Disks.view l.initial.disks) (g.D.Disks.view l.disks)

@@ -13,41 +13,41 @@ use Rattle.std.specs.Prelude.{None, Ok}
 
 pub ask-requires-clause-stands : goal.ask-requires-clause-stands
 ask-requires-clause-stands g c =
-    let sees = g.E.Stepping.sees (g.D.Disks.view c.args.disks.now) in
-    let s = c.requires.stands.2 in (s.point, serves-at sees sees c.requires.stands.0 c.args.engine.now c.args.story.now c.requires.stands.1 s, s.stands)
+    let stands_for = g.E.Stepping.stands_for (g.D.Disks.view c.args.disks.now) in
+    let s = c.requires.stands.2 in (s.point, serves-at stands_for stands_for c.requires.stands.0 c.args.engine.now c.args.story.now c.requires.stands.1 s, s.stands)
 
 pub finish-requires-clause-stands : goal.finish-requires-clause-stands
 finish-requires-clause-stands g c =
-    let sees = g.E.Stepping.sees (g.D.Disks.view c.args.disks.now) in
+    let stands_for = g.E.Stepping.stands_for (g.D.Disks.view c.args.disks.now) in
     let s = c.requires.stands.2 in
-    let sound = serves-at sees sees c.requires.stands.0 c.args.engine.now c.args.story.now c.requires.stands.1 s in
+    let sound = serves-at stands_for stands_for c.requires.stands.0 c.args.engine.now c.args.story.now c.requires.stands.1 s in
     let r = c.in_ok-first.ensures.moves s.point sound s.stands in
     (r.0, sound-asked (Tree c.args.line.now) s.point r.0 c.requires.key sound r.1, r.2)
 
 pub returns-clause-segment : goal.returns-clause-segment
 returns-clause-segment g c = on_ok_weaker c.finish.result (λ done start trace s.
     let view = g.D.Disks.view in
-    let old = g.E.Stepping.sees (view c.args.disks.now) in
+    let old = g.E.Stepping.stands_for (view c.args.disks.now) in
     let asked = Tree c.args.line.now in
     let sound = serves-at old old start c.args.engine.now c.args.story.now trace s in
     let r = c.in_ok-first.ensures.moves s.point sound s.stands in
-    goes-by old (g.E.Stepping.sees (view c.finish.new.disks)) start trace asked c.args.line.now c.args.engine.now c.finish.new.engine c.args.story.now c.finish.new.story s r.0 c.requires.key r.1
+    goes-by old (g.E.Stepping.stands_for (view c.finish.new.disks)) start trace asked c.args.line.now c.args.engine.now c.finish.new.engine c.args.story.now c.finish.new.story s r.0 c.requires.key r.1
     (done r.0 (sound-asked asked s.point r.0 c.requires.key sound r.1) r.2)) c.finish.ensures.ok
 
 pub returns-clause-broken_off : goal.returns-clause-broken_off
 returns-clause-broken_off g c = IfErr-weaker c.finish.result _ _ (λ halt stopped start trace s.
     let view = g.D.Disks.view in
-    let old = g.E.Stepping.sees (view c.args.disks.now) in
+    let old = g.E.Stepping.stands_for (view c.args.disks.now) in
     let asked = Tree c.args.line.now in
     let sound = serves-at old old start c.args.engine.now c.args.story.now trace s in
     let r = c.in_ok-first.ensures.moves s.point sound s.stands in
-    breaks-by old old start (g.E.Stepping.lies (view c.finish.new.disks) c.finish.new.engine 0) (g.E.Stepping.left (view c.finish.new.disks) c.finish.new.engine None 0) (g.E.Stepping.fills (view c.finish.new.disks) c.finish.new.engine) (g.E.Stepping.flight c.finish.new.engine) halt trace asked c.args.engine.now c.args.story.now c.finish.new.story s r.0 c.requires.key r.1
+    breaks-by old old start (g.E.Stepping.on_devices (view c.finish.new.disks) c.finish.new.engine) (g.E.Stepping.flight c.finish.new.engine) halt trace asked c.args.engine.now c.args.story.now c.finish.new.story s r.0 c.requires.key r.1
     (stopped r.0 (sound-asked asked s.point r.0 c.requires.key sound r.1) r.2)) c.finish.ensures.err
 
 pub returns-clause-refused : goal.returns-clause-refused
 returns-clause-refused g c = λ refusal told.
     let view = g.D.Disks.view in
-    let old = g.E.Stepping.sees (view c.args.disks.now) in
+    let old = g.E.Stepping.stands_for (view c.args.disks.now) in
     let new = view c.finish.new.disks in
     let e = c.finish.new.engine in
     let asked = Tree c.args.line.now in
@@ -56,7 +56,7 @@ returns-clause-refused g c = λ refusal told.
     let sound = serves-at old old c.requires.stands.0 c.args.engine.now story c.requires.stands.1 s in
     let r = c.in_ok-first.ensures.moves s.point sound s.stands in
     let begun = sound-asked asked s.point r.0 c.requires.key sound r.1 in
-    let gain = gains (g.E.Stepping.sees new) c.args.line.now (g.E.Stepping.lies new e 0) (g.E.Stepping.left new e None 0) (g.E.Stepping.fills new e) (g.E.Stepping.flight e) r.0 story c.finish.new.story e
+    let gain = gains (g.E.Stepping.stands_for new) c.args.line.now (g.E.Stepping.on_devices new e) (g.E.Stepping.flight e) r.0 story c.finish.new.story e
     c.finish.result (on_ok_weaker c.finish.result (λ done. done r.0 begun r.2) c.finish.ensures.ok) (IfErr-weaker c.finish.result _ _ (λ halt stopped. stopped r.0 begun r.2) c.finish.ensures.err) in
     let comes = gained-first refusal r.0 story c.finish.new.story begun r.2.serves gain told in
     let first = sym r.2.comes ∙ comes in
@@ -81,9 +81,9 @@ pub returns-in_err-first-clause-broken_off : goal.returns-in_err-first-clause-br
 returns-in_err-first-clause-broken_off g c =
     let p = err_from_is_err_and c.from_residual.result c.from_residual.ensures.1 in
     rw (p.1, p.2) (λ start trace s.
-    let old = g.E.Stepping.sees (g.D.Disks.view c.args.disks.now) in
+    let old = g.E.Stepping.stands_for (g.D.Disks.view c.args.disks.now) in
     let sound = serves-at old old start c.args.engine.now c.args.story.now trace s in
-    breaks-untold old old start _ _ _ _ _ trace (Tree c.args.line.now) c.args.engine.now c.args.story.now s c.requires.key (c.in_err-first.ensures.halts s.point sound s.stands))
+    breaks-untold old old start _ _ _ trace (Tree c.args.line.now) c.args.engine.now c.args.story.now s c.requires.key (c.in_err-first.ensures.halts s.point sound s.stands))
 
 pub returns-in_err-first-clause-counts : goal.returns-in_err-first-clause-counts
 returns-in_err-first-clause-counts g c =

@@ -16,7 +16,7 @@ returns-in-Err-clause-ok g c =
     ok-resumed c.in-Err.halt (view c.ask_line.new.disks) (view c.resume.new.disks) c.ask_line.new.story c.resume.new.story c.resume.result
     (λ reopens some counts start trace s.
     let b = c.in-Err.ensures.err start trace s in
-    continues-behind _ _ _ _ c.in-Err.halt start trace _ _ _ _ (view c.args.disks.now) (view c.ask_line.new.disks) (view c.resume.new.disks) b _ _ some counts (reopens start b.after b.halts))
+    continues-behind _ _ c.in-Err.halt start trace _ _ _ _ (view c.args.disks.now) (view c.ask_line.new.disks) (view c.resume.new.disks) b _ some counts (reopens start b.after b.halts))
     c.resume.ensures.ok c.resume.ensures.memory c.resume.ensures.counts
 
 pub returns-in-Err-clause-err : goal.returns-in-Err-clause-err
@@ -25,7 +25,7 @@ returns-in-Err-clause-err g c =
     err-resumed c.in-Err.halt (view c.ask_line.new.disks) (view c.resume.new.disks) c.ask_line.new.story c.resume.new.story c.resume.result _ _
     (λ stop ends later counts start trace s.
     let b = c.in-Err.ensures.err start trace s in
-    ends-behind _ _ _ _ c.in-Err.halt start trace _ _ _ _ (view c.args.disks.now) (view c.ask_line.new.disks) (view c.resume.new.disks) b _ _ _ _ stop counts (ends start b.after b.halts))
+    ends-behind _ _ c.in-Err.halt start trace _ _ _ _ (view c.args.disks.now) (view c.ask_line.new.disks) (view c.resume.new.disks) b _ _ stop counts (ends start b.after b.halts))
     c.resume.ensures.err c.resume.ensures.later c.resume.ensures.counts
 
 pub returns-in-Err-clause-within : goal.returns-in-Err-clause-within

@@ -18,12 +18,10 @@ pub returns-in-Err-clause-err : goal.returns-in-Err-clause-err
 returns-in-Err-clause-err g c = λ start trace h.
     let view = g.D.Disks.view c.recover.new.disks in
     let e = c.recover.new.database in
-    let lies = g.E.Stepping.lies view e in
-    let left = g.E.Stepping.left view e in
-    let fills = g.E.Stepping.fills view e in
+    let devices = g.E.Stepping.on_devices view e in
     let flies = g.E.Stepping.flight e in
-    subst (λ (s : Stop). EndsBehind lies left fills flies (halt_of c.args.why) s start trace c.args.story.now c.recover.new.story) (sym c.stop_opening.ensures.is)
-    (ends-opening lies left fills flies c.in-Err.e start trace c.args.story.now c.recover.new.story (c.in-Err.ensures.err start trace h) (halt_of c.args.why) (no-short-fall c.args.why))
+    subst (λ (s : Stop). EndsBehind devices flies (halt_of c.args.why) s start trace c.args.story.now c.recover.new.story) (sym c.stop_opening.ensures.is)
+    (ends-opening devices flies c.in-Err.e start trace c.args.story.now c.recover.new.story (c.in-Err.ensures.err start trace h) (halt_of c.args.why) (no-short-fall c.args.why))
 
 pub returns-in-Err-clause-later : goal.returns-in-Err-clause-later
 returns-in-Err-clause-later g c =

@@ -19,7 +19,7 @@ schema-requires g c =
     let s = c.requires.stands in
     record {
       left =
-          left-there (g.E.Stepping.sees now) (g.E.Stepping.lies now e) (g.E.Stepping.left now e) (g.E.Stepping.fills now e) (g.E.Stepping.flight e) e c.stands.ensures.idle c.stands.ensures.flown c.stands.ensures.left c.stands.ensures.told
+          left-there (g.E.Stepping.stands_for now) (g.E.Stepping.on_devices now e) (g.E.Stepping.flight e) e c.stands.ensures.idle c.stands.ensures.flown c.stands.ensures.reopens c.stands.ensures.told
           s.0 c.do_line-done.new.story c.do_line-done.result (on_ok_weaker c.do_line-done.result (λ done. let d = done s.0 s.1 s.2 in (d.after, d.serves)) c.do_line-done.ensures.ok)
           (IfErr-weaker c.do_line-done.result _ _ (λ stop done. let d = done s.0 s.1 s.2 in (d.after, d.ends)) c.do_line-done.ensures.err);
     }
@@ -29,8 +29,8 @@ returns-clause-ok g c =
     let view = g.D.Disks.view in
     let now = view c.do_line-done.new.disks in
     let e = c.do_line-done.new.database in
-    told-ok (g.E.Stepping.sees (view c.args.disks.now)) (g.E.Stepping.sees now) (g.E.Stepping.lies now e) (g.E.Stepping.left now e) (g.E.Stepping.fills now e) (g.E.Stepping.flight e) c.args.database.now e
-    c.stands.ensures.idle c.stands.ensures.flown c.stands.ensures.left c.stands.ensures.told c.schema.result.now c.schema.ensures.serves c.schema.ensures.lies (option_copied c.args.text) c.args.story.now c.do_line-done.new.story c.events_behind.result.now
+    told-ok (g.E.Stepping.stands_for (view c.args.disks.now)) (g.E.Stepping.stands_for now) (g.E.Stepping.on_devices now e) (g.E.Stepping.flight e) c.args.database.now e
+    c.stands.ensures.idle c.stands.ensures.flown c.stands.ensures.reopens c.stands.ensures.told c.schema.result.now c.schema.ensures.serves c.schema.ensures.down (option_copied c.args.text) c.args.story.now c.do_line-done.new.story c.events_behind.result.now
     (g.K.Sink.held c.args.sink.now) (g.K.Sink.held c.write_done.new.sink) (c.events_behind.ensures ∙ ap (λ n. drop n c.do_line-done.new.story) c.len-told.ensures) (view c.args.disks.now).armed now.armed c.do_line-done.result c.write_done.result c.do_line-done.ensures.ok c.write_done.ensures.written
 
 pub returns-clause-err : goal.returns-clause-err
@@ -38,8 +38,8 @@ returns-clause-err g c =
     let view = g.D.Disks.view in
     let now = view c.do_line-done.new.disks in
     let e = c.do_line-done.new.database in
-    told-err (g.E.Stepping.sees (view c.args.disks.now)) (g.E.Stepping.sees now) (g.E.Stepping.lies now e) (g.E.Stepping.left now e) (g.E.Stepping.fills now e) (g.E.Stepping.flight e) c.args.database.now e
-    c.stands.ensures.idle c.stands.ensures.flown c.stands.ensures.left c.stands.ensures.told c.schema.result.now c.schema.ensures.serves c.schema.ensures.lies (option_copied c.args.text) c.args.story.now c.do_line-done.new.story c.events_behind.result.now
+    told-err (g.E.Stepping.stands_for (view c.args.disks.now)) (g.E.Stepping.stands_for now) (g.E.Stepping.on_devices now e) (g.E.Stepping.flight e) c.args.database.now e
+    c.stands.ensures.idle c.stands.ensures.flown c.stands.ensures.reopens c.stands.ensures.told c.schema.result.now c.schema.ensures.serves c.schema.ensures.down (option_copied c.args.text) c.args.story.now c.do_line-done.new.story c.events_behind.result.now
     (g.K.Sink.held c.args.sink.now) (g.K.Sink.held c.write_done.new.sink) (c.events_behind.ensures ∙ ap (λ n. drop n c.do_line-done.new.story) c.len-told.ensures) (view c.args.disks.now).armed now.armed c.do_line-done.result c.write_done.result c.do_line-done.ensures.ok c.do_line-done.ensures.err c.do_line-done.ensures.later
     c.write_done.ensures.written
 

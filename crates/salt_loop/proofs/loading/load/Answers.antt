@@ -16,7 +16,7 @@ pub returns-in-Err-clause-ended : goal.returns-in-Err-clause-ended
 returns-in-Err-clause-ended g c = λ start trace begins first is.
     let now = g.D.Disks.view c.start.new.disks in
     let e = c.start.new.database in
-    not-begun (g.E.Stepping.lies now e) (g.E.Stepping.left now e) (g.E.Stepping.fills now e) (g.E.Stepping.flight e) c.args.calls start trace c.args.story.now c.start.new.story (g.D.Disks.view c.args.disks.now) now
+    not-begun (g.E.Stepping.on_devices now e) (g.E.Stepping.flight e) c.args.calls start trace c.args.story.now c.start.new.story (g.D.Disks.view c.args.disks.now) now
     c.in-Err.stop c.in-Err.ensures.later begins.unasked c.in-Err.ensures.counts (c.in-Err.ensures.err start trace begins.down) first is
 
 pub returns-in-Err-clause-counts : goal.returns-in-Err-clause-counts
@@ -29,7 +29,7 @@ loop-i-init g c =
     let view = g.D.Disks.view in
     record {
       over = λ start trace begins first is.
-          loading-begun (g.E.Stepping.sees (view c.start.new.disks)) c.args.calls start trace c.start.new.database c.args.story.now c.start.new.story (view c.args.disks.now) (view c.start.new.disks) begins.unasked
+          loading-begun (g.E.Stepping.stands_for (view c.start.new.disks)) c.args.calls start trace c.start.new.database c.args.story.now c.start.new.story (view c.args.disks.now) (view c.start.new.disks) begins.unasked
           (subst (λ (s : Status). CountsOpening (view c.args.disks.now) (view c.start.new.disks) (answer_of s) c.args.story.now c.start.new.story) (done-outcome c.start.result c.in_default.not-Err) c.start.ensures.counts)
           (was-ok c.start.result _ c.in_default.not-Err c.start.ensures.ok start trace begins.down) first is;
       within = c.start.ensures.within;
@@ -68,8 +68,8 @@ pub returns-clause-ended : goal.returns-clause-ended
 returns-clause-ended g c = λ start trace begins first is.
     let now = g.D.Disks.view c.loop-i.disks in
     let e = c.loop-i.database in
-    all-loaded (g.E.Stepping.sees now) start c.args.calls c.loop-i.i e c.loop-i.story first now.armed (c.loop-i.invariant.over start trace begins first is) (g.E.Stepping.lies now e) (g.E.Stepping.left now e) (g.E.Stepping.fills now e)
-    (g.E.Stepping.flight e) c.stands.ensures.idle c.stands.ensures.flown c.stands.ensures.left (omega arith) c.line_count.result c.line_count.ensures
+    all-loaded (g.E.Stepping.stands_for now) start c.args.calls c.loop-i.i e c.loop-i.story first now.armed (c.loop-i.invariant.over start trace begins first is) (g.E.Stepping.on_devices now e)
+    (g.E.Stepping.flight e) c.stands.ensures.idle c.stands.ensures.flown c.stands.ensures.reopens (omega arith) c.line_count.result c.line_count.ensures
 
 pub returns-clause-within : goal.returns-clause-within
 returns-clause-within g c = c.loop-i.invariant.within

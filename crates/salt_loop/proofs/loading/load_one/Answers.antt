@@ -26,7 +26,7 @@ returns-in-Ok-clause-ok g c = λ start first loading.
     let old = g.D.Disks.view c.args.disks.now in
     let now = g.D.Disks.view c.step.new.disks in
     let goes = c.in-Ok.ensures.segment start loading.trace loading.serves in
-    line-loaded (g.E.Stepping.sees old) start c.args.calls c.args.i c.args.database.now c.args.story.now first old.armed loading c.args.line.now c.requires.within c.requires.is (g.E.Stepping.sees now) c.step.new.engine
+    line-loaded (g.E.Stepping.stands_for old) start c.args.calls c.args.i c.args.database.now c.args.story.now first old.armed loading c.args.line.now c.requires.within c.requires.is (g.E.Stepping.stands_for now) c.step.new.engine
     c.step.new.story now.armed goes
     (line-stays c.args.line.now old now c.args.story.now c.step.new.story loading.trace goes.after goes.grows goes.armed c.in-Ok.ensures.counts)
 
@@ -44,8 +44,8 @@ returns-in-Err-clause-ok g c =
     ok-resumed c.in-Err.halt mid now c.step.new.story c.resume.new.story c.resume.result (λ reopens some counts start first loading.
     let b = c.in-Err.ensures.broken_off start loading.trace loading.serves in
     let r = reopens start b.after b.halts in
-    loaded-behind (g.E.Stepping.sees old) start c.args.calls c.args.i c.args.database.now c.args.story.now first old.armed loading c.args.line.now c.requires.within c.requires.is _ _ _ _ c.in-Err.halt c.step.new.story
-    c.resume.new.story b now.armed (g.E.Stepping.sees now) c.resume.new.database some r
+    loaded-behind (g.E.Stepping.stands_for old) start c.args.calls c.args.i c.args.database.now c.args.story.now first old.armed loading c.args.line.now c.requires.within c.requires.is _ _ c.in-Err.halt c.step.new.story
+    c.resume.new.story b now.armed (g.E.Stepping.stands_for now) c.resume.new.database some r
     (stays-resumed loading.trace b.after c.step.new.story c.resume.new.story old mid now r.after r.grows r.along.armed c.in-Err.halt
     (line-halts c.args.line.now old mid c.args.story.now c.step.new.story loading.trace b.after b.grows b.armed (disk_err_of c.in-Err.halt) c.in-Err.ensures.counts) counts))
     c.resume.ensures.ok c.resume.ensures.memory c.resume.ensures.counts
@@ -58,8 +58,8 @@ returns-in-Err-clause-err g c =
     err-resumed c.in-Err.halt mid now c.step.new.story c.resume.new.story c.resume.result _ _ (λ stop ends later counts start first loading.
     let b = c.in-Err.ensures.broken_off start loading.trace loading.serves in
     let x = ends start b.after b.halts in
-    ends-loading (g.E.Stepping.sees old) start c.args.calls c.args.i c.args.database.now c.args.story.now first old.armed loading c.args.line.now c.requires.within c.requires.is _ _ _ _ c.in-Err.halt c.step.new.story
-    c.resume.new.story b now.armed _ _ _ _ stop later x
+    ends-loading (g.E.Stepping.stands_for old) start c.args.calls c.args.i c.args.database.now c.args.story.now first old.armed loading c.args.line.now c.requires.within c.requires.is _ _ c.in-Err.halt c.step.new.story
+    c.resume.new.story b now.armed _ _ stop later x
     (ends-resumed loading.trace b.after c.step.new.story c.resume.new.story old mid now x.after x.grows x.along.armed c.in-Err.halt
     (line-halts c.args.line.now old mid c.args.story.now c.step.new.story loading.trace b.after b.grows b.armed (disk_err_of c.in-Err.halt) c.in-Err.ensures.counts) (status_of stop) counts))
     c.resume.ensures.err c.resume.ensures.later c.resume.ensures.counts

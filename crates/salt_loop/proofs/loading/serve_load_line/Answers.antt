@@ -14,8 +14,8 @@ returns-in_err-line-clause-err g c =
     let v = g.D.Disks.view c.args.disks.now in
     let e = c.args.database.now in
     if_err_gives c.from_residual.result Memory _ c.from_residual.ensures.1 (λ start first loading.
-    short-loading (g.E.Stepping.sees v) start c.args.calls c.args.i e c.args.story.now first v.armed loading (g.E.Stepping.lies v e) (g.E.Stepping.left v e) (g.E.Stepping.fills v e) (g.E.Stepping.flight e)
-    c.stands.ensures.idle c.stands.ensures.flown c.stands.ensures.left (c.args.i + 1))
+    short-loading (g.E.Stepping.stands_for v) start c.args.calls c.args.i e c.args.story.now first v.armed loading (g.E.Stepping.on_devices v e) (g.E.Stepping.flight e)
+    c.stands.ensures.idle c.stands.ensures.flown c.stands.ensures.reopens (c.args.i + 1))
 
 pub returns-in_err-line-clause-counts : goal.returns-in_err-line-clause-counts
 returns-in_err-line-clause-counts g c =

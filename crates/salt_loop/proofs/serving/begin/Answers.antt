@@ -9,6 +9,7 @@ use Rattle.salt_loop.proofs.Leaving.{left-there}
 use Rattle.salt_loop.proofs.Outcomes.{err-for-all, ok-for-all}
 use Rattle.salt_loop.proofs.Texts.{counts-written, of-devices}
 use Rattle.salt_loop.proofs.serving.begin.Goals as goal
+use Rattle.salt_loop.specs.Run.{script_run, streams}
 use Rattle.salt_loop.specs.Counted.{CountsAdded}
 use Rattle.salt_loop.specs.Ending.{EndsServing}
 use Rattle.salt_loop.specs.Serving.{EndsWriting, IsBegun, IsToBegin}
@@ -30,7 +31,7 @@ schema-requires g c =
     let b = c.requires.begins in
     record {
       left =
-          left-there (g.E.Stepping.sees now) (g.E.Stepping.lies now e) (g.E.Stepping.left now e) (g.E.Stepping.fills now e) (g.E.Stepping.flight e) e c.stands.ensures.idle c.stands.ensures.flown c.stands.ensures.left c.stands.ensures.told
+          left-there (g.E.Stepping.stands_for now) (g.E.Stepping.on_devices now e) (g.E.Stepping.flight e) e c.stands.ensures.idle c.stands.ensures.flown c.stands.ensures.reopens c.stands.ensures.told
           b.0 c.start-done.new.story c.start-done.result (on_ok_weaker c.start-done.result (λ opened. let o = opened b.0 b.1 b.2.down in (o.after, o.serves)) c.start-done.ensures.ok)
           (IfErr-weaker c.start-done.result _ _ (λ stop ends. let x = ends b.0 b.1 b.2.down in (x.after, x.ends)) c.start-done.ensures.err);
     }
@@ -40,10 +41,10 @@ returns-clause-ok g c =
     let old = g.D.Disks.view c.args.disks.now in
     let now = g.D.Disks.view c.start-done.new.disks in
     let e = c.start-done.new.database in
-    ok-for-all Start Trace (λ start trace. IsToBegin (g.E.Stepping.lies old c.args.database.now) (g.E.Stepping.flight c.args.database.now) start c.args.story.now trace) c.write_done.result
-    (λ start trace. (first : List (ℕ × ℕ)) → armed_by_lines first trace ≡ Some old.armed → IsBegun (g.E.Stepping.sees now) start e c.start-done.new.story (g.K.Sink.held c.args.sink.now) (g.K.Sink.held c.write_done.new.sink) first now.armed) (λ start trace begins.
-    begun-ok (g.E.Stepping.sees now) (g.E.Stepping.lies now e) (g.E.Stepping.left now e) (g.E.Stepping.fills now e) (g.E.Stepping.flight e) e c.stands.ensures.idle c.stands.ensures.flown c.stands.ensures.left c.stands.ensures.told
-    c.schema.result.now c.schema.ensures.serves c.schema.ensures.lies c.args.story.now c.start-done.new.story (g.K.Sink.held c.args.sink.now) (g.K.Sink.held c.write_done.new.sink) start trace begins.unasked old now
+    ok-for-all Start Trace (λ start trace. IsToBegin (g.E.Stepping.on_devices old c.args.database.now) (g.E.Stepping.flight c.args.database.now) start c.args.story.now trace) c.write_done.result
+    (λ start trace. (first : List (ℕ × ℕ)) → armed_by_lines first trace ≡ Some old.armed → IsBegun (g.E.Stepping.stands_for now e) start c.start-done.new.story (g.K.Sink.held c.args.sink.now) (g.K.Sink.held c.write_done.new.sink) first now.armed) (λ start trace begins.
+    begun-ok (g.E.Stepping.stands_for now) (g.E.Stepping.on_devices now e) (g.E.Stepping.flight e) e c.stands.ensures.idle c.stands.ensures.flown c.stands.ensures.reopens c.stands.ensures.told
+    c.schema.result.now c.schema.ensures.serves c.schema.ensures.down c.args.story.now c.start-done.new.story (g.K.Sink.held c.args.sink.now) (g.K.Sink.held c.write_done.new.sink) start trace begins.unasked old now
     c.start-done.result c.write_done.result (on_ok_weaker c.start-done.result (λ opened. opened start trace begins.down) c.start-done.ensures.ok) c.start-done.ensures.counts
     (subst (λ (es : List Event). EndsWriting c.start-done.result (story_text c.schema.result.now es) (g.K.Sink.held c.args.sink.now) (g.K.Sink.held c.write_done.new.sink) c.write_done.result)
     c.as_slice.ensures c.write_done.ensures.written))
@@ -53,11 +54,10 @@ returns-clause-stops g c =
     let old = g.D.Disks.view c.args.disks.now in
     let now = g.D.Disks.view c.start-done.new.disks in
     let e = c.start-done.new.database in
-    err-for-all Start Trace (λ start trace. IsToBegin (g.E.Stepping.lies old c.args.database.now) (g.E.Stepping.flight c.args.database.now) start c.args.story.now trace) c.write_done.result
-    (λ start trace stop. (script rest : Option (List ℕ)) (first : List (ℕ × ℕ)) → armed_by_lines first trace ≡ Some old.armed → EndsServing (g.E.Stepping.sees now) (g.E.Stepping.lies now e) (g.E.Stepping.left now e) (g.E.Stepping.fills now e) (g.E.Stepping.flight e) start (status_of stop) script rest
-    (g.K.Sink.held c.args.sink.now) e c.start-done.new.story (g.K.Sink.held c.write_done.new.sink) first now.armed) (λ start trace begins.
-    begun-err (g.E.Stepping.sees now) (g.E.Stepping.lies now e) (g.E.Stepping.left now e) (g.E.Stepping.fills now e) (g.E.Stepping.flight e) e c.stands.ensures.idle c.stands.ensures.flown c.stands.ensures.left c.stands.ensures.told
-    c.schema.result.now c.schema.ensures.serves c.schema.ensures.lies c.args.story.now c.start-done.new.story (g.K.Sink.held c.args.sink.now) (g.K.Sink.held c.write_done.new.sink) start trace begins.unasked old now
+    err-for-all Start Trace (λ start trace. IsToBegin (g.E.Stepping.on_devices old c.args.database.now) (g.E.Stepping.flight c.args.database.now) start c.args.story.now trace) c.write_done.result
+    (λ start trace stop. (script rest : Option (List ℕ)) (first : List (ℕ × ℕ)) → armed_by_lines first trace ≡ Some old.armed → EndsServing (g.E.Stepping.stands_for now e) (g.E.Stepping.on_devices now e) start (script_run (status_of stop) (g.E.Stepping.flight e) (streams script rest (g.K.Sink.held c.args.sink.now) (g.K.Sink.held c.write_done.new.sink)) c.start-done.new.story) first now.armed) (λ start trace begins.
+    begun-err (g.E.Stepping.stands_for now) (g.E.Stepping.on_devices now e) (g.E.Stepping.flight e) e c.stands.ensures.idle c.stands.ensures.flown c.stands.ensures.reopens c.stands.ensures.told
+    c.schema.result.now c.schema.ensures.serves c.schema.ensures.down c.args.story.now c.start-done.new.story (g.K.Sink.held c.args.sink.now) (g.K.Sink.held c.write_done.new.sink) start trace begins.unasked old now
     c.start-done.result c.write_done.result (on_ok_weaker c.start-done.result (λ opened. opened start trace begins.down) c.start-done.ensures.ok)
     (IfErr-weaker c.start-done.result _ _ (λ stop ends. ends start trace begins.down) c.start-done.ensures.err) c.start-done.ensures.later c.start-done.ensures.counts
     (subst (λ (es : List Event). EndsWriting c.start-done.result (story_text c.schema.result.now es) (g.K.Sink.held c.args.sink.now) (g.K.Sink.held c.write_done.new.sink) c.write_done.result)

@@ -3,6 +3,8 @@ use Rattle.salt_loop.proofs.Beginning.{serving-begun}
 use Rattle.salt_loop.proofs.Counts.{added-both}
 use Rattle.salt_loop.proofs.Ends.{outcome-of}
 use Rattle.salt_loop.proofs.serving.serve.Goals as goal
+use Rattle.salt_promise.specs.declared.status.Status.TheVariants.{Done}
+use Rattle.salt_loop.specs.Run.{script_run, streams}
 use Rattle.salt_loop.specs.Counted.{CountsAdded}
 use Rattle.salt_loop.specs.Ending.{EndsServing}
 use Rattle.salt_loop.specs.Serving.{IsAfterLine}
@@ -14,8 +16,7 @@ pub returns-in_err-begin-clause-ended : goal.returns-in_err-begin-clause-ended
 returns-in_err-begin-clause-ended g c = λ start trace begins first is.
     let now = g.D.Disks.view c.begin.new.disks in
     let e = c.begin.new.database in
-    outcome-of c.from_residual.result c.in_err-begin.field-0.0 (λ (s : Status). EndsServing (g.E.Stepping.sees now) (g.E.Stepping.lies now e) (g.E.Stepping.left now e) (g.E.Stepping.fills now e) (g.E.Stepping.flight e) start s
-    (g.S.Source.left c.args.source.now) (g.S.Source.left c.args.source.now) (g.K.Sink.held c.args.sink.now) e c.begin.new.story (g.K.Sink.held c.begin.new.sink) first now.armed) c.from_residual.ensures.1
+    outcome-of c.from_residual.result c.in_err-begin.field-0.0 (λ (s : Status). EndsServing (g.E.Stepping.stands_for now e) (g.E.Stepping.on_devices now e) start (script_run s (g.E.Stepping.flight e) (streams (g.S.Source.left c.args.source.now) (g.S.Source.left c.args.source.now) (g.K.Sink.held c.args.sink.now) (g.K.Sink.held c.begin.new.sink)) c.begin.new.story) first now.armed) c.from_residual.ensures.1
     (c.in_err-begin.ensures.stops start trace begins (g.S.Source.left c.args.source.now) (g.S.Source.left c.args.source.now) first is)
 
 pub returns-in_err-begin-clause-counts : goal.returns-in_err-begin-clause-counts
@@ -29,7 +30,7 @@ lines-init g c =
     let view = g.D.Disks.view in
     record {
       over = λ start trace begins first is.
-          serving-begun (g.E.Stepping.sees (view c.begin.new.disks)) start c.begin.new.database c.new.result (g.S.Source.left c.args.source.now) (g.K.Sink.held c.args.sink.now) (g.K.Sink.held c.begin.new.sink)
+          serving-begun (g.E.Stepping.stands_for (view c.begin.new.disks)) start c.begin.new.database c.new.result (g.S.Source.left c.args.source.now) (g.K.Sink.held c.args.sink.now) (g.K.Sink.held c.begin.new.sink)
           c.begin.new.story first (view c.begin.new.disks).armed (c.in_ok-begin.ensures.ok start trace begins first is) c.new.ensures;
       reads = refl;
       within = c.begin.ensures.within;
@@ -46,8 +47,7 @@ pub returns-in_err-serve_line-clause-ended : goal.returns-in_err-serve_line-clau
 returns-in_err-serve_line-clause-ended g c = λ start trace begins first is.
     let now = g.D.Disks.view c.serve_line.new.disks in
     let e = c.serve_line.new.database in
-    outcome-of c.from_residual-in_err-serve_line.result c.in_err-serve_line.field-0.0 (λ (s : Status). EndsServing (g.E.Stepping.sees now) (g.E.Stepping.lies now e) (g.E.Stepping.left now e) (g.E.Stepping.fills now e) (g.E.Stepping.flight e) start s
-    (g.S.Source.left c.args.source.now) (g.S.Source.left c.serve_line.new.source) (g.K.Sink.held c.args.sink.now) e c.serve_line.new.story (g.K.Sink.held c.serve_line.new.sink) first now.armed) c.from_residual-in_err-serve_line.ensures.1
+    outcome-of c.from_residual-in_err-serve_line.result c.in_err-serve_line.field-0.0 (λ (s : Status). EndsServing (g.E.Stepping.stands_for now e) (g.E.Stepping.on_devices now e) start (script_run s (g.E.Stepping.flight e) (streams (g.S.Source.left c.args.source.now) (g.S.Source.left c.serve_line.new.source) (g.K.Sink.held c.args.sink.now) (g.K.Sink.held c.serve_line.new.sink)) c.serve_line.new.story) first now.armed) c.from_residual-in_err-serve_line.ensures.1
     (c.in_err-serve_line.ensures.stops start (g.S.Source.left c.args.source.now) (g.K.Sink.held c.args.sink.now) first (c.lines.invariant.over start trace begins first is))
 
 pub returns-in_err-serve_line-clause-counts : goal.returns-in_err-serve_line-clause-counts
@@ -65,8 +65,7 @@ lines-preserved g c =
     let e = c.serve_line.new.database in
     record {
       over = λ start trace begins first is.
-          subst (λ (more : Bool). IsAfterLine more (g.E.Stepping.sees now) (g.E.Stepping.lies now e) (g.E.Stepping.left now e) (g.E.Stepping.fills now e) (g.E.Stepping.flight e) start (g.S.Source.left c.args.source.now)
-          (g.K.Sink.held c.args.sink.now) e c.serve_line.new.self.lines (g.S.Source.left c.serve_line.new.source) c.serve_line.new.story (g.K.Sink.held c.serve_line.new.sink) first now.armed) c.if-branch.true
+          subst (λ (more : Bool). IsAfterLine more (g.E.Stepping.stands_for now e) (g.E.Stepping.on_devices now e) start (script_run Done (g.E.Stepping.flight e) (streams (g.S.Source.left c.args.source.now) (g.S.Source.left c.serve_line.new.source) (g.K.Sink.held c.args.sink.now) (g.K.Sink.held c.serve_line.new.sink)) c.serve_line.new.story) c.serve_line.new.self.lines first now.armed) c.if-branch.true
           (c.in_ok-serve_line.ensures.goes start (g.S.Source.left c.args.source.now) (g.K.Sink.held c.args.sink.now) first (c.lines.invariant.over start trace begins first is));
       reads = c.in_ok-serve_line.ensures.no_read_fault (λ x. cc) ∙ c.lines.invariant.reads;
       writes = c.in_ok-serve_line.ensures.no_write_fault (λ x. cc) ∙ c.lines.invariant.writes;
@@ -78,8 +77,7 @@ pub returns-clause-ended : goal.returns-clause-ended
 returns-clause-ended g c = λ start trace begins first is.
     let now = g.D.Disks.view c.serve_line.new.disks in
     let e = c.serve_line.new.database in
-    (subst (λ (more : Bool). IsAfterLine more (g.E.Stepping.sees now) (g.E.Stepping.lies now e) (g.E.Stepping.left now e) (g.E.Stepping.fills now e) (g.E.Stepping.flight e) start (g.S.Source.left c.args.source.now)
-    (g.K.Sink.held c.args.sink.now) e c.serve_line.new.self.lines (g.S.Source.left c.serve_line.new.source) c.serve_line.new.story (g.K.Sink.held c.serve_line.new.sink) first now.armed) c.if-branch.false
+    (subst (λ (more : Bool). IsAfterLine more (g.E.Stepping.stands_for now e) (g.E.Stepping.on_devices now e) start (script_run Done (g.E.Stepping.flight e) (streams (g.S.Source.left c.args.source.now) (g.S.Source.left c.serve_line.new.source) (g.K.Sink.held c.args.sink.now) (g.K.Sink.held c.serve_line.new.sink)) c.serve_line.new.story) c.serve_line.new.self.lines first now.armed) c.if-branch.false
     (c.in_ok-serve_line.ensures.goes start (g.S.Source.left c.args.source.now) (g.K.Sink.held c.args.sink.now) first (c.lines.invariant.over start trace begins first is))).0
 
 pub returns-clause-end : goal.returns-clause-end
@@ -87,8 +85,7 @@ returns-clause-end g c =
     let now = g.D.Disks.view c.serve_line.new.disks in
     let e = c.serve_line.new.database in
     let b = c.requires.begins in
-    (subst (λ (more : Bool). IsAfterLine more (g.E.Stepping.sees now) (g.E.Stepping.lies now e) (g.E.Stepping.left now e) (g.E.Stepping.fills now e) (g.E.Stepping.flight e) b.0 (g.S.Source.left c.args.source.now)
-    (g.K.Sink.held c.args.sink.now) e c.serve_line.new.self.lines (g.S.Source.left c.serve_line.new.source) c.serve_line.new.story (g.K.Sink.held c.serve_line.new.sink) b.3 now.armed) c.if-branch.false
+    (subst (λ (more : Bool). IsAfterLine more (g.E.Stepping.stands_for now e) (g.E.Stepping.on_devices now e) b.0 (script_run Done (g.E.Stepping.flight e) (streams (g.S.Source.left c.args.source.now) (g.S.Source.left c.serve_line.new.source) (g.K.Sink.held c.args.sink.now) (g.K.Sink.held c.serve_line.new.sink)) c.serve_line.new.story) c.serve_line.new.self.lines b.3 now.armed) c.if-branch.false
     (c.in_ok-serve_line.ensures.goes b.0 (g.S.Source.left c.args.source.now) (g.K.Sink.held c.args.sink.now) b.3 (c.lines.invariant.over b.0 b.1 b.2 b.3 b.4))).1
 
 pub returns-clause-counts : goal.returns-clause-counts

@@ -16,12 +16,10 @@ pub returns-in-Err-clause-err : goal.returns-in-Err-clause-err
 returns-in-Err-clause-err g c = λ start trace down.
     let view = g.D.Disks.view c.open.new.disks in
     let e = c.open.new.database in
-    let lies = g.E.Stepping.lies view e in
-    let left = g.E.Stepping.left view e in
-    let fills = g.E.Stepping.fills view e in
+    let devices = g.E.Stepping.on_devices view e in
     let flies = g.E.Stepping.flight e in
-    subst (λ (s : Stop). EndsOpening lies left fills flies s start trace c.args.story.now c.open.new.story) (sym c.stop_opening.ensures.is)
-    (ends-early lies left fills flies c.in-Err.e start trace c.args.story.now c.open.new.story (c.in-Err.ensures.err start trace down))
+    subst (λ (s : Stop). EndsOpening devices flies s start trace c.args.story.now c.open.new.story) (sym c.stop_opening.ensures.is)
+    (ends-early devices flies c.in-Err.e start trace c.args.story.now c.open.new.story (c.in-Err.ensures.err start trace down))
 
 pub returns-in-Err-clause-later : goal.returns-in-Err-clause-later
 returns-in-Err-clause-later g c =

@@ -15,7 +15,7 @@ returns-then-gives_net-clause-flight g c =
 pub returns-then-gives_net-clause-net : goal.returns-then-gives_net-clause-net
 returns-then-gives_net-clause-net g c =
     let e = c.args.database in
-    subst (λ (b : Bool). IsNetLeft b (g.E.Stepping.sees (g.D.Disks.view c.args.disks.now) e None) (g.E.Stepping.asked e) c.into_net.result) (sym (sym c.gives_net.ensures ∙ c.if-gives_net.true))
+    subst (λ (b : Bool). IsNetLeft b (g.E.Stepping.stands_for (g.D.Disks.view c.args.disks.now) e None) (g.E.Stepping.asked e) c.into_net.result) (sym (sym c.gives_net.ensures ∙ c.if-gives_net.true))
     c.into_net.ensures
 
 pub returns-clause-flight : goal.returns-clause-flight
@@ -26,4 +26,4 @@ returns-clause-flight g c =
 pub returns-clause-net : goal.returns-clause-net
 returns-clause-net g c =
     let e = c.args.database in
-    subst (λ (b : Bool). IsNetLeft b (g.E.Stepping.sees (g.D.Disks.view c.args.disks.now) e None) (g.E.Stepping.asked e) None) (sym (sym c.gives_net.ensures ∙ c.if-gives_net.false)) refl
+    subst (λ (b : Bool). IsNetLeft b (g.E.Stepping.stands_for (g.D.Disks.view c.args.disks.now) e None) (g.E.Stepping.asked e) None) (sym (sym c.gives_net.ensures ∙ c.if-gives_net.false)) refl

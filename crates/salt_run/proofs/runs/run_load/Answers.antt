@@ -8,10 +8,10 @@ use Rattle.salt_run.proofs.Staying.{stays-as, stays-from}
 use Rattle.salt_run.proofs.runs.run_load.Goals as goal
 use Rattle.salt_model.specs.Trace.{Start}
 use Rattle.salt_promise.specs.Given.{shape_of}
-use Rattle.salt_run.specs.Doing.{streams}
+use Rattle.salt_loop.specs.Run.{streams}
 use Rattle.salt_run.specs.Ending.{flight_at}
 use Rattle.salt_loop.proofs.Loads.{unfound-loaded}
-use Rattle.salt_loop.specs.Loading.{IsPlayedLoad}
+use Rattle.salt_loop.specs.Loading.{IsPlayedLoad, load_run}
 use Rattle.salt_loop.specs.Stopping.{outcome, status_of, status_opening}
 use Rattle.salt_stands.specs.Stands.{are_spent}
 use Rattle.salt_storage.proofs.Staying.{stays-behind}
@@ -90,7 +90,7 @@ returns-in-Err-clause-runs g c left =
     let s = streams left left (g.K.Sink.held c.args.sink.now) (g.K.Sink.held c.write_summary.new.sink) in
     let old = status_opening c.in-Err.reason in
     let how = behind-outcome old c.from.result status (c.from.ensures ∙ ap status_of c.stop_opening.ensures.is) c.write_summary.ensures.written in
-    let run : (start : Start) → IsPlayedLoad start status None c.args.calls 0 c.find.new.story = λ start. unfound-load c.args.calls old status how start c.find.new.story (unfound-loaded c.in-Err.reason c.args.calls c.find.new.story c.find.ensures.unfound c.in-Err.ensures.err.empty start) in
+    let run : (start : Start) → IsPlayedLoad start (load_run status None c.args.calls 0 c.find.new.story) = λ start. unfound-load c.args.calls old status how start c.find.new.story (unfound-loaded c.in-Err.reason c.args.calls c.find.new.story c.find.ensures.unfound c.in-Err.ensures.err.empty start) in
     as-told (Load c.args.calls) d e s c.find.new.story status status None None None refl (sym (flight-none status))
     (inr (nothing (Load c.args.calls) d z.started z.shape c.new-devices.ensures.started (c.new-devices.ensures.shape ∙ c.shape.ensures) e y.shape y.started (ap (λ (s : Setup). s.shape) c.find.ensures.within.asked) c.in-Err.ensures.rests
     c.in-Err.reason c.find.new.story c.in-Err.ensures.err c.in-Err.ensures.unwritten status (flight_at status None) s (unfound-status c.in-Err.reason old status refl how) c.find.ensures.unfound

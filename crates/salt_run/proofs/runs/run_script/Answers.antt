@@ -8,9 +8,8 @@ use Rattle.salt_run.proofs.EngineEnds.{as-told, begins-found, behind-faults, fli
 use Rattle.salt_run.proofs.Replayed.{script-replays}
 use Rattle.salt_run.proofs.Staying.{stays-as, stays-from}
 use Rattle.salt_run.proofs.runs.run_script.Goals as goal
-use Rattle.salt_run.specs.Doing.{streams}
 use Rattle.salt_run.specs.Ending.{flight_at}
-use Rattle.salt_loop.specs.Run.{IsFlightAt}
+use Rattle.salt_loop.specs.Run.{IsFlightAt, streams}
 use Rattle.salt_loop.specs.Stopping.{outcome}
 use Rattle.salt_stands.specs.Stands.{are_spent}
 use Rattle.salt_storage.proofs.Staying.{stays-behind}

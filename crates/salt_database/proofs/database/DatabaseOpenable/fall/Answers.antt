@@ -10,13 +10,13 @@ fall-requires g c =
     let left = subst (λ x. IsLeftBy x c.into_opening-opening.result) c.replace.ensures.value c.into_opening-opening.ensures in
     (l.0, (l.1.0, (left-by g.S.Storage.asked g.S.Storage.net _ _ _ l.0 l.1.0 c.args.self.now _ left l.1.1).0))
 
-pub returns-clause-lies : goal.returns-clause-lies
-returns-clause-lies g c = λ room p q lies fell.
+pub returns-clause-reopens : goal.returns-clause-reopens
+returns-clause-reopens g c = λ room p q lies fell.
     let o = c.into_opening-opening.result in
     let now = c.fall.new.self in
     let left = subst (λ x. IsLeftBy x o) c.replace.ensures.value c.into_opening-opening.ensures in
     let l = left-by g.S.Storage.asked g.S.Storage.net _ _ _ room p c.args.self.now o left lies in (
-      c.fall.ensures.lies room p q l.0 fell,
+      c.fall.ensures.reopens room p q l.0 fell,
       unfound-lies (g.S.Storage.asked o.storage) (g.S.Storage.asked now.storage) (g.S.Storage.net now.storage) now.found q.state c.fall.ensures.unfound (fell.after.over_net ∙ l.1) c.fall.ensures.within.asked,
     )
 

@@ -7,9 +7,9 @@ returns-clause-again g c = λ other room p sound fallen lies.
     let l = closed-lies g.S.Storage.asked g.S.Storage.net _ _ _ room p c.args.self.now c.in-Closed.opening c.in-Closed.is lies in
     (c.find.ensures.again other room p sound fallen l.0, c.find.ensures.begun p.state l.1)
 
-pub returns-clause-left : goal.returns-clause-left
-returns-clause-left g c = λ room p sound fallen lies.
-    c.find.ensures.left room p sound fallen (closed-lies g.S.Storage.asked g.S.Storage.net _ _ _ room p c.args.self.now c.in-Closed.opening c.in-Closed.is lies).0
+pub returns-clause-stands : goal.returns-clause-stands
+returns-clause-stands g c = λ room p sound fallen lies.
+    c.find.ensures.stands room p sound fallen (closed-lies g.S.Storage.asked g.S.Storage.net _ _ _ room p c.args.self.now c.in-Closed.opening c.in-Closed.is lies).0
 
 pub returns-clause-later : goal.returns-clause-later
 returns-clause-later g c = IfErr-weaker c.find.result _ _ (λ e later room p sound fallen lies.

@@ -4,7 +4,7 @@ use Rattle.salt_database.proofs.database.DatabaseOpenable.go_on.Goals as goal
 use Rattle.salt_database.specs.Halves.{IsOnward, next_of}
 use Rattle.salt_database.specs.declared.onward.Onward.{Onward}
 use Rattle.salt_engine.proofs.Netted.{breaks-there}
-use Rattle.salt_engine.specs.Netted.{SeesNet}
+use Rattle.salt_engine.specs.Netted.{AgreesWithNet}
 use Rattle.salt_storage.specs.Staying.{StaysWithin}
 use Rattle.std.proofs.Common.{subst, sym, ◌∙◌}
 
@@ -24,7 +24,7 @@ returns-in-Ok-Served-clause-moves g c = λ p sound at.
     let was = closed-at asked net _ _ _ c.args.self.now c.closed-opening.result c.args.event p is at in
     let m = c.in-Ok-Served.ensures.moves p sound was in
     let goes = subst (λ (onward : Onward). IsOnward (g.S.Storage.holds now) (g.S.Storage.is_new now) now.can_stop o onward m.0) c.in-Ok-Served.field-0-is m.2 in
-    let sent = subst (λ (onward : Onward). SeesNet (asked o.storage) (net o.storage) (next_of onward) m.0.state) c.in-Ok-Served.field-0-is
+    let sent = subst (λ (onward : Onward). AgreesWithNet (asked o.storage) (net o.storage) (next_of onward) m.0.state) c.in-Ok-Served.field-0-is
     (c.in-Ok-Served.ensures.sent p sound was (closed-net asked net _ _ _ c.args.self.now c.closed-opening.result c.args.event p is at) m.0 m.1) in
     let e = c.into_engine.ensures in (
       m.0,
@@ -47,7 +47,7 @@ returns-in-Ok-Next-clause-moves g c = λ p sound at.
     let was = closed-at asked net _ _ _ c.args.self.now c.closed-opening.result c.args.event p is at in
     let m = c.in-Ok-Next.ensures.moves p sound was in
     let goes = subst (λ (onward : Onward). IsOnward (g.S.Storage.holds now) (g.S.Storage.is_new now) now.can_stop o onward m.0) c.in-Ok-Next.field-0-is m.2 in
-    let sent = subst (λ (onward : Onward). SeesNet (asked o.storage) (net o.storage) (next_of onward) m.0.state) c.in-Ok-Next.field-0-is
+    let sent = subst (λ (onward : Onward). AgreesWithNet (asked o.storage) (net o.storage) (next_of onward) m.0.state) c.in-Ok-Next.field-0-is
     (c.in-Ok-Next.ensures.sent p sound was (closed-net asked net _ _ _ c.args.self.now c.closed-opening.result c.args.event p is at) m.0 m.1) in
     (m.0, m.1, at-closed asked net (g.S.Storage.holds now) (g.S.Storage.is_new now) now.can_stop o c.in-Ok-Next.next m.0 goes sent)
 

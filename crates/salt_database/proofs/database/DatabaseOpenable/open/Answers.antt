@@ -8,9 +8,9 @@ use Rattle.salt_storage.specs.Netted.{net_begun}
 use Rattle.std.proofs.Common.{ap, subst, sym, ◌∙◌}
 use Rattle.std.proofs.lemmas.Result.{IfErr-weaker, on_err_weaker}
 
-pub open-requires-clause-lies : goal.open-requires-clause-lies
-open-requires-clause-lies g c =
-    let l = c.requires.lies in
+pub open-requires-clause-down : goal.open-requires-clause-down
+open-requires-clause-down g c =
+    let l = c.requires.down in
     (l.0, l.1, l.2, l.3, (closed-lies g.S.Storage.asked g.S.Storage.net _ _ _ l.0 l.1 c.args.self.now c.in-Closed.opening c.in-Closed.is l.4).0)
 
 pub returns-clause-opens : goal.returns-clause-opens
@@ -25,17 +25,17 @@ returns-clause-opens g c = ok-with c.open.result _ _ _ (λ next opens sent room 
     (sent ∙ begun-found (g.S.Storage.asked o.storage) _ o.found o.stage p.state found l.1 ∙ ap net_begun same)))
     c.open.ensures.opens c.open.ensures.sent
 
-pub returns-clause-lies : goal.returns-clause-lies
-returns-clause-lies g c = IfErr-weaker c.open.result _ _ (λ halt again other room p sound fallen lies.
+pub returns-clause-reopens : goal.returns-clause-reopens
+returns-clause-reopens g c = IfErr-weaker c.open.result _ _ (λ halt again other room p sound fallen lies.
     let o = c.in-Closed.opening in
     let l = closed-lies g.S.Storage.asked g.S.Storage.net _ _ _ room p c.args.self.now o c.in-Closed.is lies in (
       again other room p sound fallen l.0,
       unfound-lies (g.S.Storage.asked o.storage) (g.S.Storage.asked c.open.new.self.storage) _ c.open.new.self.found p.state c.open.ensures.unfound l.1.over c.open.ensures.within.asked,
-    )) c.open.ensures.lies
+    )) c.open.ensures.reopens
 
-pub returns-clause-left : goal.returns-clause-left
-returns-clause-left g c = on_err_weaker c.open.result (λ left room p sound fallen lies.
-    left room p sound fallen (closed-lies g.S.Storage.asked g.S.Storage.net _ _ _ room p c.args.self.now c.in-Closed.opening c.in-Closed.is lies).0) c.open.ensures.left
+pub returns-clause-stands : goal.returns-clause-stands
+returns-clause-stands g c = on_err_weaker c.open.result (λ left room p sound fallen lies.
+    left room p sound fallen (closed-lies g.S.Storage.asked g.S.Storage.net _ _ _ room p c.args.self.now c.in-Closed.opening c.in-Closed.is lies).0) c.open.ensures.stands
 
 pub returns-clause-within : goal.returns-clause-within
 returns-clause-within g c = half-within _ _ _ c.args.self.now _ _ _ _ c.in-Closed.is c.open.ensures.within

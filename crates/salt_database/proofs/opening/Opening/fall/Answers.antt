@@ -14,8 +14,8 @@ restart-requires g c =
     let e = leaves-some _ _ _ _ _ _ _ l.0 l.1.0 c.stands.ensures.stays l.1.1 in
     c.stands.ensures.able e.0 e.1 e.2
 
-pub returns-clause-lies : goal.returns-clause-lies
-returns-clause-lies g c = λ room p q lies fell.
+pub returns-clause-reopens : goal.returns-clause-reopens
+returns-clause-reopens g c = λ room p q lies fell.
     fallen-lies _ _ _ _ _ _ _ _ _ _ _ room p q lies fell c.restart.ensures.within.shape.can_stop c.stands.ensures.stays c.restart.ensures.leaves
     (λ s why k. c.fallen.ensures.books s why (subst (λ (stage : Stage Recovery). KnowsUnits (opening_books stage) s) (sym c.replace.ensures.value) k))
 

@@ -36,8 +36,8 @@ returns-in-None-clause-again g c = λ other room p sound fallen lies.
     (λ unfound leaves. lies-still _ _ _ _ _ _ _ _ _ _ _ _ _ _ c.in-None.is c.find_behind.ensures.stage room p lies unfound leaves same c.find_behind.ensures.single c.find_behind.ensures.flies)
     c.find_behind.ensures.found c.find_behind.ensures.unfound c.find_behind.ensures.leaves
 
-pub returns-in-None-clause-left : goal.returns-in-None-clause-left
-returns-in-None-clause-left g c = λ room p sound fallen lies.
+pub returns-in-None-clause-stands : goal.returns-in-None-clause-stands
+returns-in-None-clause-stands g c = λ room p sound fallen lies.
     let view = g.D.Disks.view in
     let holds = g.S.Storage.holds (view c.args.disks.now) c.args.self.now.storage in
     let now = g.S.Storage.holds (view c.find_behind.new.disks) c.find_behind.new.self.storage in
@@ -76,8 +76,8 @@ returns-in-Some-clause-found g c = was-found _ _ c.args.self.now.found c.in-Some
 pub returns-in-Some-clause-again : goal.returns-in-Some-clause-again
 returns-in-Some-clause-again g c = λ other room p sound fallen lies. lies
 
-pub returns-in-Some-clause-left : goal.returns-in-Some-clause-left
-returns-in-Some-clause-left g c = λ room p sound fallen lies. (lies.left, tt)
+pub returns-in-Some-clause-stands : goal.returns-in-Some-clause-stands
+returns-in-Some-clause-stands g c = λ room p sound fallen lies. (lies.left, tt)
 
 pub returns-in-Some-clause-counts : goal.returns-in-Some-clause-counts
 returns-in-Some-clause-counts g c = counts-cause _ _ _ [] refl (same-cause (g.D.Disks.view c.args.disks.now))

@@ -65,7 +65,7 @@ returns-in_err-scheduler-clause-halts g c =
     rw (q.1, q.2) (λ p sound at.
     let there = sym c.replace.ensures.value ∙ c.going-recovery.ensures in
     let h = opened-at _ _ _ _ _ p.state there at.state.0.seen in
-    untold-lost c.going-recovery.result c.args.event p sound h.0 h.1 at.comes at.opening _ _ _ _ _ at.state.1 _ _ _ c.args.story.now c.end.new.story
+    untold-lost c.going-recovery.result c.args.event p sound h.0 h.1 at.comes at.opening _ _ _ _ _ _ at.state.1 _ _ _ c.args.story.now c.end.new.story
     (c.stands.ensures.stays h.0.units.kept h.2.holding) c.replace.ensures.after at.state.0.flies c.in_err-scheduler.ensures.untold)
 
 pub returns-in_err-scheduler-clause-counts : goal.returns-in_err-scheduler-clause-counts
@@ -86,7 +86,7 @@ returns-in_ok-go_on_in_opening-clause-moves g c = λ p sound at.
     let going = sym c.ends_opening.ensures ∙ c.if-ends_opening.false in
     let h = opened-at _ _ _ _ _ p.state there at.state.0.seen in
     let d = c.in_ok-go_on_in_opening.ensures.comes h.0 (goes-on x e p sound h.0 h.1 at.comes going _ _ h.2) in
-    opens-there x e p sound h.0 h.1 at.comes going _ _ _ (
+    opens-there x e p sound h.0 h.1 at.comes going _ _ (
       (opened-on x e p sound h.0 h.1 at.comes going _ _ _ _ _ _ _ _ _ d at.state.0.can_stop c.go_on_in_opening.ensures.stays.within.shape.can_stop at.state.0.line (ap (λ n. n.0) c.go_on_in_opening.ensures.stays.noted)).0,
       (ap (λ n. n.1) c.go_on_in_opening.ensures.stays.noted) ∙ at.state.1,
     ) d.told
@@ -117,7 +117,7 @@ returns-in_err-go_on_in_opening-clause-halts g c =
     let going = sym c.ends_opening.ensures ∙ c.if-ends_opening.false in
     let h = opened-at _ _ _ _ _ p.state there at.state.0.seen in
     let b = c.in_err-go_on_in_opening.ensures.comes h.0 (goes-on x e p sound h.0 h.1 at.comes going _ _ h.2) in
-    opens-halts x e p sound h.0 h.1 at.comes going _ _ _ _ _ _ _ ((ap (λ n. n.1) c.go_on_in_opening.ensures.stays.noted) ∙ at.state.1) _ _ _ _ c.args.story.now c.push.new.self b at.state.0.can_stop c.go_on_in_opening.ensures.stays.within.shape.can_stop at.state.0.line
+    opens-halts x e p sound h.0 h.1 at.comes going _ _ _ _ _ _ _ _ ((ap (λ n. n.1) c.go_on_in_opening.ensures.stays.noted) ∙ at.state.1) _ _ _ _ c.args.story.now c.push.new.self b at.state.0.can_stop c.go_on_in_opening.ensures.stays.within.shape.can_stop at.state.0.line
     (ap (λ n. n.0) c.go_on_in_opening.ensures.stays.noted) (c.stands.ensures.sound h.0.units.kept h.2.holding) c.in_ok-push.ensures.ok)
 
 pub returns-in_err-go_on_in_opening-clause-counts : goal.returns-in_err-go_on_in_opening-clause-counts
@@ -131,7 +131,7 @@ returns-in_err-push-clause-halts g c =
     rw (q.1, q.2) (λ p sound at.
     let there = sym c.replace.ensures.value ∙ c.going-recovery.ensures in
     let h = opened-at _ _ _ _ _ p.state there at.state.0.seen in
-    untold-lost c.going-recovery.result c.args.event p sound h.0 h.1 at.comes at.opening _ _ _ _ _ at.state.1 _ _ _ c.args.story.now c.push.new.self
+    untold-lost c.going-recovery.result c.args.event p sound h.0 h.1 at.comes at.opening _ _ _ _ _ _ at.state.1 _ _ _ c.args.story.now c.push.new.self
     (c.stands.ensures.stays h.0.units.kept h.2.holding) c.replace.ensures.after at.state.0.flies c.in_err-push.ensures.err)
 
 pub returns-in_err-push-clause-counts : goal.returns-in_err-push-clause-counts

@@ -18,9 +18,9 @@ down-books-requires g c = subst IsBrokenStage (sym c.replace.ensures.value) (fou
 pub boot-requires : goal.boot-requires
 boot-requires g c =
     let there = sym c.replace.ensures.value ∙ c.down-books.ensures in
-    let room = c.requires.lies.0 in
-    let p = c.requires.lies.1 in
-    let lies = c.requires.lies.4 in (
+    let room = c.requires.down.0 in
+    let p = c.requires.down.1 in
+    let lies = c.requires.down.4 in (
       kept-found _ _ _ _ _ _ _ _ _ c.in-Some.is there room p lies,
       holding-found _ _ _ _ _ _ _ _ _ c.in-Some.is there room p lies,
       unspent-found _ _ _ _ _ _ _ _ _ c.in-Some.is there room p lies,
@@ -29,11 +29,11 @@ boot-requires g c =
 pub open_boot-requires-clause-opened : goal.open_boot-requires-clause-opened
 open_boot-requires-clause-opened g c =
     let there = sym c.replace.ensures.value ∙ c.down-books.ensures in
-    let room = c.requires.lies.0 in
-    let p = c.requires.lies.1 in
-    let sound = c.requires.lies.2 in
-    let fallen = c.requires.lies.3 in
-    let lies = c.requires.lies.4 in
+    let room = c.requires.down.0 in
+    let p = c.requires.down.1 in
+    let sound = c.requires.down.2 in
+    let fallen = c.requires.down.3 in
+    let lies = c.requires.down.4 in
     let next = c.in-Ok.ensures.number (kept-found _ _ _ _ _ _ _ _ _ c.in-Some.is there room p lies) (holding-found _ _ _ _ _ _ _ _ _ c.in-Some.is there room p lies) in
     (p.flight, p.state, _, begun-by _ _ _ _ _ _ _ _ _ c.in-Some.is there room p lies sound fallen c.in-Ok.boot next)
 
@@ -47,7 +47,7 @@ returns-in-Ok-clause-opens g c = ok-with c.open_boot.result _ _ _ (λ next o tel
     let w = o p.flight p.state _ (begun-by _ _ _ _ _ _ _ _ _ c.in-Some.is there room p lies sound fallen c.in-Ok.boot next_boot) in
     let view = g.D.Disks.view in
     let same = sym c.open_boot.ensures.storage in
-    opening-at p sound fallen room k _ c.in-Ok.boot f next_boot _ c.open_boot.new.self next _ _ _ _ w (
+    opening-at p sound fallen room k _ c.in-Ok.boot f next_boot _ next _ _ _ _ w (
       opening-sees p sound fallen room k _ c.in-Ok.boot f next_boot _ _ _ _ _ _ _ _ next w
           (subst (λ (st : g.row.S.Denot). g.S.Storage.holds (view c.boot.new.disks) st (booted k)) same (c.in-Ok.ensures.holds k holding))
           (λ u is. subst (λ (st : g.row.S.Denot). g.S.Storage.is_new (view c.boot.new.disks) st u) same (c.in-Ok.ensures.is_new u is)) lies.can_stop c.in-Ok.ensures.within.shape.can_stop lies.line
@@ -55,11 +55,11 @@ returns-in-Ok-clause-opens g c = ok-with c.open_boot.result _ _ _ (λ next o tel
       c.open_boot.ensures.found,
     ) tells) c.open_boot.ensures.opens c.open_boot.ensures.tells
 
-pub returns-in-Ok-clause-lies : goal.returns-in-Ok-clause-lies
-returns-in-Ok-clause-lies g c = IfErr-weaker c.open_boot.result _ _ (λ halt memory other room p sound fallen lies. absurd (other memory)) c.open_boot.ensures.memory
+pub returns-in-Ok-clause-reopens : goal.returns-in-Ok-clause-reopens
+returns-in-Ok-clause-reopens g c = IfErr-weaker c.open_boot.result _ _ (λ halt memory other room p sound fallen lies. absurd (other memory)) c.open_boot.ensures.memory
 
-pub returns-in-Ok-clause-left : goal.returns-in-Ok-clause-left
-returns-in-Ok-clause-left g c = rw c.open_boot.ensures.storage (on_err_weaker c.open_boot.result (λ flies room p sound fallen lies.
+pub returns-in-Ok-clause-stands : goal.returns-in-Ok-clause-stands
+returns-in-Ok-clause-stands g c = rw c.open_boot.ensures.storage (on_err_weaker c.open_boot.result (λ flies room p sound fallen lies.
     let there = sym c.replace.ensures.value ∙ c.down-books.ensures in
     let k = kept-found _ _ _ _ _ _ _ _ _ c.in-Some.is there room p lies in
     let holding = holding-found _ _ _ _ _ _ _ _ _ c.in-Some.is there room p lies in
@@ -74,11 +74,11 @@ returns-in-Ok-clause-full g c = λ dev is. absurd (never-full c.open_boot.result
 pub returns-in-Ok-clause-unarmed : goal.returns-in-Ok-clause-unarmed
 returns-in-Ok-clause-unarmed g c = IfOk-weaker c.open_boot.result _ _ (λ next o.
     let there = sym c.replace.ensures.value ∙ c.down-books.ensures in
-    let room = c.requires.lies.0 in
-    let p = c.requires.lies.1 in
-    let sound = c.requires.lies.2 in
-    let fallen = c.requires.lies.3 in
-    let lies = c.requires.lies.4 in
+    let room = c.requires.down.0 in
+    let p = c.requires.down.1 in
+    let sound = c.requires.down.2 in
+    let fallen = c.requires.down.3 in
+    let lies = c.requires.down.4 in
     let k = kept-found _ _ _ _ _ _ _ _ _ c.in-Some.is there room p lies in
     let next_boot = c.in-Ok.ensures.number k (holding-found _ _ _ _ _ _ _ _ _ c.in-Some.is there room p lies) in
     let w = o p.flight p.state _ (begun-by _ _ _ _ _ _ _ _ _ c.in-Some.is there room p lies sound fallen c.in-Ok.boot next_boot) in
@@ -87,15 +87,15 @@ returns-in-Ok-clause-unarmed g c = IfOk-weaker c.open_boot.result _ _ (λ next o
 pub returns-in-Ok-clause-counts : goal.returns-in-Ok-clause-counts
 returns-in-Ok-clause-counts g c = counts-cause _ _ _ [] refl (memory-cause _ _ c.open_boot.result c.open_boot.ensures.memory c.in-Ok.ensures.cause)
 
-pub returns-in-Err-clause-lies : goal.returns-in-Err-clause-lies
-returns-in-Err-clause-lies g c = λ other room p sound fallen lies.
+pub returns-in-Err-clause-reopens : goal.returns-in-Err-clause-reopens
+returns-in-Err-clause-reopens g c = λ other room p sound fallen lies.
     let there = sym c.replace.ensures.value ∙ c.down-books.ensures in
     let k = kept-found _ _ _ _ _ _ _ _ _ c.in-Some.is there room p lies in
     let holding = holding-found _ _ _ _ _ _ _ _ _ c.in-Some.is there room p lies in
     down-lies _ _ _ _ _ _ _ _ _ c.in-Some.is there room p lies _ _ _ _ _ _ _ refl refl (c.in-Err.ensures.leaves k holding) c.in-Err.ensures.within.shape.can_stop refl refl
 
-pub returns-in-Err-clause-left : goal.returns-in-Err-clause-left
-returns-in-Err-clause-left g c = λ room p sound fallen lies.
+pub returns-in-Err-clause-stands : goal.returns-in-Err-clause-stands
+returns-in-Err-clause-stands g c = λ room p sound fallen lies.
     let view = g.D.Disks.view in
     let there = sym c.replace.ensures.value ∙ c.down-books.ensures in
     let k = kept-found _ _ _ _ _ _ _ _ _ c.in-Some.is there room p lies in

@@ -31,7 +31,7 @@ returns-in-Ok-clause-moves g c = λ p sound at.
     let r = reads-here p sound in
     let ask = to-ask _ _ _ _ _ _ c.args.line.now p sound at.idle c.requires.served c.read_lines_are_spelled.ensures.keys at.state.0 in
     let d = c.in-Ok.ensures.comes p.state r ask at.state.1.over in
-    asked-there _ _ (Tree c.args.line.now) p sound at.idle r c.in-Ok.next (
+    asked-there _ (Tree c.args.line.now) p sound at.idle r c.in-Ok.next (
       asked-at (Tree c.args.line.now) p sound at.idle _ _ _ _ _ _ _ c.in-Ok.next r d at.state.0.can_stop c.ask_line.ensures.stays.within.shape.can_stop (c.ask_line.ensures.stays.noted ∙ c.is_statement_line-self.ensures),
       next-sent _ _ _ _ _ _ p.state (asked_of (Tree c.args.line.now) p.state) refl refl c.ask_line.ensures.stays.within.asked d.told (c.in-Ok.ensures.sent p.state r ask at.state.1.over) at.state.1,
     ) d.told
@@ -48,7 +48,7 @@ returns-in-Err-clause-halts g c = λ p sound at.
     let b = broken-out _ _ c.in-Err.halt c.break_by.result _ _ _ _ _ c.break_by.ensures.halt c.break_by.ensures.broken
     (c.in-Err.ensures.comes p.state r (to-ask _ _ _ _ _ _ c.args.line.now p sound at.idle c.requires.served c.read_lines_are_spelled.ensures.keys at.state.0) at.state.1.over) in
     let kept = c.stands.ensures.sound p.state.units.kept (held-now _ _ _ p.state at.state.0.seen) in
-    inr (halts-there _ _ _ _ _ _ p (Ask (Tree c.args.line.now)) (λ q moves. lies-net _ _ _ (asked-over (Tree c.args.line.now) p q moves ∙ at.state.1.over) c.ask_line.ensures.stays.within.asked) (asked-halts _ _ _ c.break_by.result _ _ _ _ _ p sound at.state.0.can_stop c.ask_line.ensures.stays.within.shape.can_stop kept (Tree c.args.line.now) at.idle r b (c.ask_line.ensures.stays.noted ∙ c.is_statement_line-self.ensures)))
+    inr (halts-there _ _ _ _ _ _ p (Ask (Tree c.args.line.now)) (λ q moves. lies-net _ _ _ (asked-over (Tree c.args.line.now) p q moves ∙ at.state.1.over) c.ask_line.ensures.stays.within.asked) (asked-halts _ _ _ _ c.break_by.result _ _ _ _ _ p sound at.state.0.can_stop c.ask_line.ensures.stays.within.shape.can_stop kept (Tree c.args.line.now) at.idle r b (c.ask_line.ensures.stays.noted ∙ c.is_statement_line-self.ensures)))
 
 pub returns-in-Err-clause-within : goal.returns-in-Err-clause-within
 returns-in-Err-clause-within g c = c.ask_line.ensures.stays.within

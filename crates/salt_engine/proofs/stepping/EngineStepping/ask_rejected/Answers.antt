@@ -32,7 +32,7 @@ returns-in-Ok-clause-moves g c = λ p sound at.
     let h = seen-at _ _ _ _ _ p.state c.in-Going.is at.state.0.seen in
     let d = rejected-performs holds is_new c.args.refusal c.in-Going.scheduler c.reject.new.scheduler p _ _ r c.in-Ok.ensures h.0 (asked-serves asked p sound at.idle) (asked-played asked p sound at.idle tt r) h.1
     (flies-none c.args.self.now.in_flight p.state.units at.state.0.flies) in
-    asked-there _ _ asked p sound at.idle r _ (
+    asked-there _ asked p sound at.idle r _ (
       asked-at asked p sound at.idle holds is_new _ _ _ (Going c.reject.new.scheduler) _ _ r d at.state.0.can_stop refl refl,
       next-sent _ _ _ _ _ _ p.state (asked_of asked p.state) refl refl refl d.told (refused-sent (g.S.Storage.asked c.args.self.now.storage) c.args.refusal (asked_of asked p.state).units _) at.state.1,
     ) d.told
@@ -52,7 +52,7 @@ pub returns-in-Err-clause-halts : goal.returns-in-Err-clause-halts
 returns-in-Err-clause-halts g c = λ p sound at. inl (
   c.break_by.ensures.halt,
   halts-net _ _ _ _ _ _ p (lies-net _ _ _ at.state.1.over refl)
-      (memory-as books_of _ _ _ _ _ _ _ c.break_by.result p p.state.units.kept c.break_by.ensures.halt (flight-next p sound.trace sound.keeps (never-fallen p at.idle.serves))
+      (memory-as books_of _ _ _ _ _ _ _ _ c.break_by.result p p.state.units.kept c.break_by.ensures.halt (flight-next p sound.trace sound.keeps (never-fallen p at.idle.serves))
       (c.stands.ensures.stays p.state.units.kept (held-now _ _ _ p.state at.state.0.seen)) (inl refl)
       (record { there = c.break_by.ensures.broken; flies = inl (flies-none c.args.self.now.in_flight p.state.units at.state.0.flies) })),
 )

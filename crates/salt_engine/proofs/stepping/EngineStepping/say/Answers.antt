@@ -38,7 +38,7 @@ returns-in-Ok-go_on_in_line-clause-moves g c = λ p sound at.
     let x = i.scheduler in
     let t = i.behind in
     let d = said-performs line x e p sound t i.done at.comes at.serves at.line _ _ _ _ _ _ i.there (c.in-Ok-go_on_in_line.ensures.comes t (read line x e p sound t i.done at.comes at.serves at.line) (said-goes line x e p sound t i.done at.comes at.serves at.line _ _ _ i.there i.stored)) in
-    said-there line x e p sound t i.done at.comes at.serves at.line _ _ c.in-Ok-go_on_in_line.next (
+    said-there line x e p sound t i.done at.comes at.serves at.line _ c.in-Ok-go_on_in_line.next (
       said-sees line x e p sound t i.done at.comes at.serves at.line _ _ _ _ _ _ _ _ c.in-Ok-go_on_in_line.next d at.state.0.can_stop c.go_on_in_line.ensures.stays.within.shape.can_stop at.state.0.line c.go_on_in_line.ensures.stays.noted,
       next-sent _ _ _ _ _ _ t t refl refl c.go_on_in_line.ensures.stays.within.asked d.told
           (said-sent line x e p sound t i.done at.comes at.serves at.line (g.S.Storage.asked c.args.self.now.storage) _ _ _ i.there (c.in-Ok-go_on_in_line.ensures.sent t (read line x e p sound t i.done at.comes at.serves at.line) (said-goes line x e p sound t i.done at.comes at.serves at.line _ _ _ i.there i.stored)))
@@ -103,7 +103,7 @@ returns-in-Err-go_on_in_line-clause-halts g c = λ p sound at.
     let b = said-breaks line x e p sound t i.done at.comes at.serves at.line _ _ c.in-Err-go_on_in_line.halt c.break_by.result _ _ _ _ i.there c.break_by.ensures.halt c.break_by.ensures.broken
     (c.in-Err-go_on_in_line.ensures.comes t (read line x e p sound t i.done at.comes at.serves at.line) (said-goes line x e p sound t i.done at.comes at.serves at.line _ _ _ i.there i.stored)) in
     breaks-there _ _ _ _ _ p e _ _ (lies-net _ _ _ at.state.1.over c.go_on_in_line.ensures.stays.within.asked) (λ q moves. lies-net _ _ _ (said-over e p q moves ∙ at.state.1.over) c.go_on_in_line.ensures.stays.within.asked)
-    (said-halts line x e p sound t i.done at.comes at.serves at.line _ _ _ c.break_by.result _ _ _ _ _ _ c.args.story.now c.push.new.self b at.state.0.can_stop c.go_on_in_line.ensures.stays.within.shape.can_stop
+    (said-halts line x e p sound t i.done at.comes at.serves at.line _ _ _ _ c.break_by.result _ _ _ _ _ _ c.args.story.now c.push.new.self b at.state.0.can_stop c.go_on_in_line.ensures.stays.within.shape.can_stop
     at.state.0.line c.go_on_in_line.ensures.stays.noted (c.stands.ensures.sound t.units.kept i.stored.holding) c.in-Ok.ensures.ok)
 
 pub returns-in-Err-go_on_in_line-clause-counts : goal.returns-in-Err-go_on_in_line-clause-counts
@@ -133,7 +133,7 @@ returns-in-Err-clause-halts g c = λ p sound at.
     let x = i.scheduler in
     let t = i.behind in
     breaks-there _ _ _ _ _ p e _ _ (lies-net _ _ _ at.state.1.over refl) (λ q moves. lies-net _ _ _ (said-over e p q moves ∙ at.state.1.over) refl)
-    (said-lost line x e p sound t i.done at.comes at.serves at.line _ _ _ c.break_by-in-Err.result _ _ _ _ c.args.story.now c.push.new.self c.break_by-in-Err.ensures.halt
+    (said-lost line x e p sound t i.done at.comes at.serves at.line _ _ _ _ c.break_by-in-Err.result _ _ _ _ c.args.story.now c.push.new.self c.break_by-in-Err.ensures.halt
     (c.stands.ensures.stays t.units.kept i.stored.holding) c.break_by-in-Err.ensures.broken at.state.0.flies c.in-Err.ensures.err)
 
 pub returns-in-Err-clause-counts : goal.returns-in-Err-clause-counts

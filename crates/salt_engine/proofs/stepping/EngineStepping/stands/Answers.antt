@@ -10,8 +10,8 @@ returns-clause-idle g c = λ p sound at. (idle-lies _ _ _ _ _ _ _ p sound at.sta
 pub returns-clause-flown : goal.returns-clause-flown
 returns-clause-flown g c = λ p sound at. ap flight_of (flies-none c.args.self.now.in_flight p.state.units at.state.0.flies)
 
-pub returns-clause-left : goal.returns-clause-left
-returns-clause-left g c = λ room p lies. (lies.0.left, tt)
+pub returns-clause-reopens : goal.returns-clause-reopens
+returns-clause-reopens g c = λ room p lies. (lies.0.left, tt)
 
 pub returns-clause-told : goal.returns-clause-told
 returns-clause-told g c = λ numbers room p left. (left.0, tt)

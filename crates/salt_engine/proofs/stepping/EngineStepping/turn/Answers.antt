@@ -29,7 +29,7 @@ pub returns-in-Ok-clause-moves : goal.returns-in-Ok-clause-moves
 returns-in-Ok-clause-moves g c = λ p sound at turn.
     let r = reads-here p sound in
     let d = c.in-Ok.ensures.comes p.state r (to-turn _ _ c.args.self.now.stage c.args.line.now c.args.base p sound at.serves at.line at.comes turn at.state.0.seen) in
-    turned-there _ _ c.args.line.now c.args.base p sound at.serves at.comes turn r c.in-Ok.next at.line (
+    turned-there _ c.args.line.now c.args.base p sound at.serves at.comes turn r c.in-Ok.next at.line (
       turned-sees _ _ _ _ _ _ _ _ _ c.in-Ok.next c.args.base p.state d at.state.0.can_stop c.turn_in_line.ensures.stays.within.shape.can_stop at.state.0.line c.turn_in_line.ensures.stays.noted,
       next-sent _ _ _ _ _ _ p.state (turned_to c.args.base p.state) refl refl c.turn_in_line.ensures.stays.within.asked d.told
           (c.in-Ok.ensures.sent p.state r (to-turn _ _ c.args.self.now.stage c.args.line.now c.args.base p sound at.serves at.line at.comes turn at.state.0.seen)) at.state.1,
@@ -57,7 +57,7 @@ returns-in-Err-clause-halts g c = λ p sound at turn.
     let b = broken-out _ _ c.in-Err.halt c.break_by.result _ _ _ _ _ c.break_by.ensures.halt c.break_by.ensures.broken
     (c.in-Err.ensures.comes p.state r (to-turn _ _ c.args.self.now.stage c.args.line.now c.args.base p sound at.serves at.line at.comes turn at.state.0.seen)) in
     let kept = c.stands.ensures.sound p.state.units.kept (held-now _ _ _ p.state at.state.0.seen) in
-    inr (halts-there _ _ _ _ _ _ p (Turn c.args.base) (λ q moves. lies-net _ _ _ (turned-over c.args.base p q moves ∙ at.state.1.over) c.turn_in_line.ensures.stays.within.asked) (turned-halts _ _ _ c.break_by.result _ _ _ _ _ p sound at.state.0.can_stop c.turn_in_line.ensures.stays.within.shape.can_stop kept c.args.base at.serves at.comes turn r b (c.turn_in_line.ensures.stays.noted ∙ at.state.0.line)))
+    inr (halts-there _ _ _ _ _ _ p (Turn c.args.base) (λ q moves. lies-net _ _ _ (turned-over c.args.base p q moves ∙ at.state.1.over) c.turn_in_line.ensures.stays.within.asked) (turned-halts _ _ _ _ c.break_by.result _ _ _ _ _ p sound at.state.0.can_stop c.turn_in_line.ensures.stays.within.shape.can_stop kept c.args.base at.serves at.comes turn r b (c.turn_in_line.ensures.stays.noted ∙ at.state.0.line)))
 
 pub returns-in-Err-clause-counts : goal.returns-in-Err-clause-counts
 returns-in-Err-clause-counts g c = counts-cause _ _ _ [] refl (cause-told _ _ c.in-Err.halt c.break_by.result c.break_by.ensures.halt c.in-Err.ensures.cause)

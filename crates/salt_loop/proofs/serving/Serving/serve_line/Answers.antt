@@ -15,8 +15,8 @@ returns-in_err-next-clause-stops g c =
     let v = g.D.Disks.view c.args.disks.now in
     let old = c.args.database.now in
     if_err_gives c.from_residual.result (stop_of e) _ c.from_residual.ensures.1 (λ start script before first serving.
-    reading-stops (g.E.Stepping.sees v) start script before old c.args.self.now.lines (g.S.Source.left c.args.source.now) c.args.story.now (g.K.Sink.held c.args.sink.now) first v.armed serving
-    (g.E.Stepping.lies v old) (g.E.Stepping.left v old) (g.E.Stepping.fills v old) (g.E.Stepping.flight old) c.stands.ensures.idle c.stands.ensures.flown c.stands.ensures.left (g.S.Source.left c.next_line.new.source) e
+    reading-stops (g.E.Stepping.stands_for v) start script before old c.args.self.now.lines (g.S.Source.left c.args.source.now) c.args.story.now (g.K.Sink.held c.args.sink.now) first v.armed serving
+    (g.E.Stepping.on_devices v old) (g.E.Stepping.flight old) c.stands.ensures.idle c.stands.ensures.flown c.stands.ensures.reopens (g.S.Source.left c.next_line.new.source) e
     (λ is. (c.next_line.ensures.fault_open (c.in_err-next.was ∙ ap Err is), c.next_line.ensures.cut_off (c.in_err-next.was ∙ ap Err is))) (λ is. c.next_line.ensures.too_long (c.in_err-next.was ∙ ap Err is)))
 
 pub returns-in_err-next-clause-counts : goal.returns-in_err-next-clause-counts
@@ -27,8 +27,8 @@ returns-in-End-clause-goes g c = λ start script before first serving.
     let was = c.in_ok-next.was ∙ ap Ok c.in-End.is in
     let v = g.D.Disks.view c.args.disks.now in
     let old = c.args.database.now in (
-      done-ends (g.E.Stepping.sees v) start script before old c.args.self.now.lines (g.S.Source.left c.args.source.now) c.args.story.now (g.K.Sink.held c.args.sink.now) first v.armed serving
-          (g.E.Stepping.lies v old) (g.E.Stepping.left v old) (g.E.Stepping.fills v old) (g.E.Stepping.flight old) c.stands.ensures.idle c.stands.ensures.flown c.stands.ensures.left (g.S.Source.left c.next_line.new.source)
+      done-ends (g.E.Stepping.stands_for v) start script before old c.args.self.now.lines (g.S.Source.left c.args.source.now) c.args.story.now (g.K.Sink.held c.args.sink.now) first v.armed serving
+          (g.E.Stepping.on_devices v old) (g.E.Stepping.flight old) c.stands.ensures.idle c.stands.ensures.flown c.stands.ensures.reopens (g.S.Source.left c.next_line.new.source)
           (c.next_line.ensures.end was),
       (c.next_line.ensures.of (c.next_line.ensures.end_told was)).1,
     )
@@ -53,9 +53,9 @@ returns-in_err-tell_line-clause-stops g c =
     c.args.self.now.lines.taken c.next_line.new.self not_end
     (λ is. c.next_line.ensures.line (c.in_ok-next.was ∙ ap Ok is)) (λ is. c.next_line.ensures.long (c.in_ok-next.was ∙ ap Ok is))) in
     if_err_gives c.from_residual-in_err-tell_line.result e _ c.from_residual-in_err-tell_line.ensures.1 (λ start script before first serving.
-    telling-ends (g.E.Stepping.sees (g.D.Disks.view c.args.disks.now)) start script before c.args.database.now c.args.self.now.lines (g.S.Source.left c.args.source.now) c.args.story.now (g.K.Sink.held c.args.sink.now) first (g.D.Disks.view c.args.disks.now).armed serving
+    telling-ends (g.E.Stepping.stands_for (g.D.Disks.view c.args.disks.now)) start script before c.args.database.now c.args.self.now.lines (g.S.Source.left c.args.source.now) c.args.story.now (g.K.Sink.held c.args.sink.now) first (g.D.Disks.view c.args.disks.now).armed serving
     c.next_line.new.self (g.S.Source.left c.next_line.new.source) c.next_line.ensures.of (option_copied c.text_of-text.result) taken c.tell_line.new.story
-    (g.E.Stepping.sees now) new (g.E.Stepping.lies now new) (g.E.Stepping.left now new) (g.E.Stepping.fills now new) (g.E.Stepping.flight new) (g.K.Sink.held c.tell_line.new.sink) (g.S.Source.left c.next_line.new.source) now.armed e c.in_err-tell_line.ensures.of_line
+    (g.E.Stepping.stands_for now) new (g.E.Stepping.on_devices now new) (g.E.Stepping.flight new) (g.K.Sink.held c.tell_line.new.sink) (g.S.Source.left c.next_line.new.source) now.armed e c.in_err-tell_line.ensures.of_line
     (c.in_err-tell_line.ensures.err start serving.trace serving.serves))
 
 pub returns-in_err-tell_line-clause-counts : goal.returns-in_err-tell_line-clause-counts
@@ -75,6 +75,6 @@ returns-clause-goes g c = λ start script before first serving.
     (next-taken c.in_ok-next.next c.next_line.new.line.items (rest_of c.args.self.now.lines (g.S.Source.left c.args.source.now)) (rest_of c.next_line.new.self (g.S.Source.left c.next_line.new.source))
     c.args.self.now.lines.taken c.next_line.new.self not_end
     (λ is. c.next_line.ensures.line (c.in_ok-next.was ∙ ap Ok is)) (λ is. c.next_line.ensures.long (c.in_ok-next.was ∙ ap Ok is))) in
-    line-done (g.E.Stepping.sees (g.D.Disks.view c.args.disks.now)) start script before c.args.database.now c.args.self.now.lines (g.S.Source.left c.args.source.now) c.args.story.now (g.K.Sink.held c.args.sink.now) first (g.D.Disks.view c.args.disks.now).armed serving
-    c.next_line.new.self (g.S.Source.left c.next_line.new.source) c.next_line.ensures.of (option_copied c.text_of-text.result) taken c.tell_line.new.story (g.E.Stepping.sees now) c.tell_line.new.database (g.K.Sink.held c.tell_line.new.sink) now.armed
+    line-done (g.E.Stepping.stands_for (g.D.Disks.view c.args.disks.now)) start script before c.args.database.now c.args.self.now.lines (g.S.Source.left c.args.source.now) c.args.story.now (g.K.Sink.held c.args.sink.now) first (g.D.Disks.view c.args.disks.now).armed serving
+    c.next_line.new.self (g.S.Source.left c.next_line.new.source) c.next_line.ensures.of (option_copied c.text_of-text.result) taken c.tell_line.new.story (g.E.Stepping.stands_for now) c.tell_line.new.database (g.K.Sink.held c.tell_line.new.sink) now.armed
     (c.in_ok-tell_line.ensures.ok start serving.trace serving.serves)
