@@ -4,7 +4,7 @@ use Rattle.salt_database.proofs.Leftover.{left-at}
 use Rattle.salt_database.specs.Performing.{GoesOnOpening}
 use Rattle.salt_database.specs.Standing.{ends_opening, left_in, OpensIn}
 use Rattle.salt_engine.proofs.Going.{onwards, onwards-line, played-before, reads, says-keeps, says-moves, says-sound}
-use Rattle.salt_engine.specs.Performing.{Performs}
+use Rattle.salt_engine.specs.Performing.{PerformsEvent}
 use Rattle.salt_engine.specs.Standing.{AgreesWithState}
 use Rattle.salt_engine.specs.Stored.{Stored}
 use Rattle.salt_engine.specs.declared.flights.InFlight.{InFlight}
@@ -60,7 +60,7 @@ module _ (x : Recovery) (e : Event) (p : Point) (sound : IsSoundPoint p) (t : St
   moves = let r = reads p sound e t d.plain comes d.after in says-moves p sound e t d.plain comes d.after meant r (meant-is r)
 
   pub opened-on : (holds : Kept → Type 0) (is_new : Id → Type 0) (old now : Bool) (was single : Bool) (stage : Stage Recovery) (in_flight : Option InFlight) (given : Event) →
-      Performs (OpensIn holds is_new stage) in_flight meant (Some given) t → p.state.can_stop ≡ old → now ≡ old → was ≡ is_statement_line p.state.units.line → single ≡ was →
+      PerformsEvent (OpensIn holds is_new stage) in_flight meant (Some given) t → p.state.can_stop ≡ old → now ≡ old → was ≡ is_statement_line p.state.units.line → single ≡ was →
       AgreesWithState (OpensIn holds is_new stage) now single in_flight (Some given) t × (meant ≡ Some given) × (t.units.phase ≡ Opening)
   opened-on holds is_new old now was single stage in_flight given h can same line kept = (
     record {

@@ -1,7 +1,7 @@
 -- At which stage an opening is, by what it sees; and an event of it that is performed by its recovery.
 use Rattle.salt_database.specs.Standing.{OpensIn}
 use Rattle.salt_engine.specs.Flights.{IsInFlight}
-use Rattle.salt_engine.specs.Performing.{Performs}
+use Rattle.salt_engine.specs.Performing.{PerformsEvent}
 use Rattle.salt_engine.specs.Standing.{IsGoingStage}
 use Rattle.salt_engine.specs.Stored.{Stored}
 use Rattle.salt_engine.specs.declared.flights.InFlight.{InFlight}
@@ -35,7 +35,7 @@ same-some x y h = cc
 -- by a recovery
 pub opens-by : (holds : Kept → Type 0) (is_new : Id → Type 0) (stage : Stage Recovery) (in_flight : Option InFlight) (meant : Option Event) (s : State) (x : Recovery) (e given : Event) →
     IsInFlight in_flight (decision_in (Some e)) s.units → stage ≡ at.Going x → meant ≡ Some e → recovering.AnswersWith s (Some e) x (Some given) → s.units.phase ≡ Opening → Stored holds is_new (units_after e s.units) →
-    Performs (OpensIn holds is_new stage) in_flight meant (Some given) s
+    PerformsEvent (OpensIn holds is_new stage) in_flight meant (Some given) s
 opens-by holds is_new stage in_flight meant s x e given flies there is g opens stored =
     let t = g.done.0 in
     let d = g.done.1 in

@@ -18,7 +18,7 @@ use Rattle.salt_drain.specs.declared.recovery.Recovery.{Recovery}
 use Rattle.salt_engine.proofs.Performed.{acts-meant, commits-meant}
 use Rattle.salt_engine.specs.Flights.{IsInFlight}
 use Rattle.salt_engine.specs.Giving.{AsksFor, CanBeAsked, IsGiven, coming_of, units_behind}
-use Rattle.salt_engine.specs.Performing.{Performs}
+use Rattle.salt_engine.specs.Performing.{PerformsEvent}
 use Rattle.salt_engine.specs.Stored.{Stored}
 use Rattle.salt_engine.specs.declared.flights.InFlight.{InFlight}
 use Rattle.salt_engine.specs.declared.given.Given.{Given}
@@ -162,7 +162,7 @@ module _ (holds : Kept → Type 0) (is_new : Id → Type 0) (x : Recovery) (c : 
   -- it is performed
   pub taken-opens : (now : Kept → Type 0) (new_now : Id → Type 0) (stage : Stage Recovery) (in_flight : Option InFlight) (g : Given) (y : Recovery) (e : Event) → stage ≡ at.Going y →
       IsGiven now new_now in_flight c g s → recovering.AnswersWith s (event_meant s.units (coming_of g)) y (Some e) →
-      Performs (OpensIn now new_now stage) in_flight (event_meant s.units c) (Some e) s
+      PerformsEvent (OpensIn now new_now stage) in_flight (event_meant s.units c) (Some e) s
   taken-opens now new_now stage in_flight g y e there p taken =
       opens-by now new_now stage in_flight (event_meant s.units c) s y e e (subst (λ (o : Option Event). IsInFlight in_flight (decision_in o) s.units) meant p.flies) there meant
       (record { told = refl; done = taken.done }) h.opens (subst (λ (o : Option Event). Stored now new_now (units_behind o s.units)) meant p.stored)

@@ -12,7 +12,7 @@ use Rattle.salt_model.specs.Words.{Every}
 use Rattle.salt_model.specs.declared.events.Event.{Event}
 use Rattle.salt_model.specs.declared.events.Flight.{Flight}
 use Rattle.salt_driver.specs.Devices.{OnDevices}
-use Rattle.salt_driver.specs.Standing.{Advances, BreaksAt, Finishes, HaltsAt, IsAt, IsInside, IsSoundPoint, RunsShort, StopsWithin}
+use Rattle.salt_driver.specs.Standing.{AdvancesInLine, BreaksAt, FinishesLine, HaltsAt, IsAt, IsInside, IsSoundPoint, RunsShort, StopsWithin}
 use Rattle.salt_storage.specs.Answers.{disk_err_of}
 use Rattle.salt_storage.specs.declared.halt.Halt.{Halt}
 use Rattle.law_types.specs.Played.{HasKey}
@@ -102,15 +102,15 @@ stop-first devices flight halt event q story told (inr said) =
     let r = said.1 in record { moves = Say event ∷ []; point = r.0; runs = (r.0, r.1, refl); inside = (tt, tt); tells = said.0; halts = r.2 }
 
 module _ {E : Type 0} (stands_for : E → Option Event → State → Type 0) (line : Line) where
-  pub advance-none : (p : Point) (story : List Event) (e : E) (next : Option Event) → IsAt (stands_for e) line next p → Advances (stands_for e) line p story next story
+  pub advance-none : (p : Point) (story : List Event) (e : E) (next : Option Event) → IsAt (stands_for e) line next p → AdvancesInLine (stands_for e) line p story next story
   advance-none p story e next at = record { moves = []; point = p; runs = refl; inside = tt; stands = at; tells = sym (no-more story) }
 
   pub advance-once : (m : TraceStep) → IsInside m → (p q : Point) (told now : List Event) (e : E) (next : Option Event) → Moves m p q → IsAt (stands_for e) line next q →
-      now ≡ told ++ told_by (m ∷ []) → Advances (stands_for e) line p told next now
+      now ≡ told ++ told_by (m ∷ []) → AdvancesInLine (stands_for e) line p told next now
   advance-once m i p q told now e next moves at tells = record { moves = m ∷ []; point = q; runs = (q, moves, refl); inside = (i, tt); stands = at; tells = tells }
 
   pub advance-on : (old : E → Option Event → State → Type 0) (p : Point) (story told now : List Event) (e new : E) (next later : Option Event) →
-      (a : Advances (old e) line p story next told) → Advances (stands_for new) line a.point told later now → Advances (stands_for new) line p story later now
+      (a : AdvancesInLine (old e) line p story next told) → AdvancesInLine (stands_for new) line a.point told later now → AdvancesInLine (stands_for new) line p story later now
   advance-on old p story told now e new next later a b = record {
     moves = a.moves ++ b.moves;
     point = b.point;
@@ -122,8 +122,8 @@ module _ {E : Type 0} (stands_for : E → Option Event → State → Type 0) (li
 
   -- a turn is told, and settles
   pub turn-on : (old : E → Option Event → State → Type 0) (b : Id) (p q : Point) (story told now : List Event) (e new : E) →
-      (a : Advances (old e) line p story None told) → Moves (Turn b) a.point q →
-      Advances (stands_for new) line q told None now → Advances (stands_for new) line p story None now
+      (a : AdvancesInLine (old e) line p story None told) → Moves (Turn b) a.point q →
+      AdvancesInLine (stands_for new) line q told None now → AdvancesInLine (stands_for new) line p story None now
   turn-on old b p q story told now e new a m s = record {
     moves = a.moves ++ Turn b ∷ s.moves;
     point = s.point;
@@ -133,20 +133,20 @@ module _ {E : Type 0} (stands_for : E → Option Event → State → Type 0) (li
     tells = tells-both story told now a.moves (Turn b ∷ s.moves) a.tells s.tells;
   }
 
-  pub finish-where : (p : Point) (story told : List Event) (e : E) → (a : Advances (stands_for e) line p story None told) → next_turn_of a.point.state ≡ None →
-      Finishes (stands_for e) line p story told
+  pub finish-where : (p : Point) (story told : List Event) (e : E) → (a : AdvancesInLine (stands_for e) line p story None told) → next_turn_of a.point.state ≡ None →
+      FinishesLine (stands_for e) line p story told
   finish-where p story told e a t = record { advances = a; idle = record { serves = a.stands.serves; next = a.stands.comes; turn = t } }
 
   -- BROKEN OFF
 
   -- for want of memory, before a move
   pub stop-here : (devices : OnDevices) (flight : Option Flight) (halt : Halt) (p : Point) (story told : List Event) (e : E) (next : Option Event) →
-      (a : Advances (stands_for e) line p story next told) → HaltsAt devices flight halt a.point → StopsWithin devices flight halt p story told
+      (a : AdvancesInLine (stands_for e) line p story next told) → HaltsAt devices flight halt a.point → StopsWithin devices flight halt p story told
   stop-here devices flight halt p story told e next a h = record { moves = a.moves; point = a.point; runs = a.runs; inside = a.inside; tells = a.tells; halts = h }
 
   -- in telling an event
   pub stop-saying : (devices : OnDevices) (flight : Option Flight) (halt : Halt) (e : E) (event : Event) (p : Point) (story told now : List Event) →
-      (a : Advances (stands_for e) line p story (Some event) told) → BreaksAt devices flight halt a.point event told now → StopsWithin devices flight halt p story now
+      (a : AdvancesInLine (stands_for e) line p story (Some event) told) → BreaksAt devices flight halt a.point event told now → StopsWithin devices flight halt p story now
   stop-saying devices flight halt e event p story told now a (inl same) =
       subst (λ es. StopsWithin devices flight halt p story es) (sym same.0) (stop-here devices flight halt p story told e (Some event) a same.1)
   stop-saying devices flight halt e event p story told now a (inr said) =
@@ -162,7 +162,7 @@ module _ {E : Type 0} (stands_for : E → Option Event → State → Type 0) (li
 
   -- in a turn
   pub stop-turned : (devices : OnDevices) (flight : Option Flight) (halt : Halt) (b : Id) (p q : Point) (story told now : List Event) (e : E) →
-      (a : Advances (stands_for e) line p story None told) → Moves (Turn b) a.point q → StopsWithin devices flight halt q told now → StopsWithin devices flight halt p story now
+      (a : AdvancesInLine (stands_for e) line p story None told) → Moves (Turn b) a.point q → StopsWithin devices flight halt q told now → StopsWithin devices flight halt p story now
   stop-turned devices flight halt b p q story told now e a m s = record {
     moves = a.moves ++ Turn b ∷ s.moves;
     point = s.point;
@@ -174,7 +174,7 @@ module _ {E : Type 0} (stands_for : E → Option Event → State → Type 0) (li
 
   -- for want of memory before it, or at its first event
   pub stop-turning : (devices : OnDevices) (flight : Option Flight) (halt : Halt) (b : Id) (p : Point) (story told : List Event) (e : E) →
-      (a : Advances (stands_for e) line p story None told) →
+      (a : AdvancesInLine (stands_for e) line p story None told) →
       RunsShort devices flight halt a.point ⊎ ((q : Point) × Moves (Turn b) a.point q × HaltsAt devices flight halt q) → StopsWithin devices flight halt p story told
   stop-turning devices flight halt b p story told e a (inl short) = stop-here devices flight halt p story told e None a short.1
   stop-turning devices flight halt b p story told e a (inr r) = stop-turned devices flight halt b p r.0 story told told e a r.1 (stop-at devices flight halt r.0 told r.2)

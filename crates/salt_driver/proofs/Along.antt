@@ -1,7 +1,7 @@
 -- A trace goes on by moves within a segment, and so do the stops that it has armed.
 use Rattle.law_states.specs.Points.{Ask, Say, TraceStep, Turn, told_by, trace_on}
 use Rattle.salt_ast.specs.declared.lines.Line.{Line}
-use Rattle.salt_driver.specs.Along.{ArmsAlong, GoesAlong, armed_along}
+use Rattle.salt_driver.specs.Along.{ArmsAlong, StaysInSegment, armed_along}
 use Rattle.salt_driver.specs.Standing.{IsInside}
 use Rattle.salt_model.specs.Arming.{armed_by, armed_by_lines}
 use Rattle.salt_model.specs.Trace.{Trace, line_of, ◌says◌, ◌turns◌}
@@ -26,16 +26,16 @@ arms-on (Ask asked ∷ ms) trace h first = absurd h.0
 arms-on (Turn b ∷ ms) trace h first = arms-on ms (trace turns b) h.1 first
 arms-on (Say e ∷ ms) trace h first = arms-on ms (trace says e) h.1 first
 
-pub stays-along : (trace : Trace) → GoesAlong trace trace []
+pub stays-along : (trace : Trace) → StaysInSegment trace trace []
 stays-along trace = record { line = refl; armed = λ first. refl }
 
-pub says-along : (trace : Trace) (e : Event) → GoesAlong trace (trace says e) (e ∷ [])
+pub says-along : (trace : Trace) (e : Event) → StaysInSegment trace (trace says e) (e ∷ [])
 says-along trace e = record { line = refl; armed = λ first. refl }
 
-pub goes-along : (ms : List TraceStep) (trace : Trace) → Every IsInside ms → GoesAlong trace (trace_on trace ms) (told_by ms)
+pub goes-along : (ms : List TraceStep) (trace : Trace) → Every IsInside ms → StaysInSegment trace (trace_on trace ms) (told_by ms)
 goes-along ms trace h = record { line = line-on ms trace h; armed = arms-on ms trace h }
 
-pub along-behind : (trace mid after : Trace) (es fs : List Event) → GoesAlong trace mid es → GoesAlong mid after fs → GoesAlong trace after (es ++ fs)
+pub along-behind : (trace mid after : Trace) (es fs : List Event) → StaysInSegment trace mid es → StaysInSegment mid after fs → StaysInSegment trace after (es ++ fs)
 along-behind trace mid after es fs g h = record {
   line = h.line ∙ g.line;
   armed = λ first.

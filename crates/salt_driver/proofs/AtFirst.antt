@@ -17,7 +17,7 @@ use Rattle.law_openings.proofs.Opening.{falls-again, start-point}
 use Rattle.salt_driver.proofs.Falling.{fallen_point}
 use Rattle.salt_driver.proofs.StartNames.{start-names}
 use Rattle.salt_driver.specs.Devices.{OnDevices}
-use Rattle.salt_driver.specs.Opening.{FailsToFind, FindsFirst, IsOpenedFirst, IsUnfound, IsUnopened, fallen_often, start_over, starting}
+use Rattle.salt_driver.specs.Opening.{FailsToFind, FindsFirst, IsOpenedFirst, IsUnfound, IsUnopened, fallen_often, start_over, unopened_point}
 use Rattle.salt_driver.specs.Serving.{IsDown}
 use Rattle.salt_stands.specs.Stands.{are_spent}
 use Rattle.salt_stands.specs.Unspent.{OpensUnspent}
@@ -58,7 +58,7 @@ unfolding fallen_point
 unfound-point k can_stop early over well zero =
     let start = start_over k can_stop early over in
     let at = start-point start well in
-    (starting start, at.0, at.1, record { fallen = refl; kept = refl; line = refl; units = refl; named = refl; owes = refl; flight = refl; can_stop = refl; early = refl; over_net = refl })
+    (unopened_point start, at.0, at.1, record { fallen = refl; kept = refl; line = refl; units = refl; named = refl; owes = refl; flight = refl; can_stop = refl; early = refl; over_net = refl })
 unfound-point k can_stop early over well (suc times) =
     let u = unfound-point k can_stop early over well times in
     let p = u.0 in

@@ -23,8 +23,8 @@ use Rattle.salt_driver.proofs.Along.{along-behind, says-along, stays-along}
 use Rattle.salt_driver.proofs.Segments.{sound-of}
 use Rattle.salt_driver.specs.Devices.{OnDevices}
 use Rattle.salt_driver.specs.Opening.{IsFallenFrom, halt_of}
-use Rattle.salt_driver.specs.Reopening.{BreaksOpening, EndsWithin, FallsAnew, NotBegun, Reopens, WithinOpening}
-use Rattle.salt_driver.specs.Serving.{GainsEvents, Halts, IsDown, IsFitting}
+use Rattle.salt_driver.specs.Reopening.{BreaksOpening, EndsWithin, FallsAnew, NotBegun, ReopensRun, WithinOpening}
+use Rattle.salt_driver.specs.Serving.{GainsEvents, HaltsRun, IsDown, IsFitting}
 use Rattle.salt_storage.specs.Answers.{halted_by, numbers_of}
 use Rattle.salt_storage.specs.declared.halt.Halt.TheVariants as halt
 use Rattle.salt_storage.specs.declared.halt.Halt.{Halt}
@@ -207,7 +207,7 @@ no-short-fall Stopped h = cc
 no-short-fall Fault h = cc
 
 module _ (devices : OnDevices) (flies : Option Flight) (why : Why) (start : Start) (trace : Trace) (story : List Event)
-    (h : Halts devices flies (halt_of why) start story trace) where
+    (h : HaltsRun devices flies (halt_of why) start story trace) where
   pub falls-served : (again : OnDevices) (known : Option Flight) (now : List Event) → ((p q : Point) → devices.can_reopen_at 0 p → IsFallenFrom p q → again.can_reopen_at 0 q) → known ≡ flies →
       now ≡ story ++ Down why ∷ [] → FallsAnew again known start trace story now
   unfolding fallen_point
@@ -229,7 +229,7 @@ module _ (devices : OnDevices) (flies : Option Flight) (why : Why) (start : Star
 
 -- for want of memory it does not fall
 pub halted-short : (devices : OnDevices) (flies : Option Flight) (why : Why) (start : Start) (trace : Trace) (story now : List Event) → now ≡ story →
-    Halts devices flies (halt_of why) start story trace → BreaksOpening devices flies opening.Memory start trace story now
+    HaltsRun devices flies (halt_of why) start story trace → BreaksOpening devices flies opening.Memory start trace story now
 halted-short devices flies why start trace story now same h = record {
   after = trace;
   lines = refl;
@@ -286,5 +286,5 @@ module _ (devices again : OnDevices) (flies known : Option Flight) (start : Star
     stops = b.stops;
   }
 
-  pub reopens-behind : {E : Type 0} → (stands_for : E → Option Event → State → Type 0) (e : E) → Reopens (stands_for e) start f.after told now → Reopens (stands_for e) start trace story now
+  pub reopens-behind : {E : Type 0} → (stands_for : E → Option Event → State → Type 0) (e : E) → ReopensRun (stands_for e) start f.after told now → ReopensRun (stands_for e) start trace story now
   reopens-behind stands_for e r = record { after = r.after; lines = r.lines ∙ f.lines; serves = r.serves; grows = (f.grows.0 ++ r.grows.0, grows-both story told now f.grows r.grows); along = along-behind trace f.after r.after f.grows.0 r.grows.0 f.along r.along }

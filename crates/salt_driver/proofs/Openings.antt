@@ -26,9 +26,9 @@ use Rattle.salt_driver.proofs.Segments.{sound-at, sound-of, unspent-on}
 use Rattle.salt_driver.specs.Devices.{OnDevices}
 use Rattle.salt_driver.specs.Draining.{BreaksWithin}
 use Rattle.salt_driver.specs.Opening.{HasOpened, MayFailAt}
-use Rattle.salt_driver.specs.Reopening.{BreaksOpening, EndsWithin, Reopens}
+use Rattle.salt_driver.specs.Reopening.{BreaksOpening, EndsWithin, ReopensRun}
 use Rattle.salt_driver.specs.Serving.{IsDown, IsFitting}
-use Rattle.salt_driver.specs.Along.{GoesAlong}
+use Rattle.salt_driver.specs.Along.{StaysInSegment}
 use Rattle.salt_driver.specs.Standing.{BreaksAt, HaltsAt, IsInside, IsSoundPoint, OpensOn}
 use Rattle.salt_storage.proofs.Halted.{halted_later, no_numbers, same_halt}
 use Rattle.salt_storage.specs.Answers.{IsLater, halted_by, numbers_of}
@@ -145,7 +145,7 @@ module _ (devices : OnDevices) (flies : Option Flight) (start : Start) (story : 
       told ≡ story ++ (Opened h.boot h.number ∷ told_by ms)
   behind-grows h ms told tells = tells ∙ append-both story (Opened h.boot h.number ∷ []) (told_by ms)
 
-  behind-along : (h : HasOpened d.room d.point) (ms : List TraceStep) → Every IsInside ms → GoesAlong trace (behind h ms) (Opened h.boot h.number ∷ told_by ms)
+  behind-along : (h : HasOpened d.room d.point) (ms : List TraceStep) → Every IsInside ms → StaysInSegment trace (behind h ms) (Opened h.boot h.number ∷ told_by ms)
   behind-along h ms inside =
       along-behind trace (trace says Opened h.boot h.number) (behind h ms) (Opened h.boot h.number ∷ []) (told_by ms) (says-along trace (Opened h.boot h.number))
       (goes-along ms (trace says Opened h.boot h.number) inside)
@@ -156,7 +156,7 @@ module _ (devices : OnDevices) (flies : Option Flight) (start : Start) (story : 
   behind-opened stands_for h e opened told tells on = subst (λ es. OpensOn (stands_for e) h.point es None told) tells on
 
   pub opening-ends : {E : Type 0} (stands_for : E → Option Event → State → Type 0) (h : HasOpened d.room d.point) (e : E) (told : List Event) →
-      OpensOn (stands_for e) h.point (story ++ Opened h.boot h.number ∷ []) None told → Reopens (stands_for e) start trace story told
+      OpensOn (stands_for e) h.point (story ++ Opened h.boot h.number ∷ []) None told → ReopensRun (stands_for e) start trace story told
   opening-ends stands_for h e told on =
       let ms = on.moves in
       let k = behind-keeps h ms on.point on.runs in

@@ -12,7 +12,7 @@ use Rattle.law_states.specs.States.{State}
 use Rattle.law_states.specs.Steps.{to_go_by, units_after}
 use Rattle.salt_driver.proofs.Refusing.{refused-asked}
 use Rattle.salt_driver.specs.Devices.{OnDevices}
-use Rattle.salt_driver.specs.Standing.{Finishes, IsInside, IsSoundPoint, StopsWithin}
+use Rattle.salt_driver.specs.Standing.{FinishesLine, IsInside, IsSoundPoint, StopsWithin}
 use Rattle.salt_model.specs.Phases.{Serving}
 use Rattle.salt_model.specs.Trace.{Trace, Tree, ◌asks◌, ◌turns◌}
 use Rattle.salt_model.specs.Turns.{ids_after}
@@ -138,7 +138,7 @@ pub record Gains (p : Point) (story told : List Event) : Type 0 where
   pub tells : told ≡ story ++ told_by moves
 
 pub gains : {E A : Type 0} (stands_for : E → Option Event → State → Type 0) (line : Line) (devices : OnDevices) (flight : Option Flight) (p : Point)
-    (story told : List Event) (e : E) (result : Result A Halt) → OnOk result (Finishes (stands_for e) line p story told) → IfErr result (λ halt. StopsWithin devices flight halt p story told) →
+    (story told : List Event) (e : E) (result : Result A Halt) → OnOk result (FinishesLine (stands_for e) line p story told) → IfErr result (λ halt. StopsWithin devices flight halt p story told) →
     Gains p story told
 gains stands_for line devices flight p story told e (Ok done) finishes stops = record {
   moves = finishes.advances.moves;

@@ -43,7 +43,7 @@ use Rattle.salt_model.specs.declared.events.Refusal.{Refusal}
 use Rattle.salt_model.specs.declared.events.UnitKind.TheVariants.{Acid, First, Later}
 use Rattle.salt_model.specs.declared.events.UnitKind.{UnitKind}
 use Rattle.salt_model.specs.declared.locks.Lock.{Lock}
-use Rattle.salt_driver.specs.Standing.{Finishes, IsAt, IsSoundPoint}
+use Rattle.salt_driver.specs.Standing.{FinishesLine, IsAt, IsSoundPoint}
 use Rattle.salt_values.specs.declared.cont.Cont.{Cont}
 use Rattle.salt_values.specs.declared.id.Id.{Id}
 use Rattle.std.proofs.Common.{ap, append-nil, inl, inr, subst, sym, ◌∙◌}
@@ -134,7 +134,7 @@ pub refused-done : (r : Refusal) (event : Event) (p q s : Point) → IsSoundPoin
 refused-done r event p q s sound a comes m = refused-last r p q s sound a (subst (λ (f : Event). Moves (Say f) q s) (refused-first r event p q a comes) m)
 
 pub refused-whole : {E : Type 0} (stands_for : E → Option Event → State → Type 0) (r : Refusal) (event : Event) (p q : Point) (story told : List Event) (e : E) (later : Option Event) → IsSoundPoint p →
-    Moves (Ask (Rejected r)) p q → q.next ≡ Some event → ((s : Point) × Moves (Say event) q s × IsAt (stands_for e) Nothing later s) → told ≡ story ++ event ∷ [] → Finishes (stands_for e) Nothing q story told
+    Moves (Ask (Rejected r)) p q → q.next ≡ Some event → ((s : Point) × Moves (Say event) q s × IsAt (stands_for e) Nothing later s) → told ≡ story ++ event ∷ [] → FinishesLine (stands_for e) Nothing q story told
 refused-whole stands_for r event p q story told e later sound a comes x tells =
     let s = x.0 in
     let idle = refused-done r event p q s sound a comes x.1 in

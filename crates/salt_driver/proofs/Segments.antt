@@ -17,8 +17,8 @@ use Rattle.salt_model.specs.declared.events.Flight.{Flight}
 use Rattle.salt_stands.specs.Unspent.{OpensUnspent}
 use Rattle.salt_driver.proofs.Advancing.{every-last, lines-on, stop-at}
 use Rattle.salt_driver.specs.Devices.{OnDevices}
-use Rattle.salt_driver.specs.Serving.{Breaks, Goes, IsFitting, Serves}
-use Rattle.salt_driver.specs.Standing.{Finishes, HaltsAt, IsInside, IsSoundPoint, RunsShort, StopsWithin}
+use Rattle.salt_driver.specs.Serving.{BreaksByLine, GoesByLine, IsFitting, ServesTrace}
+use Rattle.salt_driver.specs.Standing.{FinishesLine, HaltsAt, IsInside, IsSoundPoint, RunsShort, StopsWithin}
 use Rattle.salt_storage.specs.declared.halt.Halt.{Halt}
 use Rattle.law_types.specs.Played.{HasKey}
 use Rattle.law_types.specs.Typed.{IsTyped}
@@ -88,11 +88,11 @@ fits-on start trace asked ms p q runs inside key f = record {
 
 module _ {E : Type 0} (old_stands_for new_stands_for : E → Option Event → State → Type 0) (start : Start) where
   -- where it serves, its point is that of the trace
-  pub serves-at : (e : E) (story : List Event) (trace : Trace) → (s : Serves (old_stands_for e) start story trace) → IsSoundPoint s.point
+  pub serves-at : (e : E) (story : List Event) (trace : Trace) → (s : ServesTrace (old_stands_for e) start story trace) → IsSoundPoint s.point
   serves-at e story trace s = sound-at start trace s.point s.tells.begins s.tells.played s.fits s.keeps
 
-  pub goes-by : (trace : Trace) (asked : Asked) (line : Line) (old new : E) (story told : List Event) → (s : Serves (old_stands_for old) start story trace) → (q : Point) →
-      HasKey asked → Moves (Ask asked) s.point q → Finishes (new_stands_for new) line q story told → Goes (new_stands_for new) start trace asked story told
+  pub goes-by : (trace : Trace) (asked : Asked) (line : Line) (old new : E) (story told : List Event) → (s : ServesTrace (old_stands_for old) start story trace) → (q : Point) →
+      HasKey asked → Moves (Ask asked) s.point q → FinishesLine (new_stands_for new) line q story told → GoesByLine (new_stands_for new) start trace asked story told
   goes-by trace asked line old new story told s q key m f =
       let a = f.advances in
       let ms = Ask asked ∷ a.moves in
@@ -115,8 +115,8 @@ module _ {E : Type 0} (old_stands_for new_stands_for : E → Option Event → St
 
   -- broken off after some events
   pub breaks-by : (devices : OnDevices) (flight : Option Flight) (halt : Halt) (trace : Trace) (asked : Asked) (old : E) (story told : List Event) →
-      (s : Serves (old_stands_for old) start story trace) → (q : Point) → HasKey asked → Moves (Ask asked) s.point q → StopsWithin devices flight halt q story told →
-      Breaks devices flight halt start trace asked story told
+      (s : ServesTrace (old_stands_for old) start story trace) → (q : Point) → HasKey asked → Moves (Ask asked) s.point q → StopsWithin devices flight halt q story told →
+      BreaksByLine devices flight halt start trace asked story told
   breaks-by devices flight halt trace asked old story told s q key m a =
       let ms = Ask asked ∷ a.moves in
       let k = runs-point ms s.point a.point trace s.keeps (sound-of start trace s.tells.begins s.tells.played s.fits) (q, m, a.runs) in
@@ -138,8 +138,8 @@ module _ {E : Type 0} (old_stands_for new_stands_for : E → Option Event → St
 
   -- before the line, or at its first event
   pub breaks-untold : (devices : OnDevices) (flight : Option Flight) (halt : Halt) (trace : Trace) (asked : Asked) (old : E) (story : List Event) →
-      (s : Serves (old_stands_for old) start story trace) → HasKey asked →
-      RunsShort devices flight halt s.point ⊎ ((q : Point) × Moves (Ask asked) s.point q × HaltsAt devices flight halt q) → Breaks devices flight halt start trace asked story story
+      (s : ServesTrace (old_stands_for old) start story trace) → HasKey asked →
+      RunsShort devices flight halt s.point ⊎ ((q : Point) × Moves (Ask asked) s.point q × HaltsAt devices flight halt q) → BreaksByLine devices flight halt start trace asked story story
   breaks-untold devices flight halt trace asked old story s key (inl short) = record {
     after = trace;
     asks = inr (short.0, refl);

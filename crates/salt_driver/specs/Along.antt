@@ -14,6 +14,6 @@ abbrev pub ArmsAlong : Line → (trace after : Trace) → List Event → Type 0
 ArmsAlong line trace after more = (first : List (ℕ × ℕ)) → armed_by_lines first after ≡ armed_along line more (armed_by_lines first trace)
 
 -- a trace goes on in the segment in which another ends, by these events
-pub record GoesAlong (trace after : Trace) (more : List Event) : Type 0 where
+pub record StaysInSegment (trace after : Trace) (more : List Event) : Type 0 where
   pub line : line_of after ≡ line_of trace
   pub armed : ArmsAlong (line_of trace) trace after more

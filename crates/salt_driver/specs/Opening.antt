@@ -24,8 +24,8 @@ use Rattle.salt_storage.specs.OpenErr.{OpenErr}
 use Rattle.std.specs.Prelude.{Bool, IsSome, List, None, Option, Some, false, suc, true, zero, ℕ, [], ⊤, ◌++◌, ◌+◌, ◌-◌, ◌<◌, ◌∷◌, ◌≡◌, ◌≤◌, ◌⊎◌}
 
 -- the point of a run that has begun, but was not opened
-abbrev pub starting : Start → Point
-starting start = record { state = started start; next = None; flight = None }
+abbrev pub unopened_point : Start → Point
+unopened_point start = record { state = started start; next = None; flight = None }
 
 -- the point of a run that fell at a point
 pub record IsFallenFrom (p q : Point) : Type 0 where

@@ -9,10 +9,10 @@ use Rattle.salt_model.specs.Played.{Tells}
 use Rattle.salt_model.specs.Trace.{Start, Trace, lines_asked, ◌says◌}
 use Rattle.salt_model.specs.declared.events.Event.{Event}
 use Rattle.salt_model.specs.declared.events.Flight.{Flight}
-use Rattle.salt_driver.specs.Along.{GoesAlong}
+use Rattle.salt_driver.specs.Along.{StaysInSegment}
 use Rattle.salt_driver.specs.Devices.{OnDevices}
 use Rattle.salt_driver.specs.Opening.{MayFailAt}
-use Rattle.salt_driver.specs.Serving.{GainsEvents, IsDown, IsFitting, Serves}
+use Rattle.salt_driver.specs.Serving.{GainsEvents, IsDown, IsFitting, ServesTrace}
 use Rattle.salt_driver.specs.Standing.{HaltsAt}
 use Rattle.salt_storage.specs.Answers.{IsLater, halted_by, numbers_of}
 use Rattle.salt_storage.specs.Writing.{OfBoot}
@@ -22,13 +22,13 @@ use Rattle.salt_storage.specs.OpenErr.{OpenErr}
 use Rattle.std.specs.Prelude.{Bool, List, Option, false, if◌then◌else◌, true, ℕ, ◌+◌, ◌≡◌, ◌≤◌, ◌⊎◌}
 
 -- the trace goes on to the end of an opening
-pub record Reopens (stands_for : Option Event → State → Type 0) (start : Start) (trace : Trace) (story : List Event)
+pub record ReopensRun (stands_for : Option Event → State → Type 0) (start : Start) (trace : Trace) (story : List Event)
     (told : List Event) : Type 0 where
   pub after : Trace
   pub lines : lines_asked after ≡ lines_asked trace
-  pub serves : Serves stands_for start told after
+  pub serves : ServesTrace stands_for start told after
   pub grows : GainsEvents story told
-  pub along : GoesAlong trace after grows.0
+  pub along : StaysInSegment trace after grows.0
 
 -- An opening was not begun: what is left of the devices stands here, where they may have one boot more; and unless memory ran out the
 -- engine can be opened. It failed by spent numbers, or halted. Where a device was full, the next boot was to be written there.
@@ -67,7 +67,7 @@ pub record BreaksOpening (devices : OnDevices) (flight : Option Flight) (e : Ope
   pub point : Point
   pub keeps : KeepsPoint point after
   pub grows : GainsEvents story told
-  pub along : GoesAlong trace after grows.0
+  pub along : StaysInSegment trace after grows.0
   pub later : IsLater e
   pub stops : NotBegun devices flight e after point ⊎ WithinOpening devices flight e after point
 
@@ -77,9 +77,9 @@ pub record FallsAnew (devices : OnDevices) (flight : Option Flight) (start : Sta
   pub lines : lines_asked after ≡ lines_asked trace
   pub down : IsDown devices flight start told after
   pub grows : GainsEvents story told
-  pub along : GoesAlong trace after grows.0
+  pub along : StaysInSegment trace after grows.0
 
 -- it is opened, or has fallen again
 abbrev pub OpensOrFalls : Bool → (Option Event → State → Type 0) → OnDevices → Option Flight → Start → Trace → (story told : List Event) → Type 0
-OpensOrFalls true stands_for devices flight start trace story told = Reopens stands_for start trace story told
+OpensOrFalls true stands_for devices flight start trace story told = ReopensRun stands_for start trace story told
 OpensOrFalls false stands_for devices flight start trace story told = FallsAnew devices flight start trace story told

@@ -32,7 +32,7 @@ pub record IsFitting (start : Start) (trace : Trace) : Type 0 where
   pub unspent : Each OpensUnspent trace
 
 -- the engine and the story are those of a trace that is played from this start and complete
-pub record Serves (stands_for : Option Event → State → Type 0) (start : Start) (story : List Event) (trace : Trace) : Type 0 where
+pub record ServesTrace (stands_for : Option Event → State → Type 0) (start : Start) (story : List Event) (trace : Trace) : Type 0 where
   pub tells : Tells start trace story
   pub complete : IsComplete trace
   pub fits : IsFitting start trace
@@ -45,18 +45,18 @@ abbrev pub GainsEvents : List Event → List Event → Type 0
 GainsEvents story told = (more : List Event) × (told ≡ story ++ more)
 
 -- a trace goes on by a line and its whole segment
-pub record Goes (stands_for : Option Event → State → Type 0) (start : Start) (trace : Trace) (asked : Asked) (story : List Event)
+pub record GoesByLine (stands_for : Option Event → State → Type 0) (start : Start) (trace : Trace) (asked : Asked) (story : List Event)
     (told : List Event) : Type 0 where
   pub after : Trace
   pub asks : lines_asked after ≡ lines_asked trace ++ asked ∷ []
   pub before : story_before after ≡ story
-  pub serves : Serves stands_for start told after
+  pub serves : ServesTrace stands_for start told after
   pub grows : GainsEvents story told
   pub armed : ArmsAlong (line_asked asked) trace after grows.0
 
 -- it breaks off in a line: the story is that of a played trace, at whose end what is left of the devices stands, and from which the run
 -- can be opened anew, unless memory ran out
-pub record Halts (devices : OnDevices) (flight : Option Flight) (halt : Halt) (start : Start) (told : List Event) (trace : Trace) : Type 0 where
+pub record HaltsRun (devices : OnDevices) (flight : Option Flight) (halt : Halt) (start : Start) (told : List Event) (trace : Trace) : Type 0 where
   pub tells : Tells start trace told
   pub fits : IsFitting start trace
   pub point : Point
@@ -65,23 +65,23 @@ pub record Halts (devices : OnDevices) (flight : Option Flight) (halt : Halt) (s
   pub halts : HaltsAt devices flight halt point
 
 -- by a line and a front of its segment; or before it, for want of memory
-pub record Breaks (devices : OnDevices) (flight : Option Flight) (halt : Halt) (start : Start) (trace : Trace)
+pub record BreaksByLine (devices : OnDevices) (flight : Option Flight) (halt : Halt) (start : Start) (trace : Trace)
     (asked : Asked) (story told : List Event) : Type 0 where
   pub after : Trace
   pub asks : (lines_asked after ≡ lines_asked trace ++ asked ∷ []) ⊎ ((halt ≡ Memory) × (after ≡ trace))
   pub before : (story_before after ≡ story) ⊎ (told ≡ story)
-  pub halts : Halts devices flight halt start told after
+  pub halts : HaltsRun devices flight halt start told after
   pub grows : GainsEvents story told
   pub armed : ArmsAlong (line_asked asked) trace after grows.0
 
 -- each trace of the engine and the story goes on by the line
 abbrev pub GoesOn : (old new : Option Event → State → Type 0) → (story : List Event) → Asked → (told : List Event) → Type 0
-GoesOn old new story asked told = (start : Start) (trace : Trace) → Serves old start story trace → Goes new start trace asked story told
+GoesOn old new story asked told = (start : Start) (trace : Trace) → ServesTrace old start story trace → GoesByLine new start trace asked story told
 
 -- or breaks off in it
 abbrev pub BreaksOff : (Option Event → State → Type 0) → OnDevices → Option Flight → Halt → (story : List Event) → Asked → (told : List Event) → Type 0
 BreaksOff stands_for devices flight halt story asked told =
-    (start : Start) (trace : Trace) → Serves stands_for start story trace → Breaks devices flight halt start trace asked story told
+    (start : Start) (trace : Trace) → ServesTrace stands_for start story trace → BreaksByLine devices flight halt start trace asked story told
 
 -- The run is down, or has not begun: the engine can be opened at the trace's end. Between the boot that is kept there and that of the
 -- devices lie no more boots than openings that failed.

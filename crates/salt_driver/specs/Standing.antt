@@ -86,7 +86,7 @@ IsInside (Ask asked) = ⊥
 IsInside m = ⊤
 
 -- from a point, where this story was told, it has come by moves of one segment to where it stands, and its story has gained their events
-pub record Advances (stands_for : Option Event → State → Type 0) (line : Line) (p : Point) (story : List Event)
+pub record AdvancesInLine (stands_for : Option Event → State → Type 0) (line : Line) (p : Point) (story : List Event)
     (next : Option Event) (told : List Event) : Type 0 where
   pub moves : List TraceStep
   pub point : Point
@@ -96,9 +96,9 @@ pub record Advances (stands_for : Option Event → State → Type 0) (line : Lin
   pub tells : told ≡ story ++ told_by moves
 
 -- it has come so to the end of the segment
-pub record Finishes (stands_for : Option Event → State → Type 0) (line : Line) (p : Point) (story : List Event)
+pub record FinishesLine (stands_for : Option Event → State → Type 0) (line : Line) (p : Point) (story : List Event)
     (told : List Event) : Type 0 where
-  pub advances : Advances stands_for line p story None told
+  pub advances : AdvancesInLine stands_for line p story None told
   pub idle : IsIdle advances.point
 
 -- or it broke off: the story has gained the events of such moves, and the engine is to be opened anew

@@ -11,8 +11,8 @@ ghost use Rattle.law_openings.specs.Draining.{CanDrain, rests_behind};
 ghost use Rattle.salt_driver.specs.Counting.{CountsFall, CountsOpening, stops_armed};
 ghost use Rattle.salt_driver.specs.Draining.{BreaksWithin, CountsOff, CountsSteps, units_in, units_told};
 ghost use Rattle.salt_driver.specs.Opening.{halt_of};
-ghost use Rattle.salt_driver.specs.Reopening.{BreaksOpening, OpensOrFalls, Reopens};
-ghost use Rattle.salt_driver.specs.Serving.{Halts, IsDown};
+ghost use Rattle.salt_driver.specs.Reopening.{BreaksOpening, OpensOrFalls, ReopensRun};
+ghost use Rattle.salt_driver.specs.Serving.{HaltsRun, IsDown};
 ghost use Rattle.salt_driver.specs.Standing.{IsOpeningAt, IsSoundPoint, OpensOn};
 ghost use Rattle.salt_storage.specs.Answers.{disk_err, halted_by, open_disk_err};
 ghost use Rattle.salt_storage.specs.Staying.{StaysWithin};
@@ -133,7 +133,7 @@ pub fn open_found<E: Openable, D: Disks, F: Fn(PlaceKind, &Key, u32) -> u32>(
     requires found { E.is_found (D.view disks.old) database.old }
     requires down { (start : Start) × (trace : Trace) × IsDown (E.on_devices (D.view disks.old) database.old) (E.flight database.old) start story.old trace }
     ensures ok { OnOk result ((start : Start) (trace : Trace) → IsDown (E.on_devices (D.view disks.old) database.old) (E.flight database.old) start story.old trace →
-        Reopens (E.stands_for (D.view disks.new) database.new) start trace story.old story.new) }
+        ReopensRun (E.stands_for (D.view disks.new) database.new) start trace story.old story.new) }
     ensures err { IfErr result (λ halt. (start : Start) (trace : Trace) → IsDown (E.on_devices (D.view disks.old) database.old) (E.flight database.old) start story.old trace →
         BreaksOpening (E.on_devices (D.view disks.new) database.new) (E.flight database.new) (halted_by halt) start trace story.old story.new) }
     ensures within { StaysWithin (E.asked database.old) (E.asked database.new) (D.view disks.old) (D.view disks.new) }
@@ -155,7 +155,7 @@ fn open_once<E: Openable, D: Disks, F: Fn(PlaceKind, &Key, u32) -> u32>(
     requires settled { E.settled (D.view disks.old) database.old }
     requires down { (start : Start) × (trace : Trace) × IsDown (E.on_devices (D.view disks.old) database.old) (E.flight database.old) start story.old trace }
     ensures ok { OnOk result ((start : Start) (trace : Trace) → IsDown (E.on_devices (D.view disks.old) database.old) (E.flight database.old) start story.old trace →
-        Reopens (E.stands_for (D.view disks.new) database.new) start trace story.old story.new) }
+        ReopensRun (E.stands_for (D.view disks.new) database.new) start trace story.old story.new) }
     ensures err { IfErr result (λ e. (start : Start) (trace : Trace) → IsDown (E.on_devices (D.view disks.old) database.old) (E.flight database.old) start story.old trace →
         BreaksOpening (E.on_devices (D.view disks.new) database.new) (E.flight database.new) e start trace story.old story.new) }
     ensures within { StaysWithin (E.asked database.old) (E.asked database.new) (D.view disks.old) (D.view disks.new) }
@@ -211,7 +211,7 @@ pub fn open<E: Openable, D: Disks, F: Fn(PlaceKind, &Key, u32) -> u32>(
     requires settled { E.settled (D.view disks.old) database.old }
     requires down { (start : Start) × (trace : Trace) × IsDown (E.on_devices (D.view disks.old) database.old) (E.flight database.old) start story.old trace }
     ensures ok { OnOk result ((start : Start) (trace : Trace) → IsDown (E.on_devices (D.view disks.old) database.old) (E.flight database.old) start story.old trace →
-        Reopens (E.stands_for (D.view disks.new) database.new) start trace story.old story.new) }
+        ReopensRun (E.stands_for (D.view disks.new) database.new) start trace story.old story.new) }
     ensures err { IfErr result (λ e. (start : Start) (trace : Trace) → IsDown (E.on_devices (D.view disks.old) database.old) (E.flight database.old) start story.old trace →
         BreaksOpening (E.on_devices (D.view disks.new) database.new) (E.flight database.new) e start trace story.old story.new) }
     ensures unstopped { result ≡ Err OpenErr.Stopped → ⊥ }
@@ -233,10 +233,10 @@ pub fn recover<E: Openable, D: Disks, F: Fn(PlaceKind, &Key, u32) -> u32>(
 ) -> Result<(), OpenErr>
     requires callable { TakesEachKey (F.pre place.now.place) }
     requires answers { GivesPlaceOf (F.post place.now.place) }
-    requires halted { (start : Start) × (trace : Trace) × Halts (E.on_devices (D.view disks.old) database.old) (E.flight database.old) (halt_of why) start story.old trace }
-    ensures ok { OnOk result ((start : Start) (trace : Trace) → Halts (E.on_devices (D.view disks.old) database.old) (E.flight database.old) (halt_of why) start story.old trace →
-        Reopens (E.stands_for (D.view disks.new) database.new) start trace story.old story.new) }
-    ensures err { IfErr result (λ e. (start : Start) (trace : Trace) → Halts (E.on_devices (D.view disks.old) database.old) (E.flight database.old) (halt_of why) start story.old trace →
+    requires halted { (start : Start) × (trace : Trace) × HaltsRun (E.on_devices (D.view disks.old) database.old) (E.flight database.old) (halt_of why) start story.old trace }
+    ensures ok { OnOk result ((start : Start) (trace : Trace) → HaltsRun (E.on_devices (D.view disks.old) database.old) (E.flight database.old) (halt_of why) start story.old trace →
+        ReopensRun (E.stands_for (D.view disks.new) database.new) start trace story.old story.new) }
+    ensures err { IfErr result (λ e. (start : Start) (trace : Trace) → HaltsRun (E.on_devices (D.view disks.old) database.old) (E.flight database.old) (halt_of why) start story.old trace →
         BreaksOpening (E.on_devices (D.view disks.new) database.new) (E.flight database.new) e start trace story.old story.new) }
     ensures unstopped { result ≡ Err OpenErr.Stopped → ⊥ }
     ensures within { StaysWithin (E.asked database.old) (E.asked database.new) (D.view disks.old) (D.view disks.new) }

@@ -6,8 +6,8 @@ ghost use Rattle.salt_model.specs.Trace.{Rejected, Start, Trace, Tree};
 ghost use Rattle.salt_model.specs.declared.events.Event.TheVariants.{Refused};
 ghost use Rattle.salt_model.specs.declared.events.Refusal.{Refusal};
 ghost use Rattle.salt_driver.specs.Counting.{CountsMore};
-ghost use Rattle.salt_driver.specs.Serving.{BreaksOff, GoesOn, Serves};
-ghost use Rattle.salt_driver.specs.Standing.{Advances, Finishes, IsAt, IsSoundPoint, StopsWithin};
+ghost use Rattle.salt_driver.specs.Serving.{BreaksOff, GoesOn, ServesTrace};
+ghost use Rattle.salt_driver.specs.Standing.{AdvancesInLine, FinishesLine, IsAt, IsSoundPoint, StopsWithin};
 ghost use Rattle.salt_storage.specs.Answers.{disk_err};
 ghost use Rattle.salt_storage.specs.Staying.{StaysWithin};
 ghost use Rattle.law_types.specs.Played.{HasKey};
@@ -35,7 +35,7 @@ fn settle<E: Stepping, D: Disks, F: Fn(PlaceKind, &Key, u32) -> u32>(
     requires answers { GivesPlaceOf (F.post place.now.place) }
     requires stands { (p : Point) × IsSoundPoint p × IsAt (E.stands_for (D.view disks.old) engine.old) line.now first p }
     ensures ok { OnOk result ((p : Point) → IsSoundPoint p → IsAt (E.stands_for (D.view disks.old) engine.old) line.now first p →
-        Advances (E.stands_for (D.view disks.new) engine.new) line.now p story.old None story.new) }
+        AdvancesInLine (E.stands_for (D.view disks.new) engine.new) line.now p story.old None story.new) }
     ensures err { IfErr result (λ halt. (p : Point) → IsSoundPoint p → IsAt (E.stands_for (D.view disks.old) engine.old) line.now first p →
         StopsWithin (E.on_devices (D.view disks.new) engine.new) (E.flight engine.new) halt p story.old story.new) }
     ensures turns { OnOk result (E.turns engine.new ≤ E.turns engine.old) }
@@ -63,7 +63,7 @@ fn finish<E: Stepping, D: Disks, F: Fn(PlaceKind, &Key, u32) -> u32>(
     requires answers { GivesPlaceOf (F.post place.now.place) }
     requires stands { (p : Point) × IsSoundPoint p × IsAt (E.stands_for (D.view disks.old) engine.old) line.now first p }
     ensures ok { OnOk result ((p : Point) → IsSoundPoint p → IsAt (E.stands_for (D.view disks.old) engine.old) line.now first p →
-        Finishes (E.stands_for (D.view disks.new) engine.new) line.now p story.old story.new) }
+        FinishesLine (E.stands_for (D.view disks.new) engine.new) line.now p story.old story.new) }
     ensures err { IfErr result (λ halt. (p : Point) → IsSoundPoint p → IsAt (E.stands_for (D.view disks.old) engine.old) line.now first p →
         StopsWithin (E.on_devices (D.view disks.new) engine.new) (E.flight engine.new) halt p story.old story.new) }
     ensures refused { (refusal : Refusal) (p : Point) → IsSoundPoint p → IsAt (E.stands_for (D.view disks.old) engine.old) line.now first p →
@@ -92,7 +92,7 @@ pub fn step<E: Stepping, D: Disks, F: Fn(PlaceKind, &Key, u32) -> u32>(
     requires answers { GivesPlaceOf (F.post place.now.place) }
     requires served { E.serves line.now }
     requires key { HasKey (Tree line.now) }
-    requires stands { (start : Start) × (trace : Trace) × Serves (E.stands_for (D.view disks.old) engine.old) start story.old trace }
+    requires stands { (start : Start) × (trace : Trace) × ServesTrace (E.stands_for (D.view disks.old) engine.old) start story.old trace }
     ensures segment { OnOk result (GoesOn (E.stands_for (D.view disks.old) engine.old) (E.stands_for (D.view disks.new) engine.new) story.old (Tree line.now) story.new) }
     ensures broken_off { IfErr result (λ halt. BreaksOff (E.stands_for (D.view disks.old) engine.old) (E.on_devices (D.view disks.new) engine.new) (E.flight engine.new) halt story.old (Tree line.now) story.new) }
     ensures refused { (refusal : Refusal) → story.new ≡ story.old ++ Refused refusal ∷ [] → disks.new ≡ disks.old }
@@ -113,7 +113,7 @@ pub fn refuse<E: Stepping, D: Disks, F: Fn(PlaceKind, &Key, u32) -> u32>(
 ) -> Result<(), Halt>
     requires callable { TakesEachKey (F.pre place.now.place) }
     requires answers { GivesPlaceOf (F.post place.now.place) }
-    requires stands { (start : Start) × (trace : Trace) × Serves (E.stands_for (D.view disks.old) engine.old) start story.old trace }
+    requires stands { (start : Start) × (trace : Trace) × ServesTrace (E.stands_for (D.view disks.old) engine.old) start story.old trace }
     ensures segment { OnOk result (GoesOn (E.stands_for (D.view disks.old) engine.old) (E.stands_for (D.view disks.new) engine.new) story.old (Rejected refusal) story.new) }
     ensures broken_off { IfErr result (λ halt. BreaksOff (E.stands_for (D.view disks.old) engine.old) (E.on_devices (D.view disks.new) engine.new) (E.flight engine.new) halt story.old (Rejected refusal) story.new) }
     ensures unwritten { disks.new ≡ disks.old }

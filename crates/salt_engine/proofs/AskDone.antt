@@ -5,7 +5,7 @@ use Rattle.salt_engine.proofs.Halting.{halts}
 use Rattle.salt_engine.proofs.LineGoes.{asked-moves, asked-played, asked-serves, asked_to, turned-moves, turned-played, turned-serves, turned_at}
 use Rattle.salt_engine.proofs.Stages.{turns-here, turns-now}
 use Rattle.salt_engine.specs.Flights.{flight_of}
-use Rattle.salt_engine.specs.Performing.{BreaksOff, IsServed, IsToAskIn, Performs, TurnsIn}
+use Rattle.salt_engine.specs.Performing.{BreaksOff, IsServed, IsToAskIn, PerformsEvent, TurnsIn}
 use Rattle.salt_engine.specs.Standing.{AgreesWithState, StandsAtEventIn, left_on_devices, serving_books, turns_by, turns_in}
 use Rattle.salt_engine.specs.declared.flights.InFlight.{InFlight}
 use Rattle.salt_engine.specs.declared.stage.Stage.TheVariants as at
@@ -125,7 +125,7 @@ turned-there stands_for line b p sound serves none turn r given served state tol
 )
 
 pub turned-sees : (holds : Kept → Type 0) (is_new : Id → Type 0) (old now was single : Bool) (stage : Stage Scheduler) (in_flight : Option InFlight) (meant given : Option Event) (b : Id) (s : State) →
-    Performs (StandsAtEventIn holds is_new stage) in_flight meant given (turned_to b s) → s.can_stop ≡ old → now ≡ old → was ≡ is_statement_line s.units.line → single ≡ was →
+    PerformsEvent (StandsAtEventIn holds is_new stage) in_flight meant given (turned_to b s) → s.can_stop ≡ old → now ≡ old → was ≡ is_statement_line s.units.line → single ≡ was →
     AgreesWithState (StandsAtEventIn holds is_new stage) now single in_flight given (turned_to b s)
 turned-sees holds is_new old now was single stage in_flight meant given b s h can same line kept = record {
   seen = h.sees;

@@ -1,7 +1,7 @@
 -- What is to come was broken off.
 use Rattle.salt_books.specs.Books.{AreBooks}
 use Rattle.salt_books.specs.declared.books.Books.{Books}
-use Rattle.salt_engine.specs.Deciding.{Undone}
+use Rattle.salt_engine.specs.Deciding.{LeavesEventUndone}
 use Rattle.salt_engine.specs.Flights.{IsInFlight}
 use Rattle.salt_engine.specs.Performing.{BreaksOff, IsHalted, IsLost, WasBroken}
 use Rattle.salt_engine.specs.Stored.{LeavesEither, MayBeOther, kept_behind}
@@ -56,7 +56,7 @@ module _ {H : Type 0} (leaves : Kept → Kept → Type 0) (fills : ToWrite → �
     behind = same ∙ ap (λ (m : Option Event). kept_behind (decision_in m) s) (sym is)
 
     -- by what the storage answered
-    pub breaks : (halt : Halt) (x : Books) → Undone leaves fills halt s e → WasBroken halt x stage → AreBooks x s → BreaksOff leaves fills halt stage in_flight meant s
+    pub breaks : (halt : Halt) (x : Books) → LeavesEventUndone leaves fills halt s e → WasBroken halt x stage → AreBooks x s → BreaksOff leaves fills halt stage in_flight meant s
     breaks halt x undone broken are = record {
       left = noted-left leaves in_flight (decision_in meant) s flown (subst (LeavesEither leaves ⊤ s.kept) behind undone.left);
       how = by broken undone.reason;

@@ -6,7 +6,7 @@ use Rattle.salt_books.specs.Coming.{IsLaterUnit}
 use Rattle.salt_books.specs.declared.books.Books.{Books}
 use Rattle.salt_cont.specs.Move.{Move}
 use Rattle.salt_engine.proofs.Decided.{branch-written, commit-written, edits-back, ended-stored, ended-undone, ends-next, is-new-unit, named-unit}
-use Rattle.salt_engine.specs.Deciding.{IsBefore, IsBranched, IsCommitted, Undone, branches_in}
+use Rattle.salt_engine.specs.Deciding.{IsBefore, IsBranched, IsCommitted, LeavesEventUndone, branches_in}
 use Rattle.law_states.specs.OpenUnits.{OpenUnit, UnitState, unit_named}
 use Rattle.law_states.specs.Overlays.{edits_of}
 use Rattle.law_states.specs.Told.{commits_in, next_decision_number}
@@ -73,7 +73,7 @@ module _ (holds : Kept → Type 0) (is_new : Id → Type 0) (x : Books) (s : Uni
 
       pub commit-undone : (leaves : Kept → Kept → Type 0) (fills : ToWrite → ℕ → Type 0) (halt : Halt) →
           leaves s.kept (decided s.kept cs (conts_committed s.kept (next_decision_number s) o.kind o.vars)) → ((dev : ℕ) → halt ≡ DeviceFull dev → fills (OfUnit u cs m) dev) →
-          Undone leaves fills halt s (commits_in s o)
+          LeavesEventUndone leaves fills halt s (commits_in s o)
       commit-undone leaves fills halt left full =
           ended-undone holds is_new x s o u (Committed (next_decision_number s)) b named may leaves fills halt cs m refl (subst (leaves s.kept) ends.leaves left)
           (commit-written s o u cs m named are moves) full
@@ -108,7 +108,7 @@ module _ (holds : Kept → Type 0) (is_new : Id → Type 0) (x : Books) (s : Uni
 
       pub branch-undone : (leaves : Kept → Kept → Type 0) (fills : ToWrite → ℕ → Type 0) (halt : Halt) →
           leaves s.kept (decided s.kept cs (conts_branched s.kept o.kind)) → ((dev : ℕ) → halt ≡ DeviceFull dev → fills (OfUnit u cs m) dev) →
-          Undone leaves fills halt s (branches_in s o.unit cause)
+          LeavesEventUndone leaves fills halt s (branches_in s o.unit cause)
       branch-undone leaves fills halt left full =
           ended-undone holds is_new x s o u (Branched (next_decision_number s) cause) b named may leaves fills halt cs m refl (subst (leaves s.kept) branches.leaves left)
           (λ w is. branch-written s o u cause m named moves w (is ∙ ap (λ (ds : List Change). OfUnit u ds m) none)) full
@@ -120,6 +120,6 @@ own-branch holds is_new x s u base cause b later =
     subst (λ v. IsBefore holds is_new x (branches_in s v cause) s) (sym (named-unit u s.units later.unit later.named)) b
 
 pub own-undone : (leaves : Kept → Kept → Type 0) (fills : ToWrite → ℕ → Type 0) (halt : Halt) (s : UnitState) (u base : Id) (cause : Cause) → (later : IsLaterUnit s u base) →
-    Undone leaves fills halt s (branches_in s later.unit.unit cause) → Undone leaves fills halt s (branches_in s u cause)
+    LeavesEventUndone leaves fills halt s (branches_in s later.unit.unit cause) → LeavesEventUndone leaves fills halt s (branches_in s u cause)
 own-undone leaves fills halt s u base cause later undone =
-    subst (λ v. Undone leaves fills halt s (branches_in s v cause)) (named-unit u s.units later.unit later.named) undone
+    subst (λ v. LeavesEventUndone leaves fills halt s (branches_in s v cause)) (named-unit u s.units later.unit later.named) undone

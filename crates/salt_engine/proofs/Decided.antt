@@ -1,7 +1,7 @@
 -- A unit's end that comes next is decided, or broken off.
 use Rattle.salt_books.specs.declared.books.Books.{Books}
 use Rattle.salt_cont.specs.Move.{Move}
-use Rattle.salt_engine.specs.Deciding.{IsBefore, Undone, branches_in}
+use Rattle.salt_engine.specs.Deciding.{IsBefore, LeavesEventUndone, branches_in}
 use Rattle.salt_engine.specs.Stored.{Stored}
 use Rattle.law_states.specs.Keeps.{KeepsUnits}
 use Rattle.law_states.specs.Laws.{IsSound, is_of_run}
@@ -70,7 +70,7 @@ stored-still holds now is_new new_now s stored held stays = record { holding = h
 -- MEMORY RAN OUT before an event, or behind it
 
 pub undone-before : (leaves : Kept → Kept → Type 0) (fills : ToWrite → ℕ → Type 0) (s : UnitState) (e : Event) → leaves s.kept s.kept →
-    Undone leaves fills Memory s e
+    LeavesEventUndone leaves fills Memory s e
 undone-before leaves fills s e left = record {
   left = record { one = s.kept; other = s.kept; left = left; is_one = inl refl; is_other = inl refl };
   reason = inl refl;
@@ -109,7 +109,7 @@ module _ (holds : Kept → Type 0) (is_new : Id → Type 0) (x : Books) (s : Uni
   -- what is written of it
   pub ended-undone : (leaves : Kept → Kept → Type 0) (fills : ToWrite → ℕ → Type 0) (halt : Halt) (cs : List Change) (m : Move) → at_devices_in s (Ended o.unit end) ≡ true →
       leaves s.kept (units_after (Ended o.unit end) s).kept → ((w : ToWrite) → w ≡ OfUnit u cs m → IsWrittenBy s (Some (Ended o.unit end)) w) →
-      ((dev : ℕ) → halt ≡ DeviceFull dev → fills (OfUnit u cs m) dev) → Undone leaves fills halt s (Ended o.unit end)
+      ((dev : ℕ) → halt ≡ DeviceFull dev → fills (OfUnit u cs m) dev) → LeavesEventUndone leaves fills halt s (Ended o.unit end)
   ended-undone leaves fills halt cs m devices left written full = record {
     left = record { one = s.kept; other = (units_after (Ended o.unit end) s).kept; left = left; is_one = inl refl; is_other = inr (tt, refl) };
     reason = inr devices;

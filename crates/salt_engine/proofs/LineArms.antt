@@ -4,7 +4,7 @@ use Rattle.salt_ast.specs.declared.lines.Line.{Line}
 use Rattle.salt_engine.proofs.Flying.{none-flies}
 use Rattle.salt_engine.proofs.Performed.{serves-by, stored-plain}
 use Rattle.salt_engine.specs.Netted.{net_after}
-use Rattle.salt_engine.specs.Performing.{AsksLine, IsServed, Performs}
+use Rattle.salt_engine.specs.Performing.{AsksLine, IsServed, PerformsEvent}
 use Rattle.salt_engine.specs.Stored.{Stored}
 use Rattle.salt_engine.specs.declared.flights.InFlight.{InFlight}
 use Rattle.salt_engine.specs.declared.stage.Stage.TheVariants as at
@@ -65,7 +65,7 @@ module _ (holds : Kept → Type 0) (is_new : Id → Type 0) (stoppable : Bool) (
 
     pub arms-performs : (now : Kept → Type 0) (new_now : Id → Type 0) (stage : Stage Scheduler) (in_flight : Option InFlight) (y : Scheduler) (e : Event) (told : List (ℕ × ℕ)) → told ≡ pairs →
         in_flight ≡ None → stage ≡ at.Going y → Stored now new_now s.units → (r : WatchReading s.watch) → scheduling.AnswersWith s (Some (Armed told)) y (Some e) →
-        Performs (StandsAtEventIn now new_now stage) in_flight (line_in s.units (clash_by s) (items_by s r) line) (Some e) s
+        PerformsEvent (StandsAtEventIn now new_now stage) in_flight (line_in s.units (clash_by s) (items_by s r) line) (Some e) s
     arms-performs now new_now stage in_flight y e told same none there stored r g =
         serves-by now new_now stage in_flight (line_in s.units (clash_by s) (items_by s r) line) s y (Armed told) e (none-flies in_flight None s.units none refl) there (arms-meant told same r) g h.allowed.serves.phase
         (stored-plain now new_now (Armed told) (line_in s.units (clash_by s) (items_by s r) line) s (h.played r) (arms-meant told same r) refl refl stored)

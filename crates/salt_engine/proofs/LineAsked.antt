@@ -8,7 +8,7 @@ use Rattle.salt_engine.proofs.Counted.{same-cause}
 use Rattle.salt_engine.proofs.Flying.{none-flies}
 use Rattle.salt_engine.proofs.Performed.{serves-by, stored-plain}
 use Rattle.salt_engine.proofs.Plain.{first-plain}
-use Rattle.salt_engine.specs.Performing.{AsksLine, ComesOut, IsPlayedBefore, IsServed, IsToAsk, Performs, Rejects, is_prepared}
+use Rattle.salt_engine.specs.Performing.{AsksLine, ComesOut, IsPlayedBefore, IsServed, IsToAsk, PerformsEvent, Rejects, is_prepared}
 use Rattle.salt_engine.specs.Stored.{Stored}
 use Rattle.salt_engine.specs.declared.flights.InFlight.{InFlight}
 use Rattle.salt_engine.specs.declared.stage.Stage.TheVariants as at
@@ -104,7 +104,7 @@ module _ (holds : Kept → Type 0) (is_new : Id → Type 0) (stoppable : Bool) (
 
     pub refused-performs : (stage : Stage Scheduler) (in_flight : Option InFlight) (e : Event) (y z : Scheduler) → stage ≡ at.Going z →
         scheduling.DoesNext (λ s r. Some (Refused refusal)) line y z e → scheduling.StandsForState y now → in_flight ≡ None →
-        (r : WatchReading s.watch) → Performs (StandsAtEventIn holds is_new stage) in_flight (asked_next s r (Tree line)) (Some e) now
+        (r : WatchReading s.watch) → PerformsEvent (StandsAtEventIn holds is_new stage) in_flight (asked_next s r (Tree line)) (Some e) now
     refused-performs stage in_flight e y z there does stands none r =
         serves-by holds is_new stage in_flight (asked_next s r (Tree line)) now z (Refused refusal) e (none-flies in_flight None now.units none refl) there (is-refused r) (does now r stands h.serves) h.serves.phase
         (stored-plain holds is_new (Refused refusal) (asked_next s r (Tree line)) now (h.played r) (is-refused r) refl refl
@@ -121,7 +121,7 @@ module _ (holds : Kept → Type 0) (is_new : Id → Type 0) (refusal : Refusal) 
 
   pub rejected-performs : (in_flight : Option InFlight) (e : Event) (r : WatchReading p.state.watch) → Rejects refusal x y e → scheduling.StandsForState x p.state →
       scheduling.ServesLine Nothing rejected → IsPlayedBefore (asked_next p.state r (Rejected refusal)) rejected → Stored holds is_new p.state.units → in_flight ≡ None →
-      Performs (StandsAtEventIn holds is_new (at.Going y)) in_flight (asked_next p.state r (Rejected refusal)) (Some e) rejected
+      PerformsEvent (StandsAtEventIn holds is_new (at.Going y)) in_flight (asked_next p.state r (Rejected refusal)) (Some e) rejected
   rejected-performs in_flight e r f stands serves played stored none =
       serves-by holds is_new (at.Going y) in_flight (asked_next p.state r (Rejected refusal)) rejected y (Refused refusal) e (none-flies in_flight None rejected.units none refl) refl refl (f p.state r stands serves) serves.phase
       (stored-plain holds is_new (Refused refusal) (asked_next p.state r (Rejected refusal)) rejected played refl refl refl (record { holding = stored.holding; new = stored.new }))

@@ -10,10 +10,10 @@ use Rattle.salt_books.specs.declared.books.Books.{Books}
 use Rattle.salt_engine.proofs.Broken.{breaks, breaks-behind}
 use Rattle.salt_engine.proofs.Decided.{stored-behind}
 use Rattle.salt_engine.proofs.Performed.{serves-by}
-use Rattle.salt_engine.specs.Deciding.{Undone}
+use Rattle.salt_engine.specs.Deciding.{LeavesEventUndone}
 use Rattle.salt_engine.specs.Flights.{IsInFlight, definition_of, text_of}
 use Rattle.salt_model.specs.Refusals.{defines}
-use Rattle.salt_engine.specs.Performing.{AsksLine, BreaksOff, Performs, WasBroken}
+use Rattle.salt_engine.specs.Performing.{AsksLine, BreaksOff, PerformsEvent, WasBroken}
 use Rattle.salt_engine.specs.Stored.{Stored}
 use Rattle.salt_engine.specs.declared.flights.InFlight.TheVariants as asked
 use Rattle.salt_engine.specs.declared.flights.InFlight.{InFlight}
@@ -120,7 +120,7 @@ module _ (holds : Kept → Type 0) (is_new : Id → Type 0) (stoppable : Bool) (
 
   pub defined-performs : (now : Kept → Type 0) (new_now : Id → Type 0) (y : Scheduler) (e : Event) (r : WatchReading s.watch) → now (defined s.units.kept d.definition) →
       ((u : Id) → is_new u → new_now u) → scheduling.AnswersWith s (line_in s.units (clash_by s) (items_by s r) line) y (Some e) →
-      Performs (StandsAtEventIn now new_now (at.Going y)) (Some f) (line_in s.units (clash_by s) (items_by s r) line) (Some e) s
+      PerformsEvent (StandsAtEventIn now new_now (at.Going y)) (Some f) (line_in s.units (clash_by s) (items_by s r) line) (Some e) s
   defined-performs now new_now y e r holding stays g =
       serves-by now new_now (at.Going y) (Some f) (line_in s.units (clash_by s) (items_by s r) line) s y event e d.flies refl (d.meant r)
       (subst (λ (m : Option Event). scheduling.AnswersWith s m y (Some e)) (d.meant r) g) h.allowed.serves.phase (defined-stored now new_now r holding stays)
@@ -138,7 +138,7 @@ module _ (holds : Kept → Type 0) (is_new : Id → Type 0) (stoppable : Bool) (
         (subst (λ (k : Kept). leaves k k) d.may.leaves left) there
 
     undone : (halt : Halt) → leaves s.units.kept (defined s.units.kept d.definition) → ((dev : ℕ) → halt ≡ DeviceFull dev → fills (OfDefinition (text_of f)) dev) →
-        Undone leaves fills halt s.units event
+        LeavesEventUndone leaves fills halt s.units event
     undone halt left full = record {
       left = record {
         one = s.units.kept;

@@ -1,6 +1,6 @@
 -- A line that is asked, and a turn of `go all`, as moves of a point.
 use Rattle.salt_ast.specs.declared.lines.Line.{Line}
-use Rattle.salt_engine.specs.Performing.{IsPlayedBefore, Performs}
+use Rattle.salt_engine.specs.Performing.{IsPlayedBefore, PerformsEvent}
 use Rattle.salt_engine.specs.Standing.{AgreesWithState, StandsAtEventIn}
 use Rattle.salt_engine.specs.declared.flights.InFlight.{InFlight}
 use Rattle.salt_engine.specs.declared.stage.Stage.{Stage}
@@ -65,7 +65,7 @@ module _ (asked : Asked) (p : Point) (sound : IsSoundPoint p) (idle : IsIdle p) 
   asked-moves r = record { idle = idle; state = refl; read = r; next = refl; flight = refl }
 
   pub asked-at : (holds : Kept → Type 0) (is_new : Id → Type 0) (old now single : Bool) (stage : Stage Scheduler) (in_flight : Option InFlight) (given : Option Event) (r : WatchReading p.state.watch) →
-      Performs (StandsAtEventIn holds is_new stage) in_flight (asked_next p.state r asked) given (asked_of asked p.state) → p.state.can_stop ≡ old → now ≡ old →
+      PerformsEvent (StandsAtEventIn holds is_new stage) in_flight (asked_next p.state r asked) given (asked_of asked p.state) → p.state.can_stop ≡ old → now ≡ old →
       single ≡ is_statement_line (line_asked asked) → AgreesWithState (StandsAtEventIn holds is_new stage) now single in_flight given (asked_of asked p.state)
   asked-at holds is_new old now single stage in_flight given r h can same line = record {
     seen = h.sees;

@@ -7,7 +7,7 @@ use Rattle.salt_books.specs.Books.{AreLoaded}
 use Rattle.salt_books.specs.declared.asking.Asking.{Asking}
 use Rattle.salt_books.specs.declared.books.Books.{Books}
 use Rattle.salt_engine.proofs.Decided.{named-unit}
-use Rattle.salt_engine.specs.Deciding.{IsBefore, Undone}
+use Rattle.salt_engine.specs.Deciding.{IsBefore, LeavesEventUndone}
 use Rattle.salt_eval.proofs.InOrder.{in_order, tables_of-list}
 use Rattle.salt_eval.specs.Scans.{IsKeyed}
 use Rattle.salt_eval.specs.Views.{tables_of}
@@ -145,7 +145,7 @@ module _ (holds : Kept → Type 0) (is_new : Id → Type 0) (x : Books) (a : Ask
 
   -- it was not loaded
   pub unloaded : (leaves : Kept → Kept → Type 0) (fills : ToWrite → ℕ → Type 0) (halt : Halt) → leaves s.kept s.kept → ((dev : ℕ) → halt ≡ DeviceFull dev → ⊥) →
-      Undone leaves fills halt s (does_in s o a.statement)
+      LeavesEventUndone leaves fills halt s (does_in s o a.statement)
   unloaded leaves fills halt left full = record {
     left = record { one = s.kept; other = s.kept; left = left; is_one = inl refl; is_other = inl refl };
     reason = inr (reach-devices s o a.statement r (ap (λ v. unit_named v s.units) (named-unit a.unit s.units o asked.named) ∙ asked.named) reaches);

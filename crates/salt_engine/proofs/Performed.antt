@@ -9,7 +9,7 @@ use Rattle.salt_engine.proofs.Decided.{stored-behind}
 use Rattle.salt_engine.proofs.Flying.{undecided-keeps}
 use Rattle.salt_engine.specs.Deciding.{ComesNext, IsBefore}
 use Rattle.salt_engine.specs.Flights.{IsInFlight}
-use Rattle.salt_engine.specs.Performing.{IsPlayedBefore, Performs}
+use Rattle.salt_engine.specs.Performing.{IsPlayedBefore, PerformsEvent}
 use Rattle.salt_engine.specs.Standing.{StandsAtEventIn}
 use Rattle.salt_engine.specs.Stored.{Stored}
 use Rattle.salt_engine.specs.declared.flights.InFlight.{InFlight}
@@ -63,7 +63,7 @@ unit-there s u h = by (unit_named u s.units) h refl
 -- by a scheduler
 pub serves-by : (holds : Kept → Type 0) (is_new : Id → Type 0) (stage : Stage Scheduler) (in_flight : Option InFlight) (meant : Option Event) (s : State) (x : Scheduler) (e given : Event) →
     IsInFlight in_flight (decision_in (Some e)) s.units → stage ≡ at.Going x → meant ≡ Some e → scheduling.AnswersWith s (Some e) x (Some given) → s.units.phase ≡ Serving → Stored holds is_new (units_after e s.units) →
-    Performs (StandsAtEventIn holds is_new stage) in_flight meant (Some given) s
+    PerformsEvent (StandsAtEventIn holds is_new stage) in_flight meant (Some given) s
 serves-by holds is_new stage in_flight meant s x e given flies there is g serves stored =
     let t = g.done.0 in
     let d = g.done.1 in

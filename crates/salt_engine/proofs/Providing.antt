@@ -12,7 +12,7 @@ use Rattle.salt_engine.proofs.Decided.{named-unit}
 use Rattle.salt_engine.proofs.Flying.{kept-decided, none-flies}
 use Rattle.salt_engine.proofs.Judging.{keys-left}
 use Rattle.salt_engine.proofs.Performed.{acts-meant, commits-meant, is-before, stored-plain, unit-there}
-use Rattle.salt_engine.specs.Deciding.{IsBefore, IsBranched, IsCommitted, Undone, branches_in}
+use Rattle.salt_engine.specs.Deciding.{IsBefore, IsBranched, IsCommitted, LeavesEventUndone, branches_in}
 use Rattle.salt_engine.specs.Flights.{IsInFlight}
 use Rattle.salt_engine.specs.Giving.{AsksFor, FitsUnits, IsGiven, IsUndone, coming_of, units_behind}
 use Rattle.salt_engine.specs.Performing.{BreaksOff, WasBroken}
@@ -109,7 +109,7 @@ module _ (holds : Kept → Type 0) (is_new : Id → Type 0) (x : Books) (a : Ask
       (kept-decided act-event s.units refl) (none-flies in_flight None s.units none refl)
 
   pub act-undone : (leaves : Kept → Kept → Type 0) (fills : ToWrite → ℕ → Type 0) (halt : Halt) (in_flight : Option InFlight) → in_flight ≡ None →
-      Undone leaves fills halt s.units act-event → IsUndone leaves fills halt x in_flight (event_meant s.units (coming.Act a)) s.units
+      LeavesEventUndone leaves fills halt s.units act-event → IsUndone leaves fills halt x in_flight (event_meant s.units (coming.Act a)) s.units
   act-undone leaves fills halt in_flight none undone = record {
     event = act-event;
     is = act-meant;
@@ -149,7 +149,7 @@ module _ (holds : Kept → Type 0) (is_new : Id → Type 0) (x : Books) (u : Id)
       given-by now new_now (Some (asked.Commit u)) (coming.Commit u) (given.Committed u d.made d.number) commit-event s commit-meant refl
       (commit-unit, commit-named, done.moves, done.number) done.stored (kept-decided commit-event s.units refl) commit-flies
 
-  pub commit-undone : (leaves : Kept → Kept → Type 0) (fills : ToWrite → ℕ → Type 0) (halt : Halt) → Undone leaves fills halt s.units commit-event →
+  pub commit-undone : (leaves : Kept → Kept → Type 0) (fills : ToWrite → ℕ → Type 0) (halt : Halt) → LeavesEventUndone leaves fills halt s.units commit-event →
       IsUndone leaves fills halt x (Some (asked.Commit u)) (event_meant s.units (coming.Commit u)) s.units
   commit-undone leaves fills halt undone = record {
     event = commit-event;
@@ -182,7 +182,7 @@ module _ (holds : Kept → Type 0) (is_new : Id → Type 0) (x : Books) (u base 
       (subst (λ v. Stored now new_now (units_after (branches_in s.units v cause) s.units)) (named-unit u s.units.units branch-unit.unit branch-unit.named) done.stored)
       (kept-decided branch-event s.units refl) branch-flies
 
-  pub branch-undone : (leaves : Kept → Kept → Type 0) (fills : ToWrite → ℕ → Type 0) (halt : Halt) → Undone leaves fills halt s.units branch-event →
+  pub branch-undone : (leaves : Kept → Kept → Type 0) (fills : ToWrite → ℕ → Type 0) (halt : Halt) → LeavesEventUndone leaves fills halt s.units branch-event →
       IsUndone leaves fills halt x (Some (asked.Branch u base cause)) (event_meant s.units (coming.Branch u base cause)) s.units
   branch-undone leaves fills halt undone = record {
     event = branch-event;

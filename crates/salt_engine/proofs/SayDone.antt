@@ -12,7 +12,7 @@ use Rattle.salt_engine.proofs.InStage.{broken-out, followed}
 use Rattle.salt_engine.proofs.ServingGoes.{goes, meant, moves, plain, point, read, serves, serves-on}
 use Rattle.salt_engine.proofs.Stages.{left-at, serves-now, turns-done, turns-now}
 use Rattle.salt_engine.specs.Flights.{IsInFlight, flight_of}
-use Rattle.salt_engine.specs.Performing.{BreaksOff, GoesOnServingIn, Performs, broken_by}
+use Rattle.salt_engine.specs.Performing.{BreaksOff, GoesOnServingIn, PerformsEvent, broken_by}
 use Rattle.salt_engine.specs.Standing.{AgreesWithState, IsGoingStage, StandsAtEventIn, follow_in, left_on_devices, serving_books, turns_in, waits_in}
 use Rattle.salt_engine.specs.Stored.{Stored, kept_behind}
 use Rattle.salt_engine.specs.declared.flights.InFlight.{InFlight}
@@ -78,8 +78,8 @@ module _ (line : Line) (x : Scheduler) (e : Event) (p : Point) (sound : IsSoundP
   behind-as stage there = sym (followed t (read line x e p sound t d comes phase served) stage x there)
 
   pub said-performs : (holds : Kept → Type 0) (is_new : Id → Type 0) (stage later : Stage Scheduler) (in_flight : Option InFlight) (given : Option Event) → stage ≡ at.Going x →
-      Performs (StandsAtEventIn holds is_new later) in_flight (behind_in t (read line x e p sound t d comes phase served) (follow_in stage)) given t →
-      Performs (StandsAtEventIn holds is_new later) in_flight wanted given t
+      PerformsEvent (StandsAtEventIn holds is_new later) in_flight (behind_in t (read line x e p sound t d comes phase served) (follow_in stage)) given t →
+      PerformsEvent (StandsAtEventIn holds is_new later) in_flight wanted given t
   said-performs holds is_new stage later in_flight given there h = record { told = h.told ∙ behind-as stage there; sees = h.sees; flies = h.flies }
 
   -- what was sent of it
@@ -96,7 +96,7 @@ module _ (line : Line) (x : Scheduler) (e : Event) (p : Point) (sound : IsSoundP
       (broken-out leaves fills halt told later now in_flight (behind_in t (read line x e p sound t d comes phase served) (follow_in stage)) t.units same broken b)
 
   pub said-sees : (holds : Kept → Type 0) (is_new : Id → Type 0) (old stoppable : Bool) (was single : Bool) (stage : Stage Scheduler) (in_flight : Option InFlight) (given : Option Event) →
-      Performs (StandsAtEventIn holds is_new stage) in_flight wanted given t → p.state.can_stop ≡ old → stoppable ≡ old → was ≡ is_statement_line p.state.units.line → single ≡ was →
+      PerformsEvent (StandsAtEventIn holds is_new stage) in_flight wanted given t → p.state.can_stop ≡ old → stoppable ≡ old → was ≡ is_statement_line p.state.units.line → single ≡ was →
       AgreesWithState (StandsAtEventIn holds is_new stage) stoppable single in_flight given t
   said-sees holds is_new old stoppable was single stage in_flight given h can same lined kept =
       serves-on line x e p sound t d comes phase served holds is_new old stoppable was single stage in_flight given h can same lined kept

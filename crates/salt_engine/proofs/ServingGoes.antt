@@ -1,7 +1,7 @@
 -- A line goes on: what is performed behind an event is a move of its point.
 use Rattle.salt_ast.specs.declared.lines.Line.{Line}
 use Rattle.salt_engine.proofs.Going.{onwards, onwards-line, played-before, reads, says-keeps, says-moves, says-sound}
-use Rattle.salt_engine.specs.Performing.{GoesOnServing, Performs}
+use Rattle.salt_engine.specs.Performing.{GoesOnServing, PerformsEvent}
 use Rattle.salt_engine.specs.Standing.{AgreesWithState, StandsAtEventIn}
 use Rattle.salt_engine.specs.Stored.{Stored}
 use Rattle.salt_engine.specs.declared.flights.InFlight.{InFlight}
@@ -72,7 +72,7 @@ module _ (line : Line) (x : Scheduler) (e : Event) (p : Point) (sound : IsSoundP
 
   -- where it stands behind it
   pub serves-on : (holds : Kept → Type 0) (is_new : Id → Type 0) (old now : Bool) (was single : Bool) (stage : Stage Scheduler) (in_flight : Option InFlight) (given : Option Event) →
-      Performs (StandsAtEventIn holds is_new stage) in_flight (meant read) given t → p.state.can_stop ≡ old → now ≡ old → was ≡ is_statement_line p.state.units.line → single ≡ was →
+      PerformsEvent (StandsAtEventIn holds is_new stage) in_flight (meant read) given t → p.state.can_stop ≡ old → now ≡ old → was ≡ is_statement_line p.state.units.line → single ≡ was →
       AgreesWithState (StandsAtEventIn holds is_new stage) now single in_flight given t
   serves-on holds is_new old now was single stage in_flight given h can same line kept = record {
     seen = h.sees;

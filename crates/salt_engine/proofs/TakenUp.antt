@@ -13,7 +13,7 @@ use Rattle.salt_cont.specs.Move.{Move}
 use Rattle.salt_engine.proofs.Performed.{acts-meant, commits-meant}
 use Rattle.salt_engine.specs.Flights.{IsInFlight}
 use Rattle.salt_engine.specs.Giving.{AsksFor, CanBeAsked, CanTakeUp, IsGiven, coming_of, units_behind}
-use Rattle.salt_engine.specs.Performing.{IsPlayedBefore, IsToServe, Performs}
+use Rattle.salt_engine.specs.Performing.{IsPlayedBefore, IsToServe, PerformsEvent}
 use Rattle.salt_engine.specs.Standing.{StandsAtEventIn}
 use Rattle.salt_engine.specs.Stored.{Stored}
 use Rattle.salt_engine.specs.declared.flights.InFlight.{InFlight}
@@ -138,7 +138,7 @@ module _ (holds : Kept → Type 0) (is_new : Id → Type 0) (x : Scheduler) (c :
 -- it is performed
 pub taken-performs : (now : Kept → Type 0) (new_now : Id → Type 0) (stage : Stage Scheduler) (in_flight : Option InFlight) (c : Coming) (g : Given) (s : State) (y : Scheduler)
     (next : Option Event) → stage ≡ at.Going y → IsGiven now new_now in_flight c g s → s.units.phase ≡ Serving → AnswersWith s (event_meant s.units (coming_of g)) y next →
-    Performs (StandsAtEventIn now new_now stage) in_flight (event_meant s.units c) next s
+    PerformsEvent (StandsAtEventIn now new_now stage) in_flight (event_meant s.units c) next s
 taken-performs now new_now stage in_flight c g s y next there p serves taken = record {
   told = told;
   sees = subst (λ (q : Stage Scheduler). StandsAtEventIn now new_now q next s) (sym there)

@@ -69,7 +69,7 @@ pub record IsBranched (holds : Kept → Type 0) (is_new : Id → Type 0) (d : De
 
 -- An event was to come next, and was broken off: a stop leaves what is kept before or behind it; unless memory ran out it is at the
 -- devices; and where a device was full, by what was to be written of it.
-pub record Undone (leaves : Kept → Kept → Type 0) (fills : ToWrite → ℕ → Type 0) (halt : Halt) (s : UnitState) (e : Event) : Type 0 where
+pub record LeavesEventUndone (leaves : Kept → Kept → Type 0) (fills : ToWrite → ℕ → Type 0) (halt : Halt) (s : UnitState) (e : Event) : Type 0 where
   pub left : LeavesEither leaves ⊤ s.kept (units_after e s).kept
   pub reason : (halt ≡ Memory) ⊎ (at_devices_in s e ≡ true)
   pub full : (dev : ℕ) → halt ≡ DeviceFull dev → (w : ToWrite) × IsWrittenBy s (Some e) w × fills w dev
@@ -108,15 +108,15 @@ module _ {S : Type 0} (holds : View → S → Kept → Type 0) (is_new : View �
   module _ (leaves : View → S → Kept → Kept → Type 0) (fills : View → S → ToWrite → ℕ → Type 0) where
     abbrev pub LeavesUndone : (d e : View) (x y : S) → Books → Asking → Halt → Type 0
     LeavesUndone d e x y books a halt = (s : UnitState) (o : OpenUnit) → IsBefore (holds d x) (is_new d x) books (does_in s o a.statement) s → IsAskedBy a s o →
-        Undone (leaves e y) (fills e y) halt s (does_in s o a.statement)
+        LeavesEventUndone (leaves e y) (fills e y) halt s (does_in s o a.statement)
 
     abbrev pub LeavesUncommitted : (d e : View) (x y : S) → Books → Id → Halt → Type 0
     LeavesUncommitted d e x y books u halt = (s : UnitState) (o : OpenUnit) → IsBefore (holds d x) (is_new d x) books (commits_in s o) s → unit_named u s.units ≡ Some o →
-        Undone (leaves e y) (fills e y) halt s (commits_in s o)
+        LeavesEventUndone (leaves e y) (fills e y) halt s (commits_in s o)
 
     abbrev pub LeavesUnbranched : (d e : View) (x y : S) → Books → Id → Halt → Type 0
     LeavesUnbranched d e x y books u halt = (s : UnitState) (b : Id) (cause : Cause) → IsBefore (holds d x) (is_new d x) books (branches_in s u cause) s → IsLaterUnit s u b →
-        Undone (leaves e y) (fills e y) halt s (branches_in s u cause)
+        LeavesEventUndone (leaves e y) (fills e y) halt s (branches_in s u cause)
 
   -- what is sent of a commit, and of a branch
   module _ (asked : S → Setup) (net : S → Option Turning) where

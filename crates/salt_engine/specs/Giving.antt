@@ -8,7 +8,7 @@ use Rattle.salt_books.specs.declared.books.Books.{Books}
 use Rattle.salt_books.specs.declared.coming.Coming.TheVariants as coming
 use Rattle.salt_books.specs.declared.coming.Coming.{Coming}
 use Rattle.salt_disk.specs.Disks.{View}
-use Rattle.salt_engine.specs.Deciding.{Undone}
+use Rattle.salt_engine.specs.Deciding.{LeavesEventUndone}
 use Rattle.salt_engine.specs.Flights.{IsInFlight}
 use Rattle.salt_engine.specs.Netted.{net_after}
 use Rattle.salt_engine.specs.Performing.{IsPlayedBefore, StoredAt, is_prepared}
@@ -94,7 +94,7 @@ pub record IsUndone (leaves : Kept → Kept → Type 0) (fills : ToWrite → ℕ
     (s : UnitState) : Type 0 where
   pub event : Event
   pub is : meant ≡ Some event
-  pub undone : Undone leaves fills halt s event
+  pub undone : LeavesEventUndone leaves fills halt s event
   pub kept : (units_after event s).kept ≡ kept_behind (decision_in (Some event)) s
   pub flies : IsInFlight in_flight (decision_in (Some event)) s
   pub books : AreBooks x s

@@ -135,7 +135,7 @@ abbrev pub IsToAskIn : (holds : Kept → Type 0) (is_new : Id → Type 0) → Bo
 IsToAskIn holds is_new stoppable line stage s = GoesWith (λ (x : Scheduler). IsToAsk holds is_new stoppable line x s) stage
 
 -- the event that was meant is given, and the engine has done it; a decision is in flight until it is told
-pub record Performs (seen : Option Event → State → Type 0) (in_flight : Option InFlight) (meant given : Option Event) (s : State) : Type 0 where
+pub record PerformsEvent (seen : Option Event → State → Type 0) (in_flight : Option InFlight) (meant given : Option Event) (s : State) : Type 0 where
   pub told : given ≡ meant
   pub sees : seen given s
   pub flies : IsInFlight in_flight (decision_in given) s.units
@@ -184,7 +184,7 @@ stage_behind (Err halt) stage = broken_by halt stage
 abbrev pub ComesOut : {H T : Type 0} → (given : T → Option Event) (seen : Option Event → State → Type 0) (leaves : Kept → Kept → Type 0) (fills : ToWrite → ℕ → Type 0) → Stage H →
     Option InFlight → (meant : Option Event) → State → Result T Halt → Type 0
 ComesOut given seen leaves fills stage in_flight meant s result =
-    MatchResult result (λ x. Performs seen in_flight meant (given x) s) (λ halt. BreaksOff leaves fills halt stage in_flight meant s.units)
+    MatchResult result (λ x. PerformsEvent seen in_flight meant (given x) s) (λ halt. BreaksOff leaves fills halt stage in_flight meant s.units)
 
 -- No call changes these: what is noted beside the stage, the shape that the storage is asked for, and devices that are not of it.
 pub record Stays {A : Type 0} (before now : A) (was is : Setup) (old new : View) : Type 0 where

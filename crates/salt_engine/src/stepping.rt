@@ -7,7 +7,7 @@ ghost use Rattle.salt_model.specs.Trace.{Start, Trace, Tree};
 ghost use Rattle.salt_model.specs.declared.events.Event.TheVariants.{Refused};
 ghost use Rattle.salt_model.specs.declared.events.Refusal.{Refusal};
 ghost use Rattle.salt_driver.specs.Counting.{CountsMore};
-ghost use Rattle.salt_driver.specs.Serving.{BreaksOff, GoesOn, Serves};
+ghost use Rattle.salt_driver.specs.Serving.{BreaksOff, GoesOn, ServesTrace};
 ghost use Rattle.law_states.specs.States.{State};
 ghost use Rattle.salt_storage.specs.Netted.{net_told};
 ghost use Rattle.salt_storage.specs.Answers.{disk_err};
@@ -132,8 +132,8 @@ impl<S: Storage + Drop> Engine<S> {
     /// It is given up where nothing is missing of the last line: the net that its commits have gone over since the last opening, where
     /// they go over messages.
     pub fn into_net<D: Disks>(self, disks: &D) -> Option<Net>
-        requires { (s : State) × ⟦<Engine<S> as Stepping>⟧.sees (D.view disks.now) self None s }
-        ensures { (s : State) → ⟦<Engine<S> as Stepping>⟧.sees (D.view disks.now) self None s → result ≡ option_map (λ t. t.events) (net_told (S.asked self.storage) s.net) }
+        requires { (s : State) × ⟦<Engine<S> as Stepping>⟧.stands_for (D.view disks.now) self None s }
+        ensures { (s : State) → ⟦<Engine<S> as Stepping>⟧.stands_for (D.view disks.now) self None s → result ≡ option_map (λ t. t.events) (net_told (S.asked self.storage) s.net) }
     {
         let Engine { storage, .. } = self;
         storage.into_net(disks)
@@ -152,9 +152,9 @@ impl<S: Storage + Drop> Engine<S> {
         requires answers { GivesPlaceOf (F.post place.now.place) }
         requires served { IsServed line.now }
         requires key { HasKey (Tree line.now) }
-        requires stands { (start : Start) × (trace : Trace) × Serves (⟦<Engine<S> as Stepping>⟧.sees (D.view disks.old) self.old) start story.old trace }
-        ensures segment { OnOk result (GoesOn (⟦<Engine<S> as Stepping>⟧.sees (D.view disks.old) self.old) (⟦<Engine<S> as Stepping>⟧.sees (D.view disks.new) self.new) story.old (Tree line.now) story.new) }
-        ensures broken_off { IfErr result (λ halt. BreaksOff (⟦<Engine<S> as Stepping>⟧.sees (D.view disks.old) self.old) (⟦<Engine<S> as Stepping>⟧.on_devices (D.view disks.new) self.new) (flight_of self.new.in_flight) halt story.old (Tree line.now) story.new) }
+        requires stands { (start : Start) × (trace : Trace) × ServesTrace (⟦<Engine<S> as Stepping>⟧.stands_for (D.view disks.old) self.old) start story.old trace }
+        ensures segment { OnOk result (GoesOn (⟦<Engine<S> as Stepping>⟧.stands_for (D.view disks.old) self.old) (⟦<Engine<S> as Stepping>⟧.stands_for (D.view disks.new) self.new) story.old (Tree line.now) story.new) }
+        ensures broken_off { IfErr result (λ halt. BreaksOff (⟦<Engine<S> as Stepping>⟧.stands_for (D.view disks.old) self.old) (⟦<Engine<S> as Stepping>⟧.on_devices (D.view disks.new) self.new) (flight_of self.new.in_flight) halt story.old (Tree line.now) story.new) }
         ensures refused { (refusal : Refusal) → story.new ≡ story.old ++ Refused refusal ∷ [] → disks.new ≡ disks.old }
         ensures within { StaysWithin (S.asked self.old.storage) (S.asked self.new.storage) (D.view disks.old) (D.view disks.new) }
         ensures counts { CountsMore line.now (D.view disks.old) (D.view disks.new) (disk_err result) None story.old story.new }

@@ -43,7 +43,7 @@ use Rattle.salt_stands.specs.Unspent.{OpensUnspent}
 use Rattle.salt_driver.specs.Devices.{OnDevices}
 use Rattle.salt_driver.specs.Counting.{CountsOpening}
 use Rattle.salt_driver.specs.Opening.{IsUnfound, fallen_often}
-use Rattle.salt_driver.specs.Reopening.{Reopens}
+use Rattle.salt_driver.specs.Reopening.{ReopensRun}
 use Rattle.salt_driver.specs.Standing.{IsIdleAt, IsSoundPoint}
 use Rattle.salt_storage.specs.Answers.{IsLater}
 use Rattle.salt_storage.specs.OpenErr.TheVariants as opening
@@ -295,11 +295,11 @@ module _ {E : Type 0} (stands_for : E → Option Event → State → Type 0) (de
   abbrev Counts : Result (Unit {0}) Stop → Type 0
   Counts d = CountsOpening a b (answer_of (outcome d)) story told
 
-  pub begun-ok : (d r : Result (Unit {0}) Stop) → OnOk d (Reopens (stands_for new) start trace story told) → Counts d → EndsWriting d (story_text schema told) before held r →
+  pub begun-ok : (d r : Result (Unit {0}) Stop) → OnOk d (ReopensRun (stands_for new) start trace story told) → Counts d → EndsWriting d (story_text schema told) before held r →
       OnOk r ((first : List (ℕ × ℕ)) → armed_by_lines first trace ≡ Some a.armed → IsBegun (stands_for new) start told before held first b.armed)
   begun-ok d (Err s) reopens counts w = tt
   begun-ok d (Ok x) reopens counts w = λ first is.
-      let opened = subst (λ (y : Result (Unit {0}) Stop). OnOk y (Reopens (stands_for new) start trace story told)) w.0 reopens in
+      let opened = subst (λ (y : Result (Unit {0}) Stop). OnOk y (ReopensRun (stands_for new) start trace story told)) w.0 reopens in
       record {
         trace = opened.after;
         arms = opening-stays a b story told (subst Counts w.0 counts) trace opened.after opened.grows opened.along.armed first is;
@@ -308,7 +308,7 @@ module _ {E : Type 0} (stands_for : E → Option Event → State → Type 0) (de
         written = subst (λ (ts : List TableDef). Gains before (story_text ts told) held) (tables-serving stands_for devices flies new schema serving lying start opened.after told opened.serves) w.1;
       }
 
-  opened-unwritten : Reopens (stands_for new) start trace story told → CountsOpening a b None story told → GainsShort before (story_text schema told) held → Ends stop.WriteFault
+  opened-unwritten : ReopensRun (stands_for new) start trace story told → CountsOpening a b None story told → GainsShort before (story_text schema told) held → Ends stop.WriteFault
   opened-unwritten o counts short script rest first is =
       early-ends stands_for devices flies stop.WriteFault (inr refl) start o.after new told script rest before held
       (unwritten-leaves stands_for devices flies new idle flown leaves start o.after told o.serves) (o.lines ∙ unasked)
@@ -332,12 +332,12 @@ module _ {E : Type 0} (stands_for : E → Option Event → State → Type 0) (de
         early-ends stands_for devices flies stop.WriteFault (inr refl) start x.after new told script rest before held (leaves-unwritten devices flies forgets start x.after told e later some x.ends) (x.lines ∙ unasked)
         (subst (λ t. GainsShort before t held) (tables some told) short) first b.armed (ends-unwritten (status_of e) (λ m. some (memory-status e m)) (armed-last first is))
 
-  pub begun-err : (d r : Result (Unit {0}) Stop) → OnOk d (Reopens (stands_for new) start trace story told) → IfErr d (λ e. EndsOpening devices flies e start trace story told) → IfErr d IsLaterStop → Counts d →
+  pub begun-err : (d r : Result (Unit {0}) Stop) → OnOk d (ReopensRun (stands_for new) start trace story told) → IfErr d (λ e. EndsOpening devices flies e start trace story told) → IfErr d IsLaterStop → Counts d →
       EndsWriting d (story_text schema told) before held r → IfErr r Ends
   begun-err d (Ok x) reopens f of counts w = tt
   begun-err d (Err s) reopens f of counts w = by w.0
     where
-      short : (y : Result (Unit {0}) Stop) → (y ≡ Err stop.Memory → ⊥) → OnOk y (Reopens (stands_for new) start trace story told) → IfErr y (λ e. EndsOpening devices flies e start trace story told) →
+      short : (y : Result (Unit {0}) Stop) → (y ≡ Err stop.Memory → ⊥) → OnOk y (ReopensRun (stands_for new) start trace story told) → IfErr y (λ e. EndsOpening devices flies e start trace story told) →
           IfErr y IsLaterStop → Counts y → GainsShort before (story_text schema told) held → Ends stop.WriteFault
       short (Ok x) some c g o n h = opened-unwritten c n h
       short (Err e) some c g o n h = broken-unwritten e o g n (λ m. some (ap Err m)) h

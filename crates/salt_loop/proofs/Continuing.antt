@@ -11,13 +11,13 @@ use Rattle.salt_loop.proofs.Armed.{ends-resumed, line-halts, line-stays, stays-r
 use Rattle.salt_loop.proofs.Leaving.{idle-halts}
 use Rattle.salt_loop.specs.Counted.{CountsResumed}
 use Rattle.salt_loop.specs.Stopping.{IsLaterStop, outcome, status_of}
-use Rattle.salt_loop.specs.Serving.{AsksMore, BreaksIn, Continues, EndsBehind, EndsIn, TextAsks, line_behind, moment}
+use Rattle.salt_loop.specs.Serving.{AsksMore, BreaksIn, ContinuesRun, EndsResuming, EndsIn, TextAsks, line_behind, moment}
 use Rattle.salt_loop.specs.declared.stop.Stop.TheVariants as stop
 use Rattle.salt_loop.specs.declared.stop.Stop.{Stop}
 use Rattle.salt_driver.specs.Devices.{OnDevices}
 use Rattle.salt_driver.specs.Counting.{CountsMore}
-use Rattle.salt_driver.specs.Reopening.{Reopens}
-use Rattle.salt_driver.specs.Serving.{Breaks, Goes, GainsEvents, Serves}
+use Rattle.salt_driver.specs.Reopening.{ReopensRun}
+use Rattle.salt_driver.specs.Serving.{BreaksByLine, GoesByLine, GainsEvents, ServesTrace}
 use Rattle.salt_driver.specs.Standing.{IsIdleAt, IsSoundPoint}
 use Rattle.salt_storage.specs.Answers.{disk_err, disk_err_of}
 use Rattle.salt_storage.specs.declared.halt.Halt.TheVariants.{Memory}
@@ -33,7 +33,7 @@ asks-still : (text : Option (List ℕ)) (trace mid after : Trace) → lines_aske
 asks-still text trace mid after same a = (a.0, a.1, same ∙ a.2)
 
 pub continues-by : (stands_for : Option Event → State → Type 0) (start : Start) (trace : Trace) (text : Option (List ℕ)) (asked : Asked) (story told : List Event) →
-    (a b : View) → TextAsks text asked → CountsMore (line_asked asked) a b None None story told → Goes stands_for start trace asked story told → Continues stands_for (line_behind start trace text) (moment story a.armed) (moment told b.armed)
+    (a b : View) → TextAsks text asked → CountsMore (line_asked asked) a b None None story told → GoesByLine stands_for start trace asked story told → ContinuesRun stands_for (line_behind start trace text) (moment story a.armed) (moment told b.armed)
 continues-by stands_for start trace text asked story told a b asks counts g = record {
   after = g.after;
   asks = (asked, asks, g.asks);
@@ -43,7 +43,7 @@ continues-by stands_for start trace text asked story told a b asks counts g = re
 }
 
 pub breaks-by : (devices : OnDevices) (flies : Option Flight) (halt : Halt) (start : Start) (trace : Trace) (text : Option (List ℕ)) (asked : Asked) (story told : List Event) →
-    (a c : View) → TextAsks text asked → CountsMore (line_asked asked) a c (Some (disk_err_of halt)) None story told → Breaks devices flies halt start trace asked story told →
+    (a c : View) → TextAsks text asked → CountsMore (line_asked asked) a c (Some (disk_err_of halt)) None story told → BreaksByLine devices flies halt start trace asked story told →
     BreaksIn devices flies halt (line_behind start trace text) (moment story a.armed) (moment told c.armed)
 breaks-by devices flies halt start trace text asked story told a c asks counts b = record {
   after = b.after;
@@ -60,7 +60,7 @@ breaks-by devices flies halt start trace text asked story told a c asks counts b
 -- memory ran out before the line was read
 pub breaks-unread : {E : Type 0} (stands_for : E → Option Event → State → Type 0) (devices : OnDevices) (flies : Option Flight) (e : E) →
     ((p : Point) → IsSoundPoint p → IsIdleAt (stands_for e) p → devices.can_reopen_at 0 p) → ((p : Point) → IsSoundPoint p → IsIdleAt (stands_for e) p → flies ≡ None) →
-    ((room : ℕ) (p : Point) → devices.can_reopen_at room p → devices.stands_for_kept None room p) → (start : Start) (trace : Trace) (text : Option (List ℕ)) (story : List Event) → (armed : List (ℕ × ℕ)) → Serves (stands_for e) start story trace →
+    ((room : ℕ) (p : Point) → devices.can_reopen_at room p → devices.stands_for_kept None room p) → (start : Start) (trace : Trace) (text : Option (List ℕ)) (story : List Event) → (armed : List (ℕ × ℕ)) → ServesTrace (stands_for e) start story trace →
     BreaksIn devices flies Memory (line_behind start trace text) (moment story armed) (moment story armed)
 breaks-unread stands_for devices flies e idle flown leaves start trace text story armed s = record {
   after = trace;
@@ -72,8 +72,8 @@ breaks-unread stands_for devices flies e idle flown leaves start trace text stor
 
 module _ (old_devices : OnDevices) (old_flies : Option Flight) (halt : Halt) (start : Start) (trace : Trace) (text : Option (List ℕ))
     (story mid told : List Event) (a b c : View) (br : BreaksIn old_devices old_flies halt (line_behind start trace text) (moment story a.armed) (moment mid b.armed)) where
-  pub continues-behind : (stands_for : Option Event → State → Type 0) → (halt ≡ Memory → ⊥) → CountsResumed halt b c Done mid told → Reopens stands_for start br.after mid told →
-      Continues stands_for (line_behind start trace text) (moment story a.armed) (moment told c.armed)
+  pub continues-behind : (stands_for : Option Event → State → Type 0) → (halt ≡ Memory → ⊥) → CountsResumed halt b c Done mid told → ReopensRun stands_for start br.after mid told →
+      ContinuesRun stands_for (line_behind start trace text) (moment story a.armed) (moment told c.armed)
   continues-behind stands_for some h r = record {
     after = r.after;
     asks = by br.asks;
@@ -87,7 +87,7 @@ module _ (old_devices : OnDevices) (old_flies : Option Flight) (halt : Halt) (st
       by (inr m) = absurd (some m.0)
 
   pub ends-behind : (devices : OnDevices) (flies : Option Flight) (s : Stop) → CountsResumed halt b c (status_of s) mid told →
-      EndsBehind devices flies halt s start br.after mid told → EndsIn devices flies s (line_behind start trace text) (moment story a.armed) (moment told c.armed)
+      EndsResuming devices flies halt s start br.after mid told → EndsIn devices flies s (line_behind start trace text) (moment story a.armed) (moment told c.armed)
   ends-behind devices flies s h x = record {
     after = x.after;
     asks = by br.asks;

@@ -21,15 +21,15 @@ use Rattle.salt_promise.specs.declared.status.Status.{Status}
 use Rattle.salt_promise.specs.declared.status.Status.TheVariants.{DeviceFull, Done, Memory, ReadFault, ScriptTooLong, WriteFault}
 use Rattle.salt_loop.specs.Ending.{EndsFound, EndsOpening, LeavesAt, MayEndAt}
 use Rattle.salt_loop.specs.Run.{IsFlightAt, leave_of}
-use Rattle.salt_loop.specs.Serving.{EndsBehind}
-use Rattle.salt_loop.specs.Stopping.{IsLaterStop, answer_of, numbers_told, status_of, status_opening, stop_opening}
+use Rattle.salt_loop.specs.Serving.{EndsResuming}
+use Rattle.salt_loop.specs.Stopping.{IsLaterStop, answer_of, numbers_of_status, status_of, status_opening, stop_opening}
 use Rattle.salt_loop.specs.declared.stop.Stop.TheVariants as stop
 use Rattle.salt_loop.specs.declared.stop.Stop.{Stop}
 use Rattle.salt_driver.proofs.Segments.{serves-at, sound-of}
 use Rattle.salt_driver.specs.Devices.{OnDevices}
 use Rattle.salt_driver.specs.Opening.{MayFailAt}
 use Rattle.salt_driver.specs.Reopening.{BreaksOpening, EndsWithin, NotBegun, WithinOpening}
-use Rattle.salt_driver.specs.Serving.{Halts, Serves}
+use Rattle.salt_driver.specs.Serving.{HaltsRun, ServesTrace}
 use Rattle.salt_driver.specs.Standing.{IsIdleAt, IsSoundPoint}
 use Rattle.salt_driver.specs.Writing.{IsWrittenAt}
 use Rattle.salt_storage.specs.Answers.{IsLater, halted_by, numbers_of, open_disk_err_of}
@@ -107,7 +107,7 @@ may-halt room p halt.Memory = tt
 
 -- the numbers that are told
 
-same-numbers : (e : OpenErr) → numbers_of e ≡ numbers_told (status_opening e)
+same-numbers : (e : OpenErr) → numbers_of e ≡ numbers_of_status (status_opening e)
 same-numbers (NotSalt dev) = refl
 same-numbers (OtherShape kept asked) = refl
 same-numbers (NumbersSpent boot decisions) = refl
@@ -189,7 +189,7 @@ module _ (devices : OnDevices) (flies : Option Flight) (e : OpenErr) (start : St
   pub ends-early : EndsOpening devices flies (stop_opening e) start trace story told
   ends-early = record { after = b.after; lines = b.lines; ends = leaves-opening; grows = b.grows; along = b.along }
 
-  pub ends-opening : (h : Halt) → (h ≡ halt.Memory → ⊥) → EndsBehind devices flies h (stop_opening e) start trace story told
+  pub ends-opening : (h : Halt) → (h ≡ halt.Memory → ⊥) → EndsResuming devices flies h (stop_opening e) start trace story told
   ends-opening h some = record { after = b.after; lines = b.lines; short = λ m. absurd (some m); ends = leaves-opening; grows = b.grows; along = b.along }
 
 -- A LINE
@@ -207,7 +207,7 @@ device-next p trace e k sound comes devices =
     ap (is_device_next trace) here ∙ devices-told p.state.units trace e k.state.units sound.played good ∙ devices
 
 module _ (devices : OnDevices) (flies : Option Flight) (start : Start) (trace : Trace) (story : List Event) where
-  pub halts-full : (dev : ℕ) → Halts devices flies (halt.DeviceFull dev) start story trace → EndsBehind devices flies (halt.DeviceFull dev) (stop.DeviceFull dev) start trace story story
+  pub halts-full : (dev : ℕ) → HaltsRun devices flies (halt.DeviceFull dev) start story trace → EndsResuming devices flies (halt.DeviceFull dev) (stop.DeviceFull dev) start trace story story
   halts-full dev h = record {
     after = trace;
     lines = refl;
@@ -253,7 +253,7 @@ module _ (devices : OnDevices) (flies : Option Flight) (start : Start) (trace : 
           (x : ToWrite) × (IsWrittenAt h.point x ⊎ ((h.point.state.units.phase ≡ Fallen) × (x ≡ OfBoot))) × devices.fills_device x d
       by d x = (x.0, inl x.1, x.2)
 
-  pub halts-short : Halts devices flies halt.Memory start story trace → EndsBehind devices flies halt.Memory stop.Memory start trace story story
+  pub halts-short : HaltsRun devices flies halt.Memory start story trace → EndsResuming devices flies halt.Memory stop.Memory start trace story story
   halts-short h = record {
     after = trace;
     lines = refl;
@@ -303,8 +303,8 @@ complete-flight (trace says e) c = decision-none (next (trace says e)) c.1
 
 module _ {E : Type 0} (stands_for : E → Option Event → State → Type 0) (devices : OnDevices) (flies : Option Flight) (e : E)
     (idle : (p : Point) → IsSoundPoint p → IsIdleAt (stands_for e) p → devices.can_reopen_at 0 p) (flown : (p : Point) → IsSoundPoint p → IsIdleAt (stands_for e) p → flies ≡ None)
-    (leaves : (room : ℕ) (p : Point) → devices.can_reopen_at room p → devices.stands_for_kept None room p) (start : Start) (trace : Trace) (story : List Event) (s : Serves (stands_for e) start story trace) where
-  ends-idle : (status : Status) → ((room : ℕ) (p : Point) → MayEndAt room p status) → ((dev : ℕ) → status ≡ DeviceFull dev → ⊥) → numbers_told status ≡ None → EndsFound devices status trace
+    (leaves : (room : ℕ) (p : Point) → devices.can_reopen_at room p → devices.stands_for_kept None room p) (start : Start) (trace : Trace) (story : List Event) (s : ServesTrace (stands_for e) start story trace) where
+  ends-idle : (status : Status) → ((room : ℕ) (p : Point) → MayEndAt room p status) → ((dev : ℕ) → status ≡ DeviceFull dev → ⊥) → numbers_of_status status ≡ None → EndsFound devices status trace
   ends-idle status may never none =
       let at = idle s.point (serves-at stands_for stands_for start e story trace s) s.stands in
       record {
@@ -343,7 +343,7 @@ module _ {E : Type 0} (stands_for : E → Option Event → State → Type 0) (de
   }
 
   -- for want of memory it is halted there
-  pub idle-halts : Halts devices flies halt.Memory start story trace
+  pub idle-halts : HaltsRun devices flies halt.Memory start story trace
   idle-halts = record {
     tells = s.tells;
     fits = s.fits;
@@ -373,7 +373,7 @@ module _ (devices : OnDevices) (flies : Option Flight) (forgets : (numbers : Num
     boots = x.boots;
     may = tt;
     again = λ other. x.again some;
-    stands = untold devices forgets (numbers_told status) x.room x.point x.stands;
+    stands = untold devices forgets (numbers_of_status status) x.room x.point x.stands;
     full = λ dev is. absurd (never dev is);
   }
     where
@@ -405,9 +405,9 @@ answers-opening opening.Memory some = refl
 
 pub left-there : {E T : Type 0} (stands_for : E → Option Event → State → Type 0) (devices : OnDevices) (flies : Option Flight) (e : E)
     (idle : (p : Point) → IsSoundPoint p → IsIdleAt (stands_for e) p → devices.can_reopen_at 0 p) (flown : (p : Point) → IsSoundPoint p → IsIdleAt (stands_for e) p → flies ≡ None)
-    (leaves : (room : ℕ) (p : Point) → devices.can_reopen_at room p → devices.stands_for_kept None room p) (forgets : (numbers : Numbers) (room : ℕ) (p : Point) → devices.stands_for_kept (Some numbers) room p → devices.stands_for_kept None room p) (start : Start) (told : List Event) (done : Result T Stop) → OnOk done ((trace : Trace) × Serves (stands_for e) start told trace) →
+    (leaves : (room : ℕ) (p : Point) → devices.can_reopen_at room p → devices.stands_for_kept None room p) (forgets : (numbers : Numbers) (room : ℕ) (p : Point) → devices.stands_for_kept (Some numbers) room p → devices.stands_for_kept None room p) (start : Start) (told : List Event) (done : Result T Stop) → OnOk done ((trace : Trace) × ServesTrace (stands_for e) start told trace) →
     IfErr done (λ s. (trace : Trace) × LeavesAt devices flies (status_of s) start trace told) → (room : ℕ) × ((p : Point) × devices.stands_for_kept None room p)
 left-there stands_for devices flies e idle flown leaves forgets start told (Ok x) ok err =
     let ends = (unwritten-leaves stands_for devices flies e idle flown leaves start ok.0 told ok.1).ends in
     (ends.room, (ends.point, ends.stands))
-left-there stands_for devices flies e idle flown leaves forgets start told (Err s) ok err = let ends = err.1.ends in (ends.room, (ends.point, untold devices forgets (numbers_told (status_of s)) ends.room ends.point ends.stands))
+left-there stands_for devices flies e idle flown leaves forgets start told (Err s) ok err = let ends = err.1.ends in (ends.room, (ends.point, untold devices forgets (numbers_of_status (status_of s)) ends.room ends.point ends.stands))

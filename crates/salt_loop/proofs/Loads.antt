@@ -22,15 +22,15 @@ use Rattle.salt_loop.proofs.Texts.{of-later}
 use Rattle.salt_loop.specs.Armed.{EndsArmed, StaysArmed}
 use Rattle.salt_loop.specs.Ending.{EndsOpening, LeavesAt}
 use Rattle.salt_loop.specs.Loading.{AreLoadLines, EndsLoading, IsLoading, IsPlayedLoad, asked_by_load, load_run}
-use Rattle.salt_loop.specs.Serving.{EndsBehind, IsAskable}
+use Rattle.salt_loop.specs.Serving.{EndsResuming, IsAskable}
 use Rattle.salt_loop.specs.Stopping.{IsLaterStop, IsOfDevices, answer_of, status_of, stop_opening}
 use Rattle.salt_loop.specs.declared.stop.Stop.TheVariants as stop
 use Rattle.salt_loop.specs.declared.stop.Stop.{Stop}
 use Rattle.salt_driver.specs.Devices.{OnDevices}
 use Rattle.salt_driver.specs.Counting.{CountsOpening}
 use Rattle.salt_driver.specs.Opening.{IsUnfound, fallen_often}
-use Rattle.salt_driver.specs.Reopening.{Reopens}
-use Rattle.salt_driver.specs.Serving.{Breaks, Goes}
+use Rattle.salt_driver.specs.Reopening.{ReopensRun}
+use Rattle.salt_driver.specs.Serving.{BreaksByLine, GoesByLine}
 use Rattle.salt_driver.specs.Standing.{IsIdleAt, IsSoundPoint}
 use Rattle.salt_storage.specs.Answers.{IsLater}
 use Rattle.salt_storage.specs.declared.halt.Halt.TheVariants.{Memory}
@@ -186,13 +186,13 @@ module _ {E : Type 0} (old_stands_for : E → Option Event → State → Type 0)
     asked-here : (after : Trace) → lines_asked after ≡ lines_asked loading.trace ++ Tree line ∷ [] → lines_asked after ≡ map Tree (take (i + 1) (load_lines n))
     asked-here after lines = lines ∙ ap (λ ls. ls ++ Tree line ∷ []) loading.lines ∙ sym (asked-more n i line within is)
 
-    pub line-loaded : {F : Type 0} (stands_for : F → Option Event → State → Type 0) (new : F) (told : List Event) (armed_after : List (ℕ × ℕ)) → (g : Goes (stands_for new) start loading.trace (Tree line) story told) →
+    pub line-loaded : {F : Type 0} (stands_for : F → Option Event → State → Type 0) (new : F) (told : List Event) (armed_after : List (ℕ × ℕ)) → (g : GoesByLine (stands_for new) start loading.trace (Tree line) story told) →
         StaysArmed loading.trace g.after armed armed_after → IsLoading (stands_for new) start n (i + 1) told first armed_after
     line-loaded stands_for new told armed_after g stays = record { trace = g.after; arms = stays first loading.arms; serves = g.serves; lines = asked-here g.after g.asks }
 
     module _ (old_devices : OnDevices) (old_flies : Option Flight) (halt : Halt) (mid told : List Event)
-        (b : Breaks old_devices old_flies halt start loading.trace (Tree line) story mid) (armed_after : List (ℕ × ℕ)) where
-      pub loaded-behind : {F : Type 0} (stands_for : F → Option Event → State → Type 0) (new : F) → (halt ≡ Memory → ⊥) → (r : Reopens (stands_for new) start b.after mid told) → StaysArmed loading.trace r.after armed armed_after →
+        (b : BreaksByLine old_devices old_flies halt start loading.trace (Tree line) story mid) (armed_after : List (ℕ × ℕ)) where
+      pub loaded-behind : {F : Type 0} (stands_for : F → Option Event → State → Type 0) (new : F) → (halt ≡ Memory → ⊥) → (r : ReopensRun (stands_for new) start b.after mid told) → StaysArmed loading.trace r.after armed armed_after →
           IsLoading (stands_for new) start n (i + 1) told first armed_after
       loaded-behind stands_for new some r stays = record { trace = r.after; arms = stays first loading.arms; serves = r.serves; lines = r.lines ∙ by b.asks }
         where
@@ -200,7 +200,7 @@ module _ {E : Type 0} (old_stands_for : E → Option Event → State → Type 0)
           by (inl more) = asked-here b.after more
           by (inr m) = absurd (some m.0)
 
-      pub ends-loading : (devices : OnDevices) (flies : Option Flight) (s : Stop) → IsLaterStop s → (x : EndsBehind devices flies halt s start b.after mid told) →
+      pub ends-loading : (devices : OnDevices) (flies : Option Flight) (s : Stop) → IsLaterStop s → (x : EndsResuming devices flies halt s start b.after mid told) →
           EndsArmed (status_of s) loading.trace x.after armed armed_after → EndsLoading devices start (load_run (status_of s) flies n (i + 1) told) first armed_after
       ends-loading devices flies s later x stops =
           loads-at devices flies (status_of s) start x.after told n (i + 1) x.ends (lines-behind s later n (lines_asked x.after) (subst (λ ls. IsFrontOf ls (asked_by_load n)) (sym x.lines) (by b.asks)))
@@ -221,7 +221,7 @@ take-none [] = refl
 take-none (x ∷ xs) = refl
 
 pub loading-begun : {E : Type 0} (stands_for : E → Option Event → State → Type 0) (n : ℕ) (start : Start) (trace : Trace) (e : E) (story told : List Event) (a b : View) → lines_asked trace ≡ [] →
-    CountsOpening a b None story told → Reopens (stands_for e) start trace story told → (first : List (ℕ × ℕ)) → armed_by_lines first trace ≡ Some a.armed → IsLoading (stands_for e) start n 0 told first b.armed
+    CountsOpening a b None story told → ReopensRun (stands_for e) start trace story told → (first : List (ℕ × ℕ)) → armed_by_lines first trace ≡ Some a.armed → IsLoading (stands_for e) start n 0 told first b.armed
 loading-begun stands_for n start trace e story told a b unasked counts r first is =
     record { trace = r.after; arms = opening-stays a b story told counts trace r.after r.grows r.along.armed first is; serves = r.serves; lines = r.lines ∙ unasked ∙ sym (ap (map Tree) (take-none (load_lines n))) }
 

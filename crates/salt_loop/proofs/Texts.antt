@@ -14,14 +14,14 @@ use Rattle.salt_promise.specs.declared.status.Status.TheVariants as status
 use Rattle.salt_loop.proofs.Armed.{ends-unwritten, stops-are}
 use Rattle.salt_loop.proofs.Leaving.{leaves-unwritten}
 use Rattle.salt_loop.specs.Ending.{LeavesAt}
-use Rattle.salt_loop.specs.Serving.{Continues, EndsIn, EndsTelling, EndsWriting, GainsAtEnd, IsToldLine, added_text, line_behind, moment}
+use Rattle.salt_loop.specs.Serving.{ContinuesRun, EndsIn, EndsTelling, EndsWriting, GainsAtEnd, IsToldLine, added_text, line_behind, moment}
 use Rattle.salt_loop.specs.Stopping.{IsLaterStop, IsOfDevices, IsOfLine, is_memory, outcome, ran_short, status_of}
 use Rattle.salt_loop.specs.Telling.{StopsWriting}
 use Rattle.salt_loop.specs.declared.stop.Stop.TheVariants.{DeviceFull, DiskFault, Memory, NotSalt, NumbersSpent, OtherShape, ReadFault, ScriptTooLong, WriteFault}
 use Rattle.salt_loop.specs.declared.stop.Stop.{Stop}
 use Rattle.salt_driver.proofs.Segments.{serves-at, sound-at}
 use Rattle.salt_driver.specs.Devices.{OnDevices}
-use Rattle.salt_driver.specs.Serving.{Serves}
+use Rattle.salt_driver.specs.Serving.{ServesTrace}
 use Rattle.salt_driver.specs.Standing.{IsSoundPoint}
 use Rattle.std.proofs.Common.{ap, inl, inr, subst, sym, ◌∙◌}
 use Rattle.salt_storage.specs.declared.found.Numbers.{Numbers}
@@ -149,7 +149,7 @@ module _ {E : Type 0} (stands_for : E → Option Event → State → Type 0) (de
     (schema : List TableDef) (serving : (p : Point) → IsSoundPoint p → stands_for new None p.state → schema ≡ schema_of p.state.units.kept)
     (lying : (room : ℕ) (p : Point) → IsSoundPoint p → devices.can_reopen_at room p → schema ≡ schema_of p.state.units.kept) where
   -- the tables that the database knows are those defined at the end of its trace
-  pub tables-serving : (start : Start) (trace : Trace) (told : List Event) → Serves (stands_for new) start told trace → schema ≡ schema_of (kept trace)
+  pub tables-serving : (start : Start) (trace : Trace) (told : List Event) → ServesTrace (stands_for new) start told trace → schema ≡ schema_of (kept trace)
   tables-serving start trace told s = serving s.point (serves-at stands_for stands_for start new told trace s) s.stands.state ∙ sym (ap schema_of s.keeps.state.units.kept)
 
   pub tables-lying : (start : Start) (trace : Trace) (told : List Event) (now : Status) → LeavesAt devices flies now start trace told → (now ≡ status.Memory → ⊥) →
@@ -162,7 +162,7 @@ module _ {E : Type 0} (stands_for : E → Option Event → State → Type 0) (de
     text-is : (after : Trace) → schema ≡ schema_of (kept after) → story_text schema events ≡ added_text after story told
     text-is after same = ap (story_text schema) are ∙ ap (λ ts. story_text ts (drop (length story) told)) same
 
-    pub line-told : Continues (stands_for new) (line_behind start trace text) (moment story old_armed) (moment told new_armed) → Gains before (story_text schema events) held → IsToldLine (stands_for new) (line_behind start trace text) (moment story old_armed) (moment told new_armed) before held
+    pub line-told : ContinuesRun (stands_for new) (line_behind start trace text) (moment story old_armed) (moment told new_armed) → Gains before (story_text schema events) held → IsToldLine (stands_for new) (line_behind start trace text) (moment story old_armed) (moment told new_armed) before held
     line-told c g = record { goes = c; written = subst (λ t. Gains before t held) (text-is c.after (tables-serving start c.after told c.serves)) g }
 
     pub line-ended : (s : Stop) → EndsIn devices flies s (line_behind start trace text) (moment story old_armed) (moment told new_armed) → GainsAtEnd s before (story_text schema events) held →
@@ -174,7 +174,7 @@ module _ {E : Type 0} (stands_for : E → Option Event → State → Type 0) (de
     }
 
     -- the sink failed behind a line that was done
-    pub line-unwritten : (c : Continues (stands_for new) (line_behind start trace text) (moment story old_armed) (moment told new_armed)) → LeavesAt devices flies status.WriteFault start c.after told → GainsShort before (story_text schema events) held →
+    pub line-unwritten : (c : ContinuesRun (stands_for new) (line_behind start trace text) (moment story old_armed) (moment told new_armed)) → LeavesAt devices flies status.WriteFault start c.after told → GainsShort before (story_text schema events) held →
         EndsTelling devices flies WriteFault (line_behind start trace text) (moment story old_armed) (moment told new_armed) before held
     line-unwritten c x g = record {
       ends = record { after = c.after; asks = inl c.asks; ends = x; grows = c.grows; armed = λ first is. stops-are status.WriteFault new_armed new_armed (c.armed first is) (λ some. refl) };

@@ -10,12 +10,12 @@ use Rattle.salt_model.specs.declared.events.Event.{Event}
 use Rattle.salt_model.specs.declared.events.Flight.{Flight}
 use Rattle.salt_loop.proofs.Leaving.{unwritten-leaves}
 use Rattle.salt_loop.proofs.Texts.{end-unwritten, line-ended, line-told, line-unwritten}
-use Rattle.salt_loop.specs.Serving.{Continues, EndsIn, EndsTelling, EndsWriting, GainsAtEnd, IsToldLine, line_behind, moment}
+use Rattle.salt_loop.specs.Serving.{ContinuesRun, EndsIn, EndsTelling, EndsWriting, GainsAtEnd, IsToldLine, line_behind, moment}
 use Rattle.salt_loop.specs.Stopping.{IsLaterStop}
 use Rattle.salt_loop.specs.declared.stop.Stop.TheVariants.{Memory, WriteFault}
 use Rattle.salt_loop.specs.declared.stop.Stop.{Stop}
 use Rattle.salt_driver.specs.Devices.{OnDevices}
-use Rattle.salt_driver.specs.Serving.{Serves}
+use Rattle.salt_driver.specs.Serving.{ServesTrace}
 use Rattle.salt_driver.specs.Standing.{IsIdleAt, IsSoundPoint}
 use Rattle.std.proofs.Common.{ap, inl, inr, subst, sym}
 use Rattle.salt_storage.specs.declared.found.Numbers.{Numbers}
@@ -30,16 +30,16 @@ module _ {E : Type 0} (old_stands_for stands_for : E → Option Event → State 
     (lying : (room : ℕ) (p : Point) → IsSoundPoint p → devices.can_reopen_at room p → schema ≡ schema_of p.state.units.kept)
     (text : Option (List ℕ)) (story told events : List Event) (before held : Option (List ℕ)) (are : events ≡ drop (length story) told) (old_armed new_armed : List (ℕ × ℕ)) where
   abbrev Done : Type 0
-  Done = (start : Start) (trace : Trace) → Serves (old_stands_for old) start story trace → Continues (stands_for new) (line_behind start trace text) (moment story old_armed) (moment told new_armed)
+  Done = (start : Start) (trace : Trace) → ServesTrace (old_stands_for old) start story trace → ContinuesRun (stands_for new) (line_behind start trace text) (moment story old_armed) (moment told new_armed)
 
   abbrev Ends : Stop → Type 0
-  Ends s = (start : Start) (trace : Trace) → Serves (old_stands_for old) start story trace → EndsIn devices flies s (line_behind start trace text) (moment story old_armed) (moment told new_armed)
+  Ends s = (start : Start) (trace : Trace) → ServesTrace (old_stands_for old) start story trace → EndsIn devices flies s (line_behind start trace text) (moment story old_armed) (moment told new_armed)
 
   abbrev Told : Type 0
-  Told = (start : Start) (trace : Trace) → Serves (old_stands_for old) start story trace → IsToldLine (stands_for new) (line_behind start trace text) (moment story old_armed) (moment told new_armed) before held
+  Told = (start : Start) (trace : Trace) → ServesTrace (old_stands_for old) start story trace → IsToldLine (stands_for new) (line_behind start trace text) (moment story old_armed) (moment told new_armed) before held
 
   abbrev EndsTold : Stop → Type 0
-  EndsTold s = (start : Start) (trace : Trace) → Serves (old_stands_for old) start story trace → EndsTelling devices flies s (line_behind start trace text) (moment story old_armed) (moment told new_armed) before held
+  EndsTold s = (start : Start) (trace : Trace) → ServesTrace (old_stands_for old) start story trace → EndsTelling devices flies s (line_behind start trace text) (moment story old_armed) (moment told new_armed) before held
 
   pub told-ok : (done r : Result (Unit {0}) Stop) → OnOk done Done → EndsWriting done (story_text schema events) before held r → OnOk r Told
   told-ok done (Ok x) each w = λ start trace s.

@@ -14,12 +14,12 @@ use Rattle.salt_promise.specs.Status.{ends_between}
 use Rattle.salt_promise.specs.declared.status.Status.{Status}
 use Rattle.salt_promise.specs.declared.status.Status.TheVariants.{Broken, DeviceFull, Memory, NotSalt, NumbersSpent, OtherShape, TranscriptTooLong, Unread, Usage, WriteFault}
 use Rattle.salt_loop.specs.Run.{IsFlightAt, IsRun, ScriptRun, leave_of}
-use Rattle.salt_loop.specs.Stopping.{numbers_told, status_of, status_opening}
+use Rattle.salt_loop.specs.Stopping.{numbers_of_status, status_of, status_opening}
 use Rattle.salt_loop.specs.declared.stop.Stop.{Stop}
 use Rattle.salt_driver.specs.Devices.{OnDevices}
 use Rattle.salt_driver.specs.Opening.{AreSpentAt}
-use Rattle.salt_driver.specs.Along.{GoesAlong}
-use Rattle.salt_driver.specs.Serving.{GainsEvents, IsFitting, Serves}
+use Rattle.salt_driver.specs.Along.{StaysInSegment}
+use Rattle.salt_driver.specs.Serving.{GainsEvents, IsFitting, ServesTrace}
 use Rattle.salt_driver.specs.Writing.{IsWrittenAt}
 use Rattle.salt_storage.specs.Writing.{OfBoot, ToWrite}
 use Rattle.salt_storage.specs.OpenErr.{OpenErr}
@@ -50,12 +50,12 @@ pub record EndsFound (devices : OnDevices) (status : Status) (trace : Trace) : T
   pub boots : room ≤ downs trace + (if has_opened trace then 0 else 1)
   pub may : MayEndAt room point status
   pub again : (status ≡ Memory → ⊥) → devices.can_reopen_at room point
-  pub stands : devices.stands_for_kept (numbers_told status) room point
+  pub stands : devices.stands_for_kept (numbers_of_status status) room point
   pub full : (dev : ℕ) → status ≡ DeviceFull dev → (w : ToWrite) × MayBeWritten point w × devices.fills_device w dev
 
 -- between two lines a database serves there still
 abbrev pub ServesBetween : (Option Event → State → Type 0) → Start → Status → List Event → Trace → Type 0
-ServesBetween stands_for start status story trace = ends_between status ≡ true → Serves stands_for start story trace
+ServesBetween stands_for start status story trace = ends_between status ≡ true → ServesTrace stands_for start story trace
 
 -- so ends the run of a script from this start, where these were armed first, and last
 abbrev pub EndsServing : (Option Event → State → Type 0) → OnDevices → Start → ScriptRun → (first armed : List (ℕ × ℕ)) → Type 0
@@ -76,7 +76,7 @@ pub record EndsOpening (devices : OnDevices) (flight : Option Flight) (stop : St
   pub lines : lines_asked after ≡ lines_asked trace
   pub ends : LeavesAt devices flight (status_of stop) start after told
   pub grows : GainsEvents story told
-  pub along : GoesAlong trace after grows.0
+  pub along : StaysInSegment trace after grows.0
 
 -- the status is that of an opening that ends so, or the sink failed behind it
 abbrev pub IsStatusOf : OpenErr → Status → Type 0

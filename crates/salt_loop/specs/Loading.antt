@@ -16,7 +16,7 @@ use Rattle.salt_loop.specs.Ending.{EndsFound}
 use Rattle.salt_loop.specs.Run.{IsFlightAt, leave_of}
 use Rattle.salt_stands.specs.Unspent.{OpensUnspent}
 use Rattle.salt_driver.specs.Devices.{OnDevices}
-use Rattle.salt_driver.specs.Serving.{Serves}
+use Rattle.salt_driver.specs.Serving.{ServesTrace}
 use Rattle.std.specs.Prelude.{List, Option, Some, length, map, take, ℕ, [], ◌≡◌}
 
 -- what the lines of the workload with so many calls ask
@@ -72,5 +72,5 @@ EndsLoading devices start r first armed =
 pub record IsLoading (stands_for : Option Event → State → Type 0) (start : Start) (calls done : ℕ) (story : List Event) (first armed : List (ℕ × ℕ)) : Type 0 where
   pub trace : Trace
   pub arms : armed_by_lines first trace ≡ Some armed
-  pub serves : Serves stands_for start story trace
+  pub serves : ServesTrace stands_for start story trace
   pub lines : lines_asked trace ≡ map Tree (take done (load_lines calls))

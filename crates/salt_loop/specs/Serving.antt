@@ -22,9 +22,9 @@ use Rattle.salt_loop.specs.Stopping.{status_of}
 use Rattle.salt_loop.specs.declared.stop.Stop.TheVariants.{Memory, WriteFault}
 use Rattle.salt_loop.specs.declared.stop.Stop.{Stop}
 use Rattle.law_decisions.specs.Spelled.{IsSpelledLine}
-use Rattle.salt_driver.specs.Along.{GoesAlong}
+use Rattle.salt_driver.specs.Along.{StaysInSegment}
 use Rattle.salt_driver.specs.Devices.{OnDevices}
-use Rattle.salt_driver.specs.Serving.{GainsEvents, Halts, IsDown, Serves}
+use Rattle.salt_driver.specs.Serving.{GainsEvents, HaltsRun, IsDown, ServesTrace}
 use Rattle.salt_storage.specs.Answers.{disk_err_of}
 use Rattle.salt_storage.specs.declared.halt.Halt.TheVariants as halting
 use Rattle.salt_storage.specs.declared.halt.Halt.{Halt}
@@ -54,7 +54,7 @@ pub record IsServing (stands_for : Option Event → State → Type 0) (start : S
   pub trace : Trace
   pub arms : armed_by_lines first trace ≡ Some armed
   pub texts : List (List ℕ)
-  pub serves : Serves stands_for start story trace
+  pub serves : ServesTrace stands_for start story trace
   pub reads : AskInOrder texts (trace_words.lines_asked trace)
   pub of : IsReadingOf reading s.left
   pub place : IsAtPlace s.script reading (rest_of reading s.left) texts
@@ -98,10 +98,10 @@ abbrev pub moment : List Event → List (ℕ × ℕ) → Moment
 moment story armed = record { story = story; armed = armed }
 
 -- A line was done: the trace goes on by its segment, or by a front of that, a fall and the opening behind it.
-pub record Continues (stands_for : Option Event → State → Type 0) (line : LineBehind) (old new : Moment) : Type 0 where
+pub record ContinuesRun (stands_for : Option Event → State → Type 0) (line : LineBehind) (old new : Moment) : Type 0 where
   pub after : Trace
   pub asks : AsksMore line.text line.trace after
-  pub serves : Serves stands_for line.start new.story after
+  pub serves : ServesTrace stands_for line.start new.story after
   pub grows : GainsEvents old.story new.story
   pub armed : StaysArmed line.trace after old.armed new.armed
 
@@ -109,18 +109,18 @@ pub record Continues (stands_for : Option Event → State → Type 0) (line : Li
 pub record BreaksIn (devices : OnDevices) (flight : Option Flight) (halt : Halt) (line : LineBehind) (old new : Moment) : Type 0 where
   pub after : Trace
   pub asks : AsksMore line.text line.trace after ⊎ ((halt ≡ halting.Memory) × (after ≡ line.trace))
-  pub halts : Halts devices flight halt line.start new.story after
+  pub halts : HaltsRun devices flight halt line.start new.story after
   pub grows : GainsEvents old.story new.story
   pub armed : HaltsArmed (disk_err_of halt) line.trace after old.armed new.armed
 
 -- a run that was broken off so ends, within the opening behind that or before it; for want of memory it goes no further
-pub record EndsBehind (devices : OnDevices) (flight : Option Flight) (halt : Halt) (stop : Stop) (start : Start) (trace : Trace) (story told : List Event) : Type 0 where
+pub record EndsResuming (devices : OnDevices) (flight : Option Flight) (halt : Halt) (stop : Stop) (start : Start) (trace : Trace) (story told : List Event) : Type 0 where
   pub after : Trace
   pub lines : trace_words.lines_asked after ≡ trace_words.lines_asked trace
   pub short : halt ≡ halting.Memory → (stop ≡ Memory) × (after ≡ trace)
   pub ends : LeavesAt devices flight (status_of stop) start after told
   pub grows : GainsEvents story told
-  pub along : GoesAlong trace after grows.0
+  pub along : StaysInSegment trace after grows.0
 
 -- so a run ends in a line, or, for want of memory, before that was asked
 pub record EndsIn (devices : OnDevices) (flight : Option Flight) (stop : Stop) (line : LineBehind) (old new : Moment) : Type 0 where
@@ -148,7 +148,7 @@ EndsWriting done text before held (Err stop) =
 
 -- a line was done, and is told
 pub record IsToldLine (stands_for : Option Event → State → Type 0) (line : LineBehind) (old new : Moment) (before held : Option (List ℕ)) : Type 0 where
-  pub goes : Continues stands_for line old new
+  pub goes : ContinuesRun stands_for line old new
   pub written : Gains before (added_text goes.after old.story new.story) held
 
 -- or a run ends in it
@@ -166,7 +166,7 @@ pub record IsBegun (stands_for : Option Event → State → Type 0) (start : Sta
   pub trace : Trace
   pub arms : armed_by_lines first trace ≡ Some armed
   pub lines : trace_words.lines_asked trace ≡ []
-  pub serves : Serves stands_for start story trace
+  pub serves : ServesTrace stands_for start story trace
   pub written : Gains before (text_under trace story) held
 
 -- after a line: the run goes on, or the script was at its end

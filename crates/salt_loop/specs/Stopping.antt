@@ -91,6 +91,6 @@ answer_of status.Memory = Some disk.Memory
 answer_of s = None
 
 -- the numbers that a status tells
-abbrev pub numbers_told : Status → Option Numbers
-numbers_told (status.NumbersSpent boot decisions) = Some (record { boot = boot; decisions = decisions })
-numbers_told s = None
+abbrev pub numbers_of_status : Status → Option Numbers
+numbers_of_status (status.NumbersSpent boot decisions) = Some (record { boot = boot; decisions = decisions })
+numbers_of_status s = None

@@ -6,12 +6,12 @@ ghost use Rattle.salt_model.specs.Trace.{Start, Trace};
 ghost use Rattle.salt_model.specs.declared.events.Event.TheVariants.{Refused};
 ghost use Rattle.salt_model.specs.declared.events.Refusal.{Refusal};
 ghost use Rattle.salt_loop.specs.Counted.{CountsAdded, CountsResumed};
-ghost use Rattle.salt_loop.specs.Serving.{BreaksIn, Continues, EndsBehind, EndsIn, EndsTelling, IsAskable, IsToldLine, line_behind, moment};
+ghost use Rattle.salt_loop.specs.Serving.{BreaksIn, ContinuesRun, EndsResuming, EndsIn, EndsTelling, IsAskable, IsToldLine, line_behind, moment};
 ghost use Rattle.salt_loop.specs.Stopping.{IsLaterStop, IsOfLine, answer_of, outcome};
 ghost use Rattle.salt_driver.specs.Counting.{CountsFall, CountsMore};
 ghost use Rattle.salt_driver.specs.Opening.{halt_of};
-ghost use Rattle.salt_driver.specs.Reopening.{Reopens};
-ghost use Rattle.salt_driver.specs.Serving.{Halts, Serves};
+ghost use Rattle.salt_driver.specs.Reopening.{ReopensRun};
+ghost use Rattle.salt_driver.specs.Serving.{HaltsRun, ServesTrace};
 ghost use Rattle.salt_storage.specs.Answers.{disk_err};
 ghost use Rattle.salt_storage.specs.Staying.{StaysWithin};
 ghost use Rattle.salt_storage.specs.declared.halt.Halt.TheVariants.{Memory};
@@ -44,10 +44,10 @@ fn ask_line<E: Openable, D: Disks, F: Fn(PlaceKind, &Key, u32) -> u32>(
     requires callable { TakesEachKey (F.pre place.now.place) }
     requires answers { GivesPlaceOf (F.post place.now.place) }
     requires serves { (line : Line) → IsAskable line → E.serves line }
-    requires stands { (start : Start) × (trace : Trace) × Serves (E.stands_for (D.view disks.old) database.old) start story.old trace }
-    ensures ok { OnOk result ((start : Start) (trace : Trace) → Serves (E.stands_for (D.view disks.old) database.old) start story.old trace →
-        Continues (E.stands_for (D.view disks.new) database.new) (line_behind start trace (option_copied text.entry)) (moment story.old (D.view disks.old).armed) (moment story.new (D.view disks.new).armed)) }
-    ensures err { IfErr result (λ halt. (start : Start) (trace : Trace) → Serves (E.stands_for (D.view disks.old) database.old) start story.old trace →
+    requires stands { (start : Start) × (trace : Trace) × ServesTrace (E.stands_for (D.view disks.old) database.old) start story.old trace }
+    ensures ok { OnOk result ((start : Start) (trace : Trace) → ServesTrace (E.stands_for (D.view disks.old) database.old) start story.old trace →
+        ContinuesRun (E.stands_for (D.view disks.new) database.new) (line_behind start trace (option_copied text.entry)) (moment story.old (D.view disks.old).armed) (moment story.new (D.view disks.new).armed)) }
+    ensures err { IfErr result (λ halt. (start : Start) (trace : Trace) → ServesTrace (E.stands_for (D.view disks.old) database.old) start story.old trace →
         BreaksIn (E.on_devices (D.view disks.new) database.new) (E.flight database.new) halt (line_behind start trace (option_copied text.entry)) (moment story.old (D.view disks.old).armed) (moment story.new (D.view disks.new).armed)) }
     ensures refused { (refusal : Refusal) → story.new ≡ story.old ++ Refused refusal ∷ [] → disks.new ≡ disks.old }
     ensures within { StaysWithin (E.asked database.old) (E.asked database.new) (D.view disks.old) (D.view disks.new) }
@@ -80,11 +80,11 @@ fn recover<E: Openable, D: Disks, F: Fn(PlaceKind, &Key, u32) -> u32>(
 ) -> Result<(), Stop>
     requires callable { TakesEachKey (F.pre place.now.place) }
     requires answers { GivesPlaceOf (F.post place.now.place) }
-    requires halted { (start : Start) × (trace : Trace) × Halts (E.on_devices (D.view disks.old) database.old) (E.flight database.old) (halt_of why) start story.old trace }
-    ensures ok { OnOk result ((start : Start) (trace : Trace) → Halts (E.on_devices (D.view disks.old) database.old) (E.flight database.old) (halt_of why) start story.old trace →
-        Reopens (E.stands_for (D.view disks.new) database.new) start trace story.old story.new) }
-    ensures err { IfErr result (λ stop. (start : Start) (trace : Trace) → Halts (E.on_devices (D.view disks.old) database.old) (E.flight database.old) (halt_of why) start story.old trace →
-        EndsBehind (E.on_devices (D.view disks.new) database.new) (E.flight database.new) (halt_of why) stop start trace story.old story.new) }
+    requires halted { (start : Start) × (trace : Trace) × HaltsRun (E.on_devices (D.view disks.old) database.old) (E.flight database.old) (halt_of why) start story.old trace }
+    ensures ok { OnOk result ((start : Start) (trace : Trace) → HaltsRun (E.on_devices (D.view disks.old) database.old) (E.flight database.old) (halt_of why) start story.old trace →
+        ReopensRun (E.stands_for (D.view disks.new) database.new) start trace story.old story.new) }
+    ensures err { IfErr result (λ stop. (start : Start) (trace : Trace) → HaltsRun (E.on_devices (D.view disks.old) database.old) (E.flight database.old) (halt_of why) start story.old trace →
+        EndsResuming (E.on_devices (D.view disks.new) database.new) (E.flight database.new) (halt_of why) stop start trace story.old story.new) }
     ensures later { IfErr result IsLaterStop }
     ensures within { StaysWithin (E.asked database.old) (E.asked database.new) (D.view disks.old) (D.view disks.new) }
     ensures counts { CountsFall why (D.view disks.old) (D.view disks.new) (answer_of (outcome result)) story.old story.new }
@@ -105,11 +105,11 @@ pub fn resume<E: Openable, D: Disks, F: Fn(PlaceKind, &Key, u32) -> u32>(
 ) -> Result<(), Stop>
     requires callable { TakesEachKey (F.pre place.now.place) }
     requires answers { GivesPlaceOf (F.post place.now.place) }
-    requires halted { (start : Start) × (trace : Trace) × Halts (E.on_devices (D.view disks.old) database.old) (E.flight database.old) halt start story.old trace }
-    ensures ok { OnOk result ((start : Start) (trace : Trace) → Halts (E.on_devices (D.view disks.old) database.old) (E.flight database.old) halt start story.old trace →
-        Reopens (E.stands_for (D.view disks.new) database.new) start trace story.old story.new) }
-    ensures err { IfErr result (λ stop. (start : Start) (trace : Trace) → Halts (E.on_devices (D.view disks.old) database.old) (E.flight database.old) halt start story.old trace →
-        EndsBehind (E.on_devices (D.view disks.new) database.new) (E.flight database.new) halt stop start trace story.old story.new) }
+    requires halted { (start : Start) × (trace : Trace) × HaltsRun (E.on_devices (D.view disks.old) database.old) (E.flight database.old) halt start story.old trace }
+    ensures ok { OnOk result ((start : Start) (trace : Trace) → HaltsRun (E.on_devices (D.view disks.old) database.old) (E.flight database.old) halt start story.old trace →
+        ReopensRun (E.stands_for (D.view disks.new) database.new) start trace story.old story.new) }
+    ensures err { IfErr result (λ stop. (start : Start) (trace : Trace) → HaltsRun (E.on_devices (D.view disks.old) database.old) (E.flight database.old) halt start story.old trace →
+        EndsResuming (E.on_devices (D.view disks.new) database.new) (E.flight database.new) halt stop start trace story.old story.new) }
     ensures later { IfErr result IsLaterStop }
     ensures memory { halt ≡ Memory → OnOk result ⊥ }
     ensures within { StaysWithin (E.asked database.old) (E.asked database.new) (D.view disks.old) (D.view disks.new) }
@@ -135,10 +135,10 @@ fn do_line<E: Openable, D: Disks, F: Fn(PlaceKind, &Key, u32) -> u32>(
     requires callable { TakesEachKey (F.pre place.now.place) }
     requires answers { GivesPlaceOf (F.post place.now.place) }
     requires serves { (line : Line) → IsAskable line → E.serves line }
-    requires stands { (start : Start) × (trace : Trace) × Serves (E.stands_for (D.view disks.old) database.old) start story.old trace }
-    ensures ok { OnOk result ((start : Start) (trace : Trace) → Serves (E.stands_for (D.view disks.old) database.old) start story.old trace →
-        Continues (E.stands_for (D.view disks.new) database.new) (line_behind start trace (option_copied text.entry)) (moment story.old (D.view disks.old).armed) (moment story.new (D.view disks.new).armed)) }
-    ensures err { IfErr result (λ stop. (start : Start) (trace : Trace) → Serves (E.stands_for (D.view disks.old) database.old) start story.old trace →
+    requires stands { (start : Start) × (trace : Trace) × ServesTrace (E.stands_for (D.view disks.old) database.old) start story.old trace }
+    ensures ok { OnOk result ((start : Start) (trace : Trace) → ServesTrace (E.stands_for (D.view disks.old) database.old) start story.old trace →
+        ContinuesRun (E.stands_for (D.view disks.new) database.new) (line_behind start trace (option_copied text.entry)) (moment story.old (D.view disks.old).armed) (moment story.new (D.view disks.new).armed)) }
+    ensures err { IfErr result (λ stop. (start : Start) (trace : Trace) → ServesTrace (E.stands_for (D.view disks.old) database.old) start story.old trace →
         EndsIn (E.on_devices (D.view disks.new) database.new) (E.flight database.new) stop (line_behind start trace (option_copied text.entry)) (moment story.old (D.view disks.old).armed) (moment story.new (D.view disks.new).armed)) }
     ensures later { IfErr result IsLaterStop }
     ensures within { StaysWithin (E.asked database.old) (E.asked database.new) (D.view disks.old) (D.view disks.new) }
@@ -163,10 +163,10 @@ pub fn tell_line<E: Openable, D: Disks, K: Sink, F: Fn(PlaceKind, &Key, u32) -> 
     requires callable { TakesEachKey (F.pre place.now.place) }
     requires answers { GivesPlaceOf (F.post place.now.place) }
     requires serves { (line : Line) → IsAskable line → E.serves line }
-    requires stands { (start : Start) × (trace : Trace) × Serves (E.stands_for (D.view disks.old) database.old) start story.old trace }
-    ensures ok { OnOk result ((start : Start) (trace : Trace) → Serves (E.stands_for (D.view disks.old) database.old) start story.old trace →
+    requires stands { (start : Start) × (trace : Trace) × ServesTrace (E.stands_for (D.view disks.old) database.old) start story.old trace }
+    ensures ok { OnOk result ((start : Start) (trace : Trace) → ServesTrace (E.stands_for (D.view disks.old) database.old) start story.old trace →
         IsToldLine (E.stands_for (D.view disks.new) database.new) (line_behind start trace (option_copied text.entry)) (moment story.old (D.view disks.old).armed) (moment story.new (D.view disks.new).armed) (K.held sink.old) (K.held sink.new)) }
-    ensures err { IfErr result (λ stop. (start : Start) (trace : Trace) → Serves (E.stands_for (D.view disks.old) database.old) start story.old trace →
+    ensures err { IfErr result (λ stop. (start : Start) (trace : Trace) → ServesTrace (E.stands_for (D.view disks.old) database.old) start story.old trace →
         EndsTelling (E.on_devices (D.view disks.new) database.new) (E.flight database.new) stop (line_behind start trace (option_copied text.entry)) (moment story.old (D.view disks.old).armed) (moment story.new (D.view disks.new).armed) (K.held sink.old) (K.held sink.new)) }
     ensures of_line { IfErr result IsOfLine }
     ensures fault { result ≡ Err Stop.WriteFault → Rose (K.faults sink.old) (K.faults sink.new) }

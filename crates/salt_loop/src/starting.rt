@@ -8,7 +8,7 @@ ghost use Rattle.salt_loop.specs.Run.{IsRun, script_run, streams};
 ghost use Rattle.salt_loop.specs.Stopping.{IsLaterStop, answer_of, outcome};
 ghost use Rattle.salt_driver.specs.Counting.{CountsOpening};
 ghost use Rattle.salt_driver.specs.Opening.{IsUnfound};
-ghost use Rattle.salt_driver.specs.Reopening.{Reopens};
+ghost use Rattle.salt_driver.specs.Reopening.{ReopensRun};
 ghost use Rattle.salt_driver.specs.Serving.{IsDown};
 ghost use Rattle.salt_storage.specs.Answers.{IsLater};
 ghost use Rattle.salt_storage.specs.Staying.{StaysWithin};
@@ -39,7 +39,7 @@ pub fn start<E: Openable, D: Disks, F: Fn(PlaceKind, &Key, u32) -> u32>(
     requires settled { E.settled (D.view disks.old) database.old }
     requires down { (start : Start) × (trace : Trace) × IsDown (E.on_devices (D.view disks.old) database.old) (E.flight database.old) start story.old trace }
     ensures ok { OnOk result ((start : Start) (trace : Trace) → IsDown (E.on_devices (D.view disks.old) database.old) (E.flight database.old) start story.old trace →
-        Reopens (E.stands_for (D.view disks.new) database.new) start trace story.old story.new) }
+        ReopensRun (E.stands_for (D.view disks.new) database.new) start trace story.old story.new) }
     ensures err { IfErr result (λ stop. (start : Start) (trace : Trace) → IsDown (E.on_devices (D.view disks.old) database.old) (E.flight database.old) start story.old trace →
         EndsOpening (E.on_devices (D.view disks.new) database.new) (E.flight database.new) stop start trace story.old story.new) }
     ensures later { IfErr result IsLaterStop }

@@ -55,7 +55,7 @@ use Rattle.salt_loop.specs.Ending.{EndsFound, IsStatusOf, MayEndAt, ServesBetwee
 use Rattle.salt_loop.specs.Loading.{IsPlayedLoad, asked_by_load, load_run}
 use Rattle.salt_loop.specs.Run.{IsFlightAt, IsRun, Streams, script_run}
 use Rattle.salt_loop.specs.Serving.{IsToBegin}
-use Rattle.salt_loop.specs.Stopping.{numbers_told, status_opening}
+use Rattle.salt_loop.specs.Stopping.{numbers_of_status, status_opening}
 use Rattle.salt_driver.proofs.AtFirst.{down-at-first}
 use Rattle.salt_stands.specs.Stands.{are_spent}
 use Rattle.salt_stands.specs.Turning.{turning}
@@ -326,7 +326,7 @@ module _ (e : View) where
     boots = f.boots;
     may = tt;
     again = λ never. f.again some;
-    stands = told-none x (numbers_told old) f.room f.point f.stands;
+    stands = told-none x (numbers_of_status old) f.room f.point f.stands;
     full = λ dev is. absurd (cc is);
   }
 

@@ -19,7 +19,7 @@ use Rattle.salt_run.proofs.Behind.{is-behind}
 use Rattle.salt_run.proofs.Images.{StandsAt, stands-alone, stands-left}
 use Rattle.salt_run.specs.Ending.{EndsBehind, IsFullBehind, StandsBehind, flight_at}
 use Rattle.salt_loop.specs.Ending.{EndsFound, MayEndAt}
-use Rattle.salt_loop.specs.Stopping.{numbers_told}
+use Rattle.salt_loop.specs.Stopping.{numbers_of_status}
 use Rattle.salt_storage.specs.declared.found.Numbers.{Numbers}
 use Rattle.salt_place.specs.declared.placement.Shape.{Shape}
 use Rattle.std.proofs.Common.{subst, sym, ◌∙◌}
@@ -40,7 +40,7 @@ module _ (shape : Shape) (started : Bool) (o : Option Store) (q : Pending) (d : 
     images : IsTrue d.told → (image : ℕ → List ℕ) → IsImage d image → StandsBehind shape status (flight_at status (flight_of i)) trace image
     images told image is = by status x.stands
       where
-        by : (t : Status) → LeftAt (numbers_told t) x.room x.point → StandsBehind shape t (flight_at t (flight_of i)) trace image
+        by : (t : Status) → LeftAt (numbers_of_status t) x.room x.point → StandsBehind shape t (flight_at t (flight_of i)) trace image
         by (NumbersSpent boot decisions) h = record {
           found = h.1.kept;
           stands = stands-alone shape started d h.1.kept h.1.resting told image is;
@@ -54,7 +54,7 @@ module _ (shape : Shape) (started : Bool) (o : Option Store) (q : Pending) (d : 
     spent : (boot decisions : ℕ) → status ≡ NumbersSpent boot decisions → AreSpentBehind trace boot decisions
     spent boot decisions is =
         let m : MayEndAt x.room x.point (NumbersSpent boot decisions) = subst (MayEndAt x.room x.point) is x.may in
-        let h : LeftAt (numbers_told (NumbersSpent boot decisions)) x.room x.point = subst (λ (t : Status). LeftAt (numbers_told t) x.room x.point) is x.stands in
+        let h : LeftAt (numbers_of_status (NumbersSpent boot decisions)) x.room x.point = subst (λ (t : Status). LeftAt (numbers_of_status t) x.room x.point) is x.stands in
         record {
           down = x.keeps.state.units.phase ∙ m.0;
           spent = m.1.spent;

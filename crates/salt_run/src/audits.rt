@@ -2,7 +2,7 @@
 
 ghost use Rattle.salt_audit.specs.declared.verdict.Verdict.{Verdict};
 ghost use Rattle.salt_promise.specs.Given.{stream};
-ghost use Rattle.salt_run.specs.Auditing.{Audits, IsTold, line_telling, status_telling};
+ghost use Rattle.salt_run.specs.Auditing.{AuditsTranscript, IsVerdictTold, line_telling, status_telling};
 ghost use Rattle.std.specs.Prelude.{IfOk, ◌≡◌};
 
 use salt_audit::Verdict;
@@ -34,7 +34,7 @@ fn status_telling(verdict: Verdict) -> Status
 
 /// Writes the line of a verdict.
 fn tell<K: Sink>(alloc: Global, sink: &mut K, verdict: Verdict) -> Status
-    ensures { IsTold verdict result (stream (K.held sink.old) (K.faults sink.old)) (stream (K.held sink.new) (K.faults sink.new)) }
+    ensures { IsVerdictTold verdict result (stream (K.held sink.old) (K.faults sink.old)) (stream (K.held sink.new) (K.faults sink.new)) }
 {
     let Ok(line) = line_telling(alloc, verdict) else {
         return Status::Memory;
@@ -47,7 +47,7 @@ fn tell<K: Sink>(alloc: Global, sink: &mut K, verdict: Verdict) -> Status
 
 /// Judges the transcript of the source, and writes the verdict's line to the sink.
 pub fn run_audit<S: Source, K: Sink>(alloc: Global, source: &mut S, sink: &mut K) -> Status
-    ensures { Audits result (stream (S.left source.old) (S.faults source.old)) (stream (S.left source.new) (S.faults source.new))
+    ensures { AuditsTranscript result (stream (S.left source.old) (S.faults source.old)) (stream (S.left source.new) (S.faults source.new))
         (stream (K.held sink.old) (K.faults sink.old)) (stream (K.held sink.new) (K.faults sink.new)) }
 {
     match audit(alloc, source) {

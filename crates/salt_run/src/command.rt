@@ -5,7 +5,7 @@ ghost use Rattle.salt_promise.specs.Runs.{Runs};
 ghost use Rattle.salt_promise.specs.Given.{stream, world};
 ghost use Rattle.salt_place.specs.Placement.{GivesPlaceOf, TakesEachKey};
 ghost use Rattle.salt_promise.specs.Words.{asks_audit, command_of};
-ghost use Rattle.salt_run.specs.Auditing.{Audits};
+ghost use Rattle.salt_run.specs.Auditing.{AuditsTranscript};
 ghost use Rattle.std.specs.Prelude.{None, [], false, true, ◌≡◌, ◌≤◌};
 
 use crate::audits::run_audit;
@@ -54,7 +54,7 @@ pub fn run<S: Source, K: Sink, D: Disks, F: Fn(PlaceKind, &Key, u32) -> u32>(
     }) }
     // What an audit promises, which tells no story and touches no device.
     ensures audits { asks_audit words.now ≡ true → (result.story ≡ []) × (result.flight ≡ None) × (result.net ≡ None) × (disks.new ≡ disks.old)
-        × Audits result.status (stream (S.left source.old) (S.faults source.old)) (stream (S.left source.new) (S.faults source.new))
+        × AuditsTranscript result.status (stream (S.left source.old) (S.faults source.old)) (stream (S.left source.new) (S.faults source.new))
         (stream (K.held sink.old) (K.faults sink.old)) (stream (K.held sink.new) (K.faults sink.new)) }
     ensures untouched { result.status ≡ Status.Usage → (source.new ≡ source.old) × (sink.new ≡ sink.old) × (disks.new ≡ disks.old) }
 {

@@ -6,7 +6,7 @@ use Rattle.salt_driver.proofs.RefusedAlone.{at-hand}
 use Rattle.salt_driver.proofs.Refusing.{refused-rests}
 use Rattle.salt_driver.proofs.serving.settle.Goals as goal
 use Rattle.salt_driver.specs.Counting.{CountsSoFar}
-use Rattle.salt_driver.specs.Standing.{Advances, IsAt, left_to_come}
+use Rattle.salt_driver.specs.Standing.{AdvancesInLine, IsAt, left_to_come}
 use Rattle.salt_model.specs.declared.events.Event.{Event}
 use Rattle.salt_storage.proofs.Staying.{stays-behind, stays-same}
 use Rattle.std.proofs.Common.{arith, inl, inr, subst, sym, ◌∙◌}
@@ -44,7 +44,7 @@ loop-next-preserved g c =
     let moved = c.in_ok-next.ensures.moves first.point (sound-on first.moves c.requires.stands.0 first.point c.requires.stands.1 first.inside first.runs) at in (
       λ p sound starts.
           let here =
-          subst (λ o. Advances (g.E.Stepping.stands_for (view c.loop-next.disks) c.loop-next.engine) line p c.args.story.now o c.loop-next.story) c.in-Some.is (known.0 p sound starts) in
+          subst (λ o. AdvancesInLine (g.E.Stepping.stands_for (view c.loop-next.disks) c.loop-next.engine) line p c.args.story.now o c.loop-next.story) c.in-Some.is (known.0 p sound starts) in
           let r = c.in_ok-next.ensures.moves here.point (sound-on here.moves p here.point sound here.inside here.runs) here.stands in
           advance-on (g.E.Stepping.stands_for (view c.say.new.disks)) line (g.E.Stepping.stands_for (view c.loop-next.disks)) p c.args.story.now c.loop-next.story c.say.new.story c.loop-next.engine c.say.new.self (Some c.in-Some.event) c.in_ok-next.next here
           (advance-once (g.E.Stepping.stands_for (view c.say.new.disks)) line (Say c.in-Some.event) tt here.point r.0 c.loop-next.story c.say.new.story c.say.new.self c.in_ok-next.next r.1 r.2 c.in_ok-next.ensures.tells),
@@ -63,7 +63,7 @@ loop-next-preserved g c =
 
 pub returns-clause-ok : goal.returns-clause-ok
 returns-clause-ok g c = λ p sound starts.
-    subst (λ o. Advances (g.E.Stepping.stands_for (g.D.Disks.view c.loop-next.disks) c.loop-next.engine) c.args.line.now p c.args.story.now o c.loop-next.story)
+    subst (λ o. AdvancesInLine (g.E.Stepping.stands_for (g.D.Disks.view c.loop-next.disks) c.loop-next.engine) c.args.line.now p c.args.story.now o c.loop-next.story)
     (none-of c.loop-next.next c.in_default.not-Some) (c.loop-next.invariant.0 p sound starts)
 
 pub returns-clause-turns : goal.returns-clause-turns
@@ -91,7 +91,7 @@ returns-in_err-next-clause-err g c =
     let stands_for = g.E.Stepping.stands_for (g.D.Disks.view c.loop-next.disks) in
     let line = c.args.line.now in
     let here =
-    subst (λ o. Advances (stands_for c.loop-next.engine) line p c.args.story.now o c.loop-next.story) c.in-Some.is (c.loop-next.invariant.0 p sound at) in
+    subst (λ o. AdvancesInLine (stands_for c.loop-next.engine) line p c.args.story.now o c.loop-next.story) c.in-Some.is (c.loop-next.invariant.0 p sound at) in
     stop-saying stands_for line _ _ _ c.loop-next.engine c.in-Some.event p c.args.story.now c.loop-next.story c.say.new.story here
     (c.in_err-next.ensures.halts here.point (sound-on here.moves p here.point sound here.inside here.runs) here.stands))
 

@@ -1,6 +1,6 @@
 use Rattle.law_states.specs.Points.{Point}
 use Rattle.salt_driver.proofs.serving.settle.Given as goal
-use Rattle.salt_driver.specs.Standing.{Advances, IsAt, IsSoundPoint, left_to_come}
+use Rattle.salt_driver.specs.Standing.{AdvancesInLine, IsAt, IsSoundPoint, left_to_come}
 use Rattle.salt_driver.specs.Counting.{CountsSoFar}
 use Rattle.salt_storage.specs.Staying.{StaysWithin}
 use Rattle.salt_model.specs.declared.events.Event.TheVariants.{Refused}
@@ -10,7 +10,7 @@ use Rattle.std.specs.Prelude.{None, Some, ◌≡◌, ◌≤◌, ◌⊎◌}
 abbrev pub invariant-loop-next : goal.invariant-loop-next
 invariant-loop-next g l =
     ((p : Point) → IsSoundPoint p → IsAt (g.E.Stepping.stands_for (g.D.Disks.view l.initial.disks) l.initial.engine) l.line l.initial.next p →
-    Advances (g.E.Stepping.stands_for (g.D.Disks.view l.disks) l.engine) l.line p l.initial.story l.next l.story)
+    AdvancesInLine (g.E.Stepping.stands_for (g.D.Disks.view l.disks) l.engine) l.line p l.initial.story l.next l.story)
     × CountsSoFar l.line (g.D.Disks.view l.initial.disks) (g.D.Disks.view l.disks) l.initial.next l.initial.story l.story l.next
     × (g.E.Stepping.turns l.engine ≤ g.E.Stepping.turns l.initial.engine)
     × StaysWithin (g.E.Stepping.asked l.initial.engine) (g.E.Stepping.asked l.engine) (g.D.Disks.view l.initial.disks) (g.D.Disks.view l.disks)

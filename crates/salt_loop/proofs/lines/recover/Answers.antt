@@ -4,7 +4,7 @@ use Rattle.salt_loop.proofs.lines.recover.Goals as goal
 use Rattle.salt_driver.proofs.Falling.{no-short-fall}
 use Rattle.salt_driver.specs.Counting.{CountsFall}
 use Rattle.salt_driver.specs.Opening.{halt_of}
-use Rattle.salt_loop.specs.Serving.{EndsBehind}
+use Rattle.salt_loop.specs.Serving.{EndsResuming}
 use Rattle.salt_loop.specs.Stopping.{IsLaterStop, answer_of, status_of}
 use Rattle.salt_loop.specs.declared.stop.Stop.{Stop}
 use Rattle.salt_disk.specs.declared.disks.DiskErr.{DiskErr}
@@ -20,7 +20,7 @@ returns-in-Err-clause-err g c = λ start trace h.
     let e = c.recover.new.database in
     let devices = g.E.Stepping.on_devices view e in
     let flies = g.E.Stepping.flight e in
-    subst (λ (s : Stop). EndsBehind devices flies (halt_of c.args.why) s start trace c.args.story.now c.recover.new.story) (sym c.stop_opening.ensures.is)
+    subst (λ (s : Stop). EndsResuming devices flies (halt_of c.args.why) s start trace c.args.story.now c.recover.new.story) (sym c.stop_opening.ensures.is)
     (ends-opening devices flies c.in-Err.e start trace c.args.story.now c.recover.new.story (c.in-Err.ensures.err start trace h) (halt_of c.args.why) (no-short-fall c.args.why))
 
 pub returns-in-Err-clause-later : goal.returns-in-Err-clause-later

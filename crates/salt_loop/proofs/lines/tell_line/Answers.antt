@@ -18,7 +18,7 @@ schema-requires g c =
     let e = c.do_line-done.new.database in
     let s = c.requires.stands in
     record {
-      left =
+      stands =
           left-there (g.E.Stepping.stands_for now) (g.E.Stepping.on_devices now e) (g.E.Stepping.flight e) e c.stands.ensures.idle c.stands.ensures.flown c.stands.ensures.reopens c.stands.ensures.told
           s.0 c.do_line-done.new.story c.do_line-done.result (on_ok_weaker c.do_line-done.result (λ done. let d = done s.0 s.1 s.2 in (d.after, d.serves)) c.do_line-done.ensures.ok)
           (IfErr-weaker c.do_line-done.result _ _ (λ stop done. let d = done s.0 s.1 s.2 in (d.after, d.ends)) c.do_line-done.ensures.err);

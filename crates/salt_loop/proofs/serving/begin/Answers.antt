@@ -30,7 +30,7 @@ schema-requires g c =
     let e = c.start-done.new.database in
     let b = c.requires.begins in
     record {
-      left =
+      stands =
           left-there (g.E.Stepping.stands_for now) (g.E.Stepping.on_devices now e) (g.E.Stepping.flight e) e c.stands.ensures.idle c.stands.ensures.flown c.stands.ensures.reopens c.stands.ensures.told
           b.0 c.start-done.new.story c.start-done.result (on_ok_weaker c.start-done.result (λ opened. let o = opened b.0 b.1 b.2.down in (o.after, o.serves)) c.start-done.ensures.ok)
           (IfErr-weaker c.start-done.result _ _ (λ stop ends. let x = ends b.0 b.1 b.2.down in (x.after, x.ends)) c.start-done.ensures.err);

@@ -3,7 +3,7 @@ use Rattle.salt_audit.specs.declared.verdict.Verdict.{Verdict}
 use Rattle.salt_promise.specs.Given.{stream}
 use Rattle.salt_run.proofs.Audited.{audits_fault, audits_found, audits_long, audits_nothing, found_three}
 use Rattle.salt_run.proofs.audits.run_audit.Goals as goal
-use Rattle.salt_run.specs.Auditing.{IsFound}
+use Rattle.salt_run.specs.Auditing.{IsVerdictFound}
 use Rattle.salt_transcript.specs.Stopping.{IsTooLong}
 use Rattle.std.proofs.Common.{Err, List, ap, ℕ, ◌≡◌}
 
@@ -14,7 +14,7 @@ returns-in-Ok g c =
     let v = c.in-Ok.verdict in
     audits_found v c.tell.result (stream (left c.args.source.now) (faults c.args.source.now)) (stream (left c.audit.new.source) (faults c.audit.new.source))
     (stream (g.K.Sink.held c.args.sink.now) (g.K.Sink.faults c.args.sink.now)) (stream (g.K.Sink.held c.tell.new.sink) (g.K.Sink.faults c.tell.new.sink))
-    (found_three (λ (bytes : List ℕ). IsVerdict bytes v) (λ (bytes : List ℕ). (other : Verdict) → IsVerdict bytes other → other ≡ v) (λ (bytes : List ℕ). IsTooLong bytes → ⊥) (IsFound v)
+    (found_three (λ (bytes : List ℕ). IsVerdict bytes v) (λ (bytes : List ℕ). (other : Verdict) → IsVerdict bytes other → other ≡ v) (λ (bytes : List ℕ). IsTooLong bytes → ⊥) (IsVerdictFound v)
     (left c.args.source.now) (λ bytes is only within. record { is = is; only = only; within = within }) c.in-Ok.ensures.verdict c.in-Ok.ensures.only c.in-Ok.ensures.within)
     (c.in-Ok.ensures.no_fault (λ is. cc)) c.tell.ensures
 

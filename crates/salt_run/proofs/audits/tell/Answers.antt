@@ -1,6 +1,6 @@
 use Rattle.salt_run.proofs.Audited.{told_nothing, told_short, told_written}
 use Rattle.salt_run.proofs.audits.tell.Goals as goal
-use Rattle.salt_run.specs.Auditing.{IsTold}
+use Rattle.salt_run.specs.Auditing.{IsVerdictTold}
 use Rattle.salt_promise.specs.Given.{stream}
 use Rattle.salt_promise.specs.declared.status.Status.{Status}
 use Rattle.salt_io.specs.Streams.{Gains, GainsShort}
@@ -14,7 +14,7 @@ returns-in-Ok-write_whole g c =
     let held = g.K.Sink.held in
     let faults = g.K.Sink.faults in
     let line = c.as_slice.ensures.value ∙ c.in-Ok.ensures in
-    subst (λ (status : Status). IsTold c.args.verdict status (stream (held c.args.sink.now) (faults c.args.sink.now)) (stream (held c.write_whole.new.sink) (faults c.write_whole.new.sink)))
+    subst (λ (status : Status). IsVerdictTold c.args.verdict status (stream (held c.args.sink.now) (faults c.args.sink.now)) (stream (held c.write_whole.new.sink) (faults c.write_whole.new.sink)))
     (sym c.status_telling.ensures)
     (told_written c.args.verdict (held c.args.sink.now) (held c.write_whole.new.sink) (faults c.args.sink.now) (faults c.write_whole.new.sink)
     (subst (λ (bytes : List ℕ). Gains (held c.args.sink.now) bytes (held c.write_whole.new.sink)) line c.in-Ok-write_whole.ensures.ok) c.in-Ok-write_whole.ensures.same)
