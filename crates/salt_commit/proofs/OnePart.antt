@@ -16,6 +16,7 @@ use Rattle.salt_model.specs.declared.places.Place.{Place}
 use Rattle.salt_place.specs.declared.placement.Shape.{Shape}
 use Rattle.salt_ranges.specs.Ranges.{has_key}
 use Rattle.salt_ranges.specs.declared.range.KeyRange.{KeyRange}
+use Rattle.salt_partition.specs.Partitions.{rows_in}
 use Rattle.salt_stands.proofs.Booleans.{left, right}
 use Rattle.salt_stands.proofs.Places.{or_row, row_at_entries}
 use Rattle.salt_stands.specs.Commits.{each_tables, found_of, partition_count}
@@ -100,8 +101,8 @@ module _ (d : View) (x : Store) (s : StandsInPlace d x) (which : WhichLog) (c : 
   pub each_placed : ArePlaced c v
   each_placed p low q row found =
       let one = some_at x.parts.items p (omega (arith, low, is.size)) in
-      let own : one.0.rows.entries ≡ (each_tables c v p).list = rows_are [] d x which c v is p one.0 one.1 in
-      let first : one.0.rows.entries ≡ (each_tables s.c s.v p).list = rows_are [] d x s.which s.c s.v s.is p one.0 one.1 in
+      let own : rows_in one.0 ≡ (each_tables c v p).list = rows_are [] d x which c v is p one.0 one.1 in
+      let first : rows_in one.0 ≡ (each_tables s.c s.v p).list = rows_are [] d x s.which s.c s.v s.is p one.0 one.1 in
       ap (λ (k : Shape). part_of_key k q.key) (sym same_shape)
       ∙ s.placed p (omega (arith, low, is.size, s.is.size)) q row (ap (find place_cmp q) (sym first ∙ own) ∙ found)
 

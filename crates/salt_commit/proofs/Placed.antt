@@ -17,7 +17,7 @@ use Rattle.salt_model.specs.Kept.{Definition}
 use Rattle.salt_model.specs.Tables.{Entry, Tables, place_cmp, place_total, row_at}
 use Rattle.salt_model.specs.Words.{Every}
 use Rattle.salt_model.specs.declared.places.Place.{Place}
-use Rattle.salt_partition.specs.Partitions.{IsPartition}
+use Rattle.salt_partition.specs.Partitions.{IsPartition, rows_in}
 use Rattle.salt_partition.specs.declared.partition.Partition.{Partition}
 use Rattle.salt_stands.proofs.Booleans.{join, left, right}
 use Rattle.salt_stands.proofs.Places.{equal_is, or_row, place_same, row_at_entries}
@@ -102,23 +102,23 @@ every_all f (x ∷ xs) h = join (f x) (list_all f xs) h.0 (every_all f xs h.1)
 
 -- the rows of the first n partitions fit
 abbrev pub FitBelow : List TableDef → Shape → List Partition → ℕ → Type 0
-FitBelow schema shape parts n = (p : ℕ) → p < n → IfSome (slice_get parts p) (λ x. list_all (fits_place schema shape p) x.rows.entries ≡ true)
+FitBelow schema shape parts n = (p : ℕ) → p < n → IfSome (slice_get parts p) (λ x. list_all (fits_place schema shape p) (rows_in x) ≡ true)
 
-pub one_more_fits : (schema : List TableDef) (shape : Shape) (parts : List Partition) (n : ℕ) (x : Partition) → slice_get parts n ≡ Some x → FitBelow schema shape parts n → list_all (fits_place schema shape n) x.rows.entries ≡ true → FitBelow schema shape parts (n + 1)
+pub one_more_fits : (schema : List TableDef) (shape : Shape) (parts : List Partition) (n : ℕ) (x : Partition) → slice_get parts n ≡ Some x → FitBelow schema shape parts n → list_all (fits_place schema shape n) (rows_in x) ≡ true → FitBelow schema shape parts (n + 1)
 one_more_fits schema shape parts n x at so_far one p low = by (less_or p n)
   where
     less_or : (a b : ℕ) → (a < b) ⊎ (b ≤ a)
     less_or a b = grind arith
 
-    by : (p < n) ⊎ (n ≤ p) → IfSome (slice_get parts p) (λ y. list_all (fits_place schema shape p) y.rows.entries ≡ true)
+    by : (p < n) ⊎ (n ≤ p) → IfSome (slice_get parts p) (λ y. list_all (fits_place schema shape p) (rows_in y) ≡ true)
     by (inl below) = so_far p below
     by (inr above) =
         let same : n ≡ p = omega (arith, low, above) in
-        subst (λ (k : ℕ). IfSome (slice_get parts k) (λ y. list_all (fits_place schema shape k) y.rows.entries ≡ true)) same
-        (subst (λ (o : Option Partition). IfSome o (λ y. list_all (fits_place schema shape n) y.rows.entries ≡ true)) (sym at) one)
+        subst (λ (k : ℕ). IfSome (slice_get parts k) (λ y. list_all (fits_place schema shape k) (rows_in y) ≡ true)) same
+        (subst (λ (o : Option Partition). IfSome o (λ y. list_all (fits_place schema shape n) (rows_in y) ≡ true)) (sym at) one)
 
 module _ (schema : List TableDef) (d : View) (x : Store) (which : WhichLog) (c : Coordinator Definition) (v : ℕ → PartView) (is : IsStore reading d x which c v) where
-  pub rows_are : (p : ℕ) (q : Partition) → slice_get x.parts.items p ≡ Some q → q.rows.entries ≡ (each_tables c v p).list
+  pub rows_are : (p : ℕ) (q : Partition) → slice_get x.parts.items p ≡ Some q → rows_in q ≡ (each_tables c v p).list
   rows_are p q at = (if_some (slice_get x.parts.items p) q (λ y. IsPartition d y p (v p) (decided_by c p)) at (is.parts.each p)).rows
 
   -- WHERE EACH FITS
@@ -126,7 +126,7 @@ module _ (schema : List TableDef) (d : View) (x : Store) (which : WhichLog) (c :
     each_fits : (p : ℕ) → p < partition_count c → Have (λ q row. fits_place schema shape p (q, row) ≡ true) (each_tables c v p)
     each_fits p low =
         let one = some_at x.parts.items p (omega (arith, low, is.size)) in
-        let fit : list_all (fits_place schema shape p) one.0.rows.entries ≡ true = if_some (slice_get x.parts.items p) one.0 (λ y. list_all (fits_place schema shape p) y.rows.entries ≡ true) one.1 (all p low) in
+        let fit : list_all (fits_place schema shape p) (rows_in one.0) ≡ true = if_some (slice_get x.parts.items p) one.0 (λ y. list_all (fits_place schema shape p) (rows_in y) ≡ true) one.1 (all p low) in
         found_have (λ q row. fits_place schema shape p (q, row) ≡ true) (each_tables c v p).list
         (all_every (fits_place schema shape p) (each_tables c v p).list (subst (λ (es : List Entry). list_all (fits_place schema shape p) es ≡ true) (rows_are p one.0 one.1) fit))
 
@@ -148,7 +148,7 @@ module _ (schema : List TableDef) (d : View) (x : Store) (which : WhichLog) (c :
     }
 
   -- WHERE THE DISKS TELL each fits
-  pub told_fits : IsTrue d.told → tables_defined c.definitions ≡ schema → (p : ℕ) → p < partition_count c → (q : Partition) → slice_get x.parts.items p ≡ Some q → list_all (fits_place schema c.log.header.shape p) q.rows.entries ≡ true
+  pub told_fits : IsTrue d.told → tables_defined c.definitions ≡ schema → (p : ℕ) → p < partition_count c → (q : Partition) → slice_get x.parts.items p ≡ Some q → list_all (fits_place schema c.log.header.shape p) (rows_in q) ≡ true
   told_fits told tables p low q at =
       subst (λ (es : List Entry). list_all (fits_place schema c.log.header.shape p) es ≡ true) (sym (rows_are p q at))
       (every_all (fits_place schema c.log.header.shape p) (each_tables c v p).list

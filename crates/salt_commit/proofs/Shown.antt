@@ -7,7 +7,7 @@ use Rattle.salt_commit.specs.declared.store.Store.{Store}
 use Rattle.salt_disk.specs.Disks.{View}
 use Rattle.salt_model.specs.Tables.{Tables, place_cmp}
 use Rattle.salt_partition.proofs.Standing.{rows_shown}
-use Rattle.salt_partition.specs.Partitions.{IsPartition}
+use Rattle.salt_partition.specs.Partitions.{IsPartition, rows_in}
 use Rattle.salt_partition.specs.declared.partition.Partition.{Partition}
 use Rattle.salt_stands.proofs.Places.{same_tables}
 use Rattle.salt_stands.specs.Commits.{each_tables, found_of}
@@ -24,7 +24,7 @@ use Rattle.std.specs.Prelude.{IfSome, map, suc}
 one_shown : (d : View) (x : Partition) (p : ℕ) (v : PartView) (applied : List Id) → IsPartition d x p v applied → shown_in x ≡ part_tables applied v.log v.rows
 one_shown d x p v applied is =
     let rows = part_tables applied v.log v.rows in
-    same_tables (shown_in x) rows (λ q. ap (find place_cmp q) (rows_shown x.rows.entries rows is.rows))
+    same_tables (shown_in x) rows (λ q. ap (find place_cmp q) (rows_shown (rows_in x) rows is.rows))
 
 all_shown : (xs : List Partition) (T : ℕ → Tables) (p : ℕ) → ((k : ℕ) → IfSome (slice_get xs k) (λ x. shown_in x ≡ T (p + k))) → map shown_in xs ≡ listed T p (length xs)
 all_shown [] T p h = refl

@@ -19,7 +19,7 @@ use Rattle.salt_disk.specs.Disks.{View}
 use Rattle.salt_gatelog.specs.Log.{IsLog}
 use Rattle.salt_gatelog.specs.declared.log.GateLog.{GateLog}
 use Rattle.salt_partition.proofs.Lasts.{no_last}
-use Rattle.salt_partition.specs.Partitions.{IsPartition}
+use Rattle.salt_partition.specs.Partitions.{IsPartition, rows_in}
 use Rattle.salt_partition.specs.declared.partition.Partition.{Partition}
 use Rattle.salt_stands.specs.Coordinator.{coordinator_pair}
 use Rattle.salt_stands.specs.CoordinatorLog.{coordinator_generation, coordinator_in}
@@ -126,7 +126,7 @@ no_rows_yet : (part_tables [] (first_view 2 0).log []).list ≡ []
 unfolding with_changes
 no_rows_yet = refl
 
-part_stands : (x : Partition) → x.part ≡ 0 → x.nulls ≡ true → x.log ≡ part_gate → x.rows.entries ≡ [] → IsPartition view x 0 (first_view 2 0) []
+part_stands : (x : Partition) → x.part ≡ 0 → x.nulls ≡ true → x.log ≡ part_gate → rows_in x ≡ [] → IsPartition view x 0 (first_view 2 0) []
 part_stands x part nulls log rows = record {
   part = part;
   entries = header ∷ [];
@@ -149,7 +149,7 @@ part_stands x part nulls log rows = record {
   };
 }
 
-pub store_stands : (x : Store) (q : Partition) → x.decisions ≡ counting → x.parts.items ≡ q ∷ [] → q.part ≡ 0 → q.nulls ≡ true → q.log ≡ part_gate → q.rows.entries ≡ [] → StandsOnDevices view x
+pub store_stands : (x : Store) (q : Partition) → x.decisions ≡ counting → x.parts.items ≡ q ∷ [] → q.part ≡ 0 → q.nulls ≡ true → q.log ≡ part_gate → rows_in q ≡ [] → StandsOnDevices view x
 store_stands x q decisions parts part nulls log rows = record {
   which = LogA;
   c = first_coordinator shape 3;

@@ -7,13 +7,14 @@ use Rattle.salt_disk.proofs.CallAfterCall.{keeps_on, keeps_wider, kept_on}
 use Rattle.salt_disk.specs.Disks.{FullExactly, FullOnly, IsSettled, IsUnchanged, KeepsBut, KeepsOthers, OnlyFails, SameShape, View}
 use Rattle.salt_disk.specs.declared.disks.DiskErr.TheVariants.{Failed, Full, Memory, Stopped}
 use Rattle.salt_disk.specs.declared.disks.DiskErr.{DiskErr}
+use Rattle.salt_gatelog.specs.Log as gates
 use Rattle.salt_gatelog.specs.Log.{HasClosedGate, IsLog}
 use Rattle.salt_gatelog.specs.declared.log.GateLog.{GateLog}
 use Rattle.salt_model.specs.Tables.{no_rows, with_changes}
 use Rattle.salt_partition.proofs.Lasts.{no_last}
 use Rattle.salt_partition.proofs.Standing.{entries_stand, settled_kept}
 use Rattle.salt_partition.specs.Openings.{FullAtLogs}
-use Rattle.salt_partition.specs.Partitions.{IsPartition}
+use Rattle.salt_partition.specs.Partitions.{IsPartition, log_device}
 use Rattle.salt_partition.specs.declared.partition.Partition.{Partition}
 use Rattle.salt_stands.proofs.FirstOpening.{is_created}
 use Rattle.salt_stands.specs.FirstOpening.{IsCreated, first_part_header, first_view}
@@ -46,8 +47,8 @@ module _ (d0 d1 d2 e : View) (part : ℕ) (first : KeepsOthers (part_device part
       (keeps_wider (λ dev. dev ≡ a) logs d2 e None (λ dev is. inl is) third)
 
   pub made : (x : Partition) (other : GateLog) (header : List ℕ) → pages_device part < d0.count
-      → other.dev ≡ part_device part + 1 → IsLog d1 other [] → x.log.dev ≡ part_device part → IsLog e x.log ([] ++ header ∷ []) → header ≡ spell_partition_header (first_part_header 2 part)
-      → x.part ≡ part → x.nulls ≡ true → x.rows.entries ≡ [] → IsPartition e x part (first_view 2 part) []
+      → gates.device_of other ≡ part_device part + 1 → IsLog d1 other [] → log_device x ≡ part_device part → IsLog e x.log ([] ++ header ∷ []) → header ≡ spell_partition_header (first_part_header 2 part)
+      → x.part ≡ part → x.nulls ≡ true → x.rows ≡ [] → IsPartition e x part (first_view 2 part) []
   made x other header known other_is blank log_is is_log spelled own nulls rows =
       let a = part_device part in
       let apart : a + 1 ≡ a → ⊥ = λ same. omega (arith, same) in

@@ -4,6 +4,7 @@ use Rattle.salt_bytes.specs.Log.{entries_in}
 use Rattle.salt_disk.specs.Disks.{IsSettled, IsUnchanged, KeepsAll, SameShape, View}
 use Rattle.salt_disk.specs.declared.disks.DiskErr.{DiskErr}
 use Rattle.salt_gatelog.proofs.Frame.{log_kept}
+use Rattle.salt_gatelog.specs.Log as gates
 use Rattle.salt_gatelog.specs.Log.{IsLog}
 use Rattle.salt_gatelog.specs.declared.log.GateLog.{GateLog}
 use Rattle.salt_gatelog.specs.declared.pair.PairErr.TheVariants.{Disk, NotSalt}
@@ -40,22 +41,22 @@ kept_in d part dev entries found.Blank some seen log = tt
 kept_in d part dev entries (found.Read r) some seen log = record { entries = entries; is_log = log.0; device = log.1; some = some; put = log.2; sides = log.3; reads = λ told. was_read part entries (log_of r) some (seen told) }
 kept_in d part dev entries found.Outside some seen log = tt
 
-pub content_found : (d0 d1 d : View) (part dev : ℕ) (log : GateLog) (entries : List (List ℕ)) (r : Result LogContent DiskErr) → SameShape d0 d → IsLog d1 log entries → 0 < length entries → log.dev ≡ dev
-    → (IsTrue d0.told → entries_in (d0.bytes log.dev) ≡ Some entries)
-    → IfOk r (λ c. (es : List (List ℕ)) → IsLog d1 log es → 0 < length es → HasContent d part log.dev es c) → IfOk r (IsContent d0 d part dev)
+pub content_found : (d0 d1 d : View) (part dev : ℕ) (log : GateLog) (entries : List (List ℕ)) (r : Result LogContent DiskErr) → SameShape d0 d → IsLog d1 log entries → 0 < length entries → gates.device_of log ≡ dev
+    → (IsTrue d0.told → entries_in (d0.bytes (gates.device_of log)) ≡ Some entries)
+    → IfOk r (λ c. (es : List (List ℕ)) → IsLog d1 log es → 0 < length es → HasContent d part (gates.device_of log) es c) → IfOk r (IsContent d0 d part dev)
 content_found d0 d1 d part dev log entries (Err e) shape is some same stands has = tt
 content_found d0 d1 d part dev log entries (Ok c) shape is some same stands each =
     let has = each entries is some in
     record {
       seen = λ told. has.seen (shape.told ∙ told) ∙ ap (content_of (partition_in part)) (sym (stands told) ∙ ap (λ k. entries_in (d0.bytes k)) same);
-      log = subst (λ (k : ℕ). IsKeptIn d part k c) same (kept_in d part log.dev entries c some has.seen has.log);
+      log = subst (λ (k : ℕ). IsKeptIn d part k c) same (kept_in d part (gates.device_of log) entries c some has.seen has.log);
     }
 
 -- a log that was read is so after calls that write nothing
 still_kept : (d e : View) (part dev : ℕ) (r : ReadLog) → SameShape d e → ((k : ℕ) → IsUnchanged d e k) → IsKept d part dev r → IsKept e part dev r
 still_kept d e part dev r shape same is = record {
   entries = is.entries;
-  is_log = log_kept d e r.log is.entries shape (same r.log.dev) is.is_log;
+  is_log = log_kept d e r.log is.entries shape (same (gates.device_of r.log)) is.is_log;
   device = is.device;
   some = is.some;
   put = is.put;
@@ -107,7 +108,7 @@ none_some (side ∷ sides) e = cc
 pub opens_as : (d0 d1 : View) (x : Partition) (boot : ℕ) (decided : List Id) (part : ℕ) (side : Side) (r : ReadLog)
     → KeepsAll d0 d1 None → pages_device part < d0.count → IsSettled d0 (part_device part) → IsSettled d0 (part_device part + 1)
     → HasChosen d0 d1 part side r → is_known_log boot decided (log_of r) ≡ true → has_pages (log_of r) ≡ false
-    → x.part ≡ part → x.log ≡ r.log → x.nulls ≡ has_nulls r.header.format → x.rows.entries ≡ (with_changes (decided_changes decided (units_of r.units.items)) no_rows).list
+    → x.part ≡ part → x.log ≡ r.log → x.nulls ≡ has_nulls r.header.format → x.rows ≡ (with_changes (decided_changes decided (units_of r.units.items)) no_rows).list
     → IsLastKept decided (units_of r.units.items) x.last
     → OpensAs d0 d1 x boot decided part
 opens_as d0 d1 x boot decided part side r keeps known first second h is_known pages own log nulls rows last =
@@ -120,7 +121,7 @@ opens_as d0 d1 x boot decided part side r keeps known first second h is_known pa
         entries = h.kept.entries;
         is_log = subst (λ (l : GateLog). IsLog d1 l h.kept.entries) (sym log) h.kept.is_log;
         some = h.kept.some;
-        device = ap (λ (l : GateLog). l.dev) log ∙ h.kept.device;
+        device = ap gates.device_of log ∙ h.kept.device;
         known = omega (arith, known, keeps.shape.count);
         other = settled_kept d0 d1 (device_of a (other_log (which_of side))) (same (device_of a (other_log (which_of side)))) (settled_other d0 a side first second);
         nulls = nulls;

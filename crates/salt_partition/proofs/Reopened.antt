@@ -4,13 +4,14 @@ use Rattle.salt_bytes.specs.Generations.{Counts, WhichLog}
 use Rattle.salt_bytes.specs.Log.{entries_in, spelled}
 use Rattle.salt_disk.specs.Disks.{IsUnchanged, KeepsAll, View}
 use Rattle.salt_gatelog.proofs.Entries.{not_told}
+use Rattle.salt_gatelog.specs.Log as gates
 use Rattle.salt_gatelog.specs.Log.{IsLog}
 use Rattle.salt_gatelog.specs.declared.log.GateLog.{GateLog}
 use Rattle.salt_model.specs.Tables.{Tables, with_changes}
 use Rattle.salt_partition.proofs.Standing.{decided_rows, entries_stand, settled_kept}
 use Rattle.salt_partition.proofs.Steps.{unchanged}
 use Rattle.salt_partition.specs.Openings.{OpensAs, are_some, fault_of, has_pages, part_fault}
-use Rattle.salt_partition.specs.Partitions.{IsLastKept, IsPartition, IsPreparedLast}
+use Rattle.salt_partition.specs.Partitions.{IsLastKept, IsPartition, IsPreparedLast, log_device, log_gate}
 use Rattle.salt_partition.specs.Reopening.{GoesOn, IsLastIn, IsLater}
 use Rattle.salt_partition.specs.declared.partition.Partition.{Partition}
 use Rattle.salt_stands.proofs.Pairs.{pair_same}
@@ -48,17 +49,17 @@ goes_next v applied u last = record { kept = λ w new. not_before w applied u ne
 
 -- ONE VALUE GOES ON FROM ANOTHER, or its log is another, or spells otherwise
 
-pub other_log_than : (x before : Partition) (cs : List Change) (t : Tables) → (x.log.dev ≡ before.log.dev → ⊥) → IsTrue false ↔ IsLater x before cs t
+pub other_log_than : (x before : Partition) (cs : List Change) (t : Tables) → (log_device x ≡ log_device before → ⊥) → IsTrue false ↔ IsLater x before cs t
 other_log_than x before cs t differ = (λ yes. absurd (cc yes), λ later. absurd (differ later.device))
 
-pub other_gate : (x before : Partition) (cs : List Change) (t : Tables) → (x.log.end ≡ before.log.end → ⊥) → IsTrue false ↔ IsLater x before cs t
+pub other_gate : (x before : Partition) (cs : List Change) (t : Tables) → (log_gate x ≡ log_gate before → ⊥) → IsTrue false ↔ IsLater x before cs t
 other_gate x before cs t differ = (λ yes. absurd (cc yes), λ later. absurd (differ later.gate))
 
 pub spells_otherwise : (x before : Partition) (cs : List Change) (t : Tables) → (x.nulls ≡ before.nulls → ⊥) → IsTrue false ↔ IsLater x before cs t
 spells_otherwise x before cs t differ = (λ yes. absurd (cc yes), λ later. absurd (differ later.nulls))
 
-pub by_rows : (x before : Partition) (cs : List Change) (t : Tables) (b : Bool) → x.log.dev ≡ before.log.dev → x.log.end ≡ before.log.end → x.nulls ≡ before.nulls
-    → (IsTrue b ↔ (x.rows.entries ≡ (with_changes cs t).list)) → IsTrue b ↔ IsLater x before cs t
+pub by_rows : (x before : Partition) (cs : List Change) (t : Tables) (b : Bool) → log_device x ≡ log_device before → log_gate x ≡ log_gate before → x.nulls ≡ before.nulls
+    → (IsTrue b ↔ (x.rows ≡ (with_changes cs t).list)) → IsTrue b ↔ IsLater x before cs t
 by_rows x before cs t b device gate nulls decides = (λ yes. record { device = device; gate = gate; nulls = nulls; rows = decides.0 yes }, λ later. decides.1 later.rows)
 
 -- IT OPENS
@@ -105,14 +106,14 @@ module _ (d e : View) (x y : Partition) (boot : ℕ) (units : List Id) (keeps : 
     same_log : w.log ≡ v.log
     same_log = one_log w.which v.which w.log v.log same_counts
 
-    same_device : y.log.dev ≡ x.log.dev
+    same_device : log_device y ≡ log_device x
     same_device = opens.is.device ∙ ap (λ n. device_of (part_device n) w.which) is.part ∙ ap (device_of a) same_which ∙ sym is.device
 
     one_list : (es fs : List (List ℕ)) → Some es ≡ Some fs → es ≡ fs
     one_list es fs e = cc
 
     same_entries : opens.is.entries ≡ is.entries
-    same_entries = one_list opens.is.entries is.entries (sym (entries_stand e y.log opens.is.entries opens.is.is_log still_told) ∙ ap entries_in (ap e.bytes same_device ∙ (unchanged d e keeps x.log.dev).bytes) ∙ entries_stand d x.log is.entries is.is_log told)
+    same_entries = one_list opens.is.entries is.entries (sym (entries_stand e y.log opens.is.entries opens.is.is_log still_told) ∙ ap entries_in (ap e.bytes same_device ∙ (unchanged d e keeps (log_device x)).bytes) ∙ entries_stand d x.log is.entries is.is_log told)
 
     pub is_later : units ≡ decided → IsLater y x cs (part_tables applied v.log v.rows)
     is_later same = record {
@@ -155,7 +156,7 @@ module _ (d e : View) (x y : Partition) (boot : ℕ) (units : List Id) (keeps : 
         entries = opens.is.entries;
         is_log = subst (λ (l : GateLog). IsLog e l opens.is.entries) (sym log) opens.is.is_log;
         some = opens.is.some;
-        device = ap (λ (l : GateLog). l.dev) log ∙ later.device ∙ is.device;
+        device = ap gates.device_of log ∙ later.device ∙ is.device;
         known = omega (arith, is.known, keeps.shape.count);
         other = settled_kept d e other (unchanged d e keeps other) is.other;
         nulls = nulls ∙ is.nulls;
@@ -163,7 +164,7 @@ module _ (d e : View) (x y : Partition) (boot : ℕ) (units : List Id) (keeps : 
         none = is.none;
         keyed = is.keyed;
         last = last;
-        rows = ap (λ r. r.entries) rows ∙ later.rows ∙ ap (λ (t : Tables). t.list) (sym goes.rows);
+        rows = rows ∙ later.rows ∙ ap (λ (t : Tables). t.list) (sym goes.rows);
         told = λ now.
             let told : IsTrue d.told = sym keeps.shape.told ∙ now in
             record { reads = same_reads told; counts = same_pair ∙ (is.told told).counts };

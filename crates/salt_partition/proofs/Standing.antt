@@ -10,6 +10,7 @@ use Rattle.salt_codec.specs.declared.prepared.PreparedUnit.{PreparedUnit}
 use Rattle.salt_eval.proofs.InOrder.{tables_of-list}
 use Rattle.salt_eval.specs.Views.{tables_of}
 use Rattle.salt_gatelog.proofs.Bytes.{entries_in-closed}
+use Rattle.salt_gatelog.specs.Log as gates
 use Rattle.salt_gatelog.specs.Log.{IsLog}
 use Rattle.salt_gatelog.specs.declared.log.GateLog.{GateLog}
 use Rattle.salt_model.specs.Tables.{Entry, Tables, no_rows, place_cmp, with_changes}
@@ -17,7 +18,7 @@ use Rattle.salt_values.specs.Id.{has_id}
 use Rattle.salt_partition.proofs.Keyed.{all_put_keyed, every_push}
 use Rattle.salt_partition.proofs.Lasts.{applied_last, last_put}
 use Rattle.salt_partition.specs.Contents.{AreKeyed}
-use Rattle.salt_partition.specs.Partitions.{IsLastKept, IsPartition, IsPreparedLast, MayPrepare, prepared}
+use Rattle.salt_partition.specs.Partitions.{IsLastKept, IsPartition, IsPreparedLast, MayPrepare, log_device, prepared}
 use Rattle.salt_partition.specs.declared.partition.Partition.{Partition}
 use Rattle.salt_stands.proofs.Decided.{changes_other, changes_push, has_last, with_changes_append}
 use Rattle.salt_stands.proofs.Pairs.{pair_push, pair_same}
@@ -45,8 +46,8 @@ pub settled_kept : (d e : View) (dev : ℕ) → IsUnchanged d e dev → IsSettle
 settled_kept d e dev kept is = λ c left. is c (kept.images c left) ∙ sym kept.bytes
 
 -- where a disk tells its bytes, a log's entries stand on its device
-pub entries_stand : (d : View) (log : GateLog) (entries : List (List ℕ)) → IsLog d log entries → IsTrue d.told → entries_in (d.bytes log.dev) ≡ Some entries
-entries_stand d log entries is told = entries_in-closed entries (d.bytes log.dev) (omega (arith, is.end, is.room)) (is.file told)
+pub entries_stand : (d : View) (log : GateLog) (entries : List (List ℕ)) → IsLog d log entries → IsTrue d.told → entries_in (d.bytes (gates.device_of log)) ≡ Some entries
+entries_stand d log entries is told = entries_in-closed entries (d.bytes (gates.device_of log)) (omega (arith, is.end, is.room)) (is.file told)
 
 -- ROWS
 
@@ -76,7 +77,7 @@ decided_rows us v u last =
 
 module _ (d e : View) (x y : Partition) (p : ℕ) (v : PartView) (applied : List Id) (is : IsPartition d x p v applied) where
   -- AFTER CALLS THAT WRITE NOTHING
-  pub moved : SameShape d e → ((dev : ℕ) → IsUnchanged d e dev) → y.part ≡ x.part → y.nulls ≡ x.nulls → y.rows ≡ x.rows → y.last ≡ x.last → y.log.dev ≡ x.log.dev → IsLog e y.log is.entries → IsPartition e y p v applied
+  pub moved : SameShape d e → ((dev : ℕ) → IsUnchanged d e dev) → y.part ≡ x.part → y.nulls ≡ x.nulls → y.rows ≡ x.rows → y.last ≡ x.last → log_device y ≡ log_device x → IsLog e y.log is.entries → IsPartition e y p v applied
   moved shape kept part nulls rows last device is_log = record {
     part = part ∙ is.part;
     entries = is.entries;
@@ -90,7 +91,7 @@ module _ (d e : View) (x y : Partition) (p : ℕ) (v : PartView) (applied : List
     none = is.none;
     keyed = is.keyed;
     last = subst (IsLastKept applied v.log.prepared) (sym last) is.last;
-    rows = ap (λ r. r.entries) rows ∙ is.rows;
+    rows = rows ∙ is.rows;
     told = λ now.
         let t = is.told (sym shape.told ∙ now) in
         let a = part_device p in
@@ -103,7 +104,7 @@ module _ (d e : View) (x y : Partition) (p : ℕ) (v : PartView) (applied : List
   -- AFTER A UNIT IS PREPARED
   pub with_unit : (u : Id) (cs : List Change) → MayPrepare v applied u cs
       → ((nulls : Bool) → Every (CanBePut nulls) cs → are_in_order cs ≡ true → prepared_in nulls (spell_prepared (prepared u cs)) ≡ Some (prepared u cs))
-      → KeepsOthers x.log.dev d e None → y.part ≡ x.part → y.nulls ≡ x.nulls → y.rows ≡ x.rows → (kept : PreparedUnit) → y.last ≡ Some kept → prepared_of kept ≡ prepared u cs → y.log.dev ≡ x.log.dev
+      → KeepsOthers (log_device x) d e None → y.part ≡ x.part → y.nulls ≡ x.nulls → y.rows ≡ x.rows → (kept : PreparedUnit) → y.last ≡ Some kept → prepared_of kept ≡ prepared u cs → log_device y ≡ log_device x
       → IsLog e y.log (is.entries ++ spell_prepared (prepared u cs) ∷ []) → IsPartition e y p (with_prepared_unit v (prepared u cs)) applied
   with_unit u cs may read others part nulls rows kept_unit last same device is_log =
       let unit = prepared u cs in
@@ -124,7 +125,7 @@ module _ (d e : View) (x y : Partition) (p : ℕ) (v : PartView) (applied : List
         none = is.none;
         keyed = every_push AreKeyed v.log.prepared unit is.keyed (all_put_keyed (has_nulls v.log.header.format) cs may.each);
         last = subst (IsLastKept applied (with_prepared_unit v unit).log.prepared) (sym last) (last_put applied v.log.prepared unit kept_unit same);
-        rows = ap (λ r. r.entries) rows ∙ is.rows ∙ ap (λ (s : Tables). s.list) (sym (undecided_rows applied v unit may.new));
+        rows = rows ∙ is.rows ∙ ap (λ (s : Tables). s.list) (sym (undecided_rows applied v unit may.new));
         told = λ now.
             let before = sym others.shape.told ∙ now in
             let t = is.told before in
@@ -144,14 +145,14 @@ module _ (d e : View) (x y : Partition) (p : ℕ) (v : PartView) (applied : List
 -- AFTER A UNIT IS APPLIED
 pub with_applied : (d : View) (x y : Partition) (p : ℕ) (v : PartView) (applied : List Id) (u : Id) → IsPartition d x p v applied → (last : IsPreparedLast v applied u)
     → y.part ≡ x.part → y.nulls ≡ x.nulls → y.log ≡ x.log
-    → y.rows.entries ≡ (with_changes last.changes (part_tables applied v.log v.rows)).list
+    → y.rows ≡ (with_changes last.changes (part_tables applied v.log v.rows)).list
     → IsPartition d y p v (applied ++ u ∷ [])
 with_applied d x y p v applied u is last part nulls log rows = record {
   part = part ∙ is.part;
   entries = is.entries;
   is_log = subst (λ (l : GateLog). IsLog d l is.entries) (sym log) is.is_log;
   some = is.some;
-  device = ap (λ (l : GateLog). l.dev) log ∙ is.device;
+  device = ap gates.device_of log ∙ is.device;
   known = is.known;
   other = is.other;
   nulls = nulls ∙ is.nulls;

@@ -1,4 +1,5 @@
 pub mod Contents
+pub mod Shown
 pub mod Choices
 pub mod Partitions
 pub mod Openings

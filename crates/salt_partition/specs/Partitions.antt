@@ -40,7 +40,7 @@ spells_nulls x = x.nulls
 
 -- its rows, in order of their places
 abbrev pub rows_in : Partition → List Entry
-rows_in x = x.rows.entries
+rows_in x = x.rows
 
 -- how many entries it has behind its header
 abbrev pub unit_count : Partition → ℕ
@@ -70,7 +70,7 @@ pub record IsPartition (d : View) (x : Partition) (p : ℕ) (v : PartView) (appl
   pub none : v.rows ≡ []
   pub keyed : Every AreKeyed v.log.prepared
   pub last : IsLastKept applied v.log.prepared x.last
-  pub rows : x.rows.entries ≡ (part_tables applied v.log v.rows).list
+  pub rows : rows_in x ≡ (part_tables applied v.log v.rows).list
   pub told : IsTrue d.told → IsTold d p v entries
 
 abbrev pub prepared : Id → List Change → Prepared

@@ -29,6 +29,7 @@ use salt_ranges::KeyRange;
 use salt_values::{Changes, Id, Key, Row};
 use sqlite_items::Items;
 use std::alloc::{AllocError, Global};
+use std::marker::Model;
 
 /// One partition of the rows, as its log and the units that were applied make them.
 #[derive(Drop)]
@@ -41,6 +42,14 @@ pub struct Partition {
     // the unit that was prepared last, until it is applied
     pub(crate) last: Option<PreparedUnit>,
     pub(crate) rows: Tables,
+}
+
+impl Model for Partition {
+    ghost use Rattle.salt_partition.specs.Shown.{Shown};
+
+    ghost Value = { Shown };
+
+    ghost view = { λ x. record { part = x.part; nulls = x.nulls; log = x.log; last = x.last; rows = x.rows.entries } };
 }
 
 impl Partition {
@@ -152,10 +161,10 @@ impl Partition {
     {
         let _ = disks;
         // a map has no faults
-        match MapView::new(self.alloc, &self.rows).get(table, key) {
-            Ok(row) => Ok(row),
-            Err(_) => Err(DiskErr::Memory),
-        }
+        let Ok(row) = MapView::new(self.alloc, &self.rows).get(table, key) else {
+            return Err(DiskErr::Memory);
+        };
+        Ok(row)
     }
 
     /// The row of the least key in the range that is above `after`, where one is given; `None` exactly where there is none.
@@ -178,10 +187,10 @@ impl Partition {
     {
         let _ = disks;
         // a map has no faults
-        match MapView::new(self.alloc, &self.rows).next_in(table, range, after) {
-            Ok(row) => Ok(row),
-            Err(_) => Err(DiskErr::Memory),
-        }
+        let Ok(row) = MapView::new(self.alloc, &self.rows).next_in(table, range, after) else {
+            return Err(DiskErr::Memory);
+        };
+        Ok(row)
     }
 
     /// The changes of prepared entry `i` of the log, counted from 0, `None` exactly past the last one.

@@ -1,4 +1,5 @@
 use Rattle.salt_disk.specs.Disks.{KeepsOthers}
+use Rattle.salt_gatelog.specs.Log as gates
 use Rattle.salt_partition.proofs.Created.{full_appended, full_first, full_other, made, made_others}
 use Rattle.salt_partition.proofs.create.create_partition.Goals as goal
 use Rattle.salt_stands.specs.Partition.{part_device}
@@ -53,5 +54,5 @@ returns-in_err-append-clause-full g c told =
     let e = g.D.Disks.view c.append.new.disks in
     let at = c.in_ok-log.ensures.log.0 ∙ c.log_a-2.ensures in
     let p = err_from_is_err_and c.from_residual-in_err-append.result c.from_residual-in_err-append.ensures.1 in
-    rw (p.1, p.2) (full_appended d2 e (part_device c.args.part) _ c.in_err-append.ensures.others.shape c.in_ok-log.log.dev _ c.in_err-append.field-0.0 at
+    rw (p.1, p.2) (full_appended d2 e (part_device c.args.part) _ c.in_err-append.ensures.others.shape (gates.device_of c.in_ok-log.log) _ c.in_err-append.field-0.0 at
     (omega (arith, c.in_ok-log.ensures.log.1.end, ap length (c.deref.ensures.value ∙ c.in_ok-header.ensures))) c.in_err-append.ensures.full)

@@ -2,6 +2,7 @@ use Rattle.salt_commit.proofs.Placed.{in_place, one_more_fits, told_fits}
 use Rattle.salt_commit.proofs.store.Store.rows_fit.Goals as goal
 use Rattle.salt_commit.specs.Loads.{fits_place}
 use Rattle.salt_decisions.specs.Decisions.{shape_of}
+use Rattle.salt_partition.specs.Partitions.{rows_in}
 use Rattle.salt_partition.specs.declared.partition.Partition.{Partition}
 use Rattle.salt_stands.specs.Commits.{partition_count}
 use Rattle.salt_place.specs.declared.placement.Shape.{Shape}
@@ -19,7 +20,7 @@ loop-part-preserved g c =
     ap (λ (l : List Partition). slice_get l part) (sym c.deref.ensures.value) ∙ ap (slice_get c.deref.result.now) (sym c.from.ensures)
     ∙ slice_get_read c.deref.result.now (length c.deref.result.now) c.from.result q refl found.3.0 found.1 in
     one_more_fits c.args.schema.now (shape_of x.decisions) x.parts.items part q at c.loop-part.invariant
-    (ap (λ (s : Shape). list_all (fits_place c.args.schema.now s part) q.rows.entries) (sym c.shape-shape.ensures.value) ∙ ap (list_all (fits_place c.args.schema.now c.shape-shape.result part)) (sym c.rows.ensures)
+    (ap (λ (s : Shape). list_all (fits_place c.args.schema.now s part) (rows_in q)) (sym c.shape-shape.ensures.value) ∙ ap (list_all (fits_place c.args.schema.now c.shape-shape.result part)) (sym c.rows.ensures)
     ∙ sym c.in_ok-rows_fit.ensures ∙ c.if-not-branch.false)
 
 pub returns-then-not-branch-clause-told : goal.returns-then-not-branch-clause-told
@@ -35,7 +36,7 @@ returns-then-not-branch-clause-told g c which co v is told tables =
     let count : c.shape-shape.result.parts ≡ partition_count co = ap (λ (s : Shape). s.parts) shape in
     let low : part < partition_count co = omega (arith, c.loop-part-test.true, count) in
     let fits = told_fits c.args.schema.now (g.D.Disks.view c.args.disks.now) x which co v is told tables part low q at in
-    sym (ap (λ (s : Shape). list_all (fits_place c.args.schema.now s part) q.rows.entries) (sym shape) ∙ ap (list_all (fits_place c.args.schema.now c.shape-shape.result part)) (sym c.rows.ensures)
+    sym (ap (λ (s : Shape). list_all (fits_place c.args.schema.now s part) (rows_in q)) (sym shape) ∙ ap (list_all (fits_place c.args.schema.now c.shape-shape.result part)) (sym c.rows.ensures)
     ∙ sym c.in_ok-rows_fit.ensures ∙ c.if-not-branch.true) ∙ fits
 
 pub returns-clause-fit : goal.returns-clause-fit
