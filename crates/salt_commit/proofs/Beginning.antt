@@ -170,7 +170,7 @@ same_parts s t e = (Decides-eqb s.parts t.parts).0 (left (s.parts == t.parts) (i
 
 -- AFTER OK
 pub begins : (asked : Shape) (d b e : View) (x : Store) (kept : Kept) → KeepsBut (IsPartLog asked.parts) d b None → KeepsBut IsCoordinatorLog b e None → (IsTrue d.told → coordinator_pair (logs_of d.bytes) ≡ BothBlank)
-    → length x.parts.items ≡ asked.parts → ArePartitions b x.parts.items (first_view 2) (λ p. []) → IsOpened b e asked x.decisions kept → OpensStore d e asked x kept
+    → length x.parts ≡ asked.parts → ArePartitions b x.parts (first_view 2) (λ p. []) → IsOpened b e asked x.decisions kept → OpensStore d e asked x kept
 begins asked d b e x kept first second blank size are opened = record {
   which = opened.which;
   c = own;
@@ -178,7 +178,7 @@ begins asked d b e x kept first second blank size are opened = record {
   is = record {
     decisions = opened.is;
     size = size ∙ sym (same_parts opened.log.header.shape asked opened.has_shape);
-    parts = record { each = λ p. make_some (slice_get x.parts.items p) (λ q. IsPartition e q p (first_view 2 p) (decided_by own p)) (each p) };
+    parts = record { each = λ p. make_some (slice_get x.parts p) (λ q. IsPartition e q p (first_view 2 p) (decided_by own p)) (each p) };
     sound = λ told. subst (λ c. IsSound reading c (first_view 2)) (sym (is_first (before told))) (record {
       coordinator = record { defined = refl; moves = refl; rise = refl; named = refl; decided = refl };
       part = λ p low. sound_log reading (first_coordinator asked 3) p (first_view 2 p).log refl refl refl;
@@ -211,9 +211,9 @@ begins asked d b e x kept first second blank size are opened = record {
     is_first : IsTrue d.told → own ≡ first_coordinator asked 3
     is_first told = ap (λ log. record { log = log; definitions = []; conts = [] }) (begun_log told)
 
-    each : (p : ℕ) (q : Partition) → slice_get x.parts.items p ≡ Some q → IsPartition e q p (first_view 2 p) (decided_by own p)
+    each : (p : ℕ) (q : Partition) → slice_get x.parts p ≡ Some q → IsPartition e q p (first_view 2 p) (decided_by own p)
     each p q is =
-        let here = if_some (slice_get x.parts.items p) q (λ z. IsPartition b z p (first_view 2 p) []) is (are.each p) in
+        let here = if_some (slice_get x.parts p) q (λ z. IsPartition b z p (first_view 2 p) []) is (are.each p) in
         applied_any e q p p [] (decided_by own p)
         (partition_kept b e q p (first_view 2 p) [] second.shape (second.kept (part_device p) (no_coordinator (part_device p) (omega arith))) (second.kept (part_device p + 1) (no_coordinator (part_device p + 1) (omega arith))) here)
       where

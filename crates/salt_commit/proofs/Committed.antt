@@ -109,7 +109,7 @@ module _ {D : Type 0} (r : Reading D) (d : View) (x : Store) (which : WhichLog) 
   pub few_shares : length ss ≤ 8
   few_shares = omega (arith, ap (λ (l : List (List Change)). length l) same, length-listed (λ p. changes_at c.log.header.shape p cs) 0 c.log.header.shape.parts, parts.1)
 
-  pub share_each : length ss ≡ length x.parts.items
+  pub share_each : length ss ≡ length x.parts
   share_each = ap (λ (l : List (List Change)). length l) same ∙ length-listed (λ p. changes_at c.log.header.shape p cs) 0 c.log.header.shape.parts ∙ sym is.size
 
   pub mask_within : nat_lt (mask_of ss) (2 ^ (decisions.shape_of x.decisions).parts) ≡ true
@@ -118,14 +118,14 @@ module _ {D : Type 0} (r : Reading D) (d : View) (x : Store) (which : WhichLog) 
   each_may : MayPrepareEach v (decided_by c) u ss
   each_may = subst (MayPrepareEach v (decided_by c) u) (sym same) (may_prepare r d x which c v is u cs mv m conts may parts)
 
-  pub may_vote_as : MayVoteAs d x.parts.items u ss which c.log v
+  pub may_vote_as : MayVoteAs d x.parts u ss which c.log v
   may_vote_as = record { reads = reads_of d x.decisions which c.log is.decisions; are = is.parts; may = each_may }
 
   module _ (hand : IsInHand u cs mv) (below : last_decision x + 1 < 2 ^ 64) where
     room : c.log.told.decisions + 1 < 2 ^ 64
     room = omega (arith, below, is.decisions.holds.decisions)
 
-    pub may_vote : MayVote d x.parts.items u ss
+    pub may_vote : MayVote d x.parts u ss
     may_vote = record {
       which = which;
       log = c.log;
@@ -138,35 +138,35 @@ module _ {D : Type 0} (r : Reading D) (d : View) (x : Store) (which : WhichLog) 
     }
 
     -- each image while the shares are prepared
-    pub undecided_image : IsTrue d.told → (b : View) (answer : Option DiskErr) → KeepsBut (IsLogOfShares x.parts.items ss (length x.parts.items)) d b answer
-        → ((p : ℕ) → p < length x.parts.items → EachImage b (device_of (part_device p) (v p).which) (IsBeforeOrWith (d.bytes (device_of (part_device p) (v p).which)) (spell_prepared (prepared u (share_at ss p)))))
+    pub undecided_image : IsTrue d.told → (b : View) (answer : Option DiskErr) → KeepsBut (IsLogOfShares x.parts ss (length x.parts)) d b answer
+        → ((p : ℕ) → p < length x.parts → EachImage b (device_of (part_device p) (v p).which) (IsBeforeOrWith (d.bytes (device_of (part_device p) (v p).which)) (spell_prepared (prepared u (share_at ss p)))))
         → (asked : Shape) (image : ℕ → List ℕ) → IsImage b image → stands_on r image asked ≡ Ok (found_of c v)
     undecided_image told b answer others images asked image left =
         before_decision r d x which c v is u cs mv m conts may parts hand room told b answer
-        (subst (λ l. KeepsBut (IsLogOfShares x.parts.items l (length x.parts.items)) d b answer) same others)
-        (subst (λ l. (p : ℕ) → p < length x.parts.items → EachImage b (device_of (part_device p) (v p).which) (IsBeforeOrWith (d.bytes (device_of (part_device p) (v p).which)) (spell_prepared (prepared u (share_at l p))))) same
+        (subst (λ l. KeepsBut (IsLogOfShares x.parts l (length x.parts)) d b answer) same others)
+        (subst (λ l. (p : ℕ) → p < length x.parts → EachImage b (device_of (part_device p) (v p).which) (IsBeforeOrWith (d.bytes (device_of (part_device p) (v p).which)) (spell_prepared (prepared u (share_at l p))))) same
         images)
         image left asked
 
     -- no image names pages, while the shares are prepared or behind it
-    pub unnamed : IsTrue d.told → (b e : View) (answer : Option DiskErr) → KeepsBut (IsLogOfShares x.parts.items ss (length x.parts.items)) d b answer
-        → ((p : ℕ) → p < length x.parts.items → EachImage b (device_of (part_device p) (v p).which) (IsBeforeOrWith (d.bytes (device_of (part_device p) (v p).which)) (spell_prepared (prepared u (share_at ss p)))))
+    pub unnamed : IsTrue d.told → (b e : View) (answer : Option DiskErr) → KeepsBut (IsLogOfShares x.parts ss (length x.parts)) d b answer
+        → ((p : ℕ) → p < length x.parts → EachImage b (device_of (part_device p) (v p).which) (IsBeforeOrWith (d.bytes (device_of (part_device p) (v p).which)) (spell_prepared (prepared u (share_at ss p)))))
         → e.count ≡ d.count → ((dev : ℕ) → 1 < dev → Shrinks b e dev) → (image : ℕ → List ℕ) → IsImage e image → (p dev : ℕ) → p < partition_count c → NamesPages image p dev → ⊥
     unnamed told b e answer others images count there image left =
         prepared_unnamed r d x which c v is told u cs mv m conts may parts hand b e answer
-        (subst (λ l. KeepsBut (IsLogOfShares x.parts.items l (length x.parts.items)) d b answer) same others)
-        (subst (λ l. (p : ℕ) → p < length x.parts.items → EachImage b (device_of (part_device p) (v p).which) (IsBeforeOrWith (d.bytes (device_of (part_device p) (v p).which)) (spell_prepared (prepared u (share_at l p))))) same
+        (subst (λ l. KeepsBut (IsLogOfShares x.parts l (length x.parts)) d b answer) same others)
+        (subst (λ l. (p : ℕ) → p < length x.parts → EachImage b (device_of (part_device p) (v p).which) (IsBeforeOrWith (d.bytes (device_of (part_device p) (v p).which)) (spell_prepared (prepared u (share_at l p))))) same
         images)
         count there image left
 
     -- AFTER THE SHARES ARE PREPARED
-    module _ (b : View) (y : Store) (kept : y.decisions ≡ x.decisions) (size : length y.parts.items ≡ length x.parts.items)
-        (others : KeepsBut (IsLogOfShares x.parts.items ss (length x.parts.items)) d b None)
-        (ok : ArePartitions b y.parts.items (with_shares u ss v) (decided_by c)) where
+    module _ (b : View) (y : Store) (kept : y.decisions ≡ x.decisions) (size : length y.parts ≡ length x.parts)
+        (others : KeepsBut (IsLogOfShares x.parts ss (length x.parts)) d b None)
+        (ok : ArePartitions b y.parts (with_shares u ss v) (decided_by c)) where
       pub between : IsStore r b y which c (with_shares u (shares_of c.log.header.shape cs) v)
       between = store_prepared r d x which c v is u cs mv m conts may parts hand room b y kept size
-          (subst (λ l. KeepsBut (IsLogOfShares x.parts.items l (length x.parts.items)) d b None) same others)
-          (subst (λ l. ArePartitions b y.parts.items (with_shares u l v) (decided_by c)) same ok)
+          (subst (λ l. KeepsBut (IsLogOfShares x.parts l (length x.parts)) d b None) same others)
+          (subst (λ l. ArePartitions b y.parts (with_shares u l v) (decided_by c)) same ok)
 
       next_is : decisions.next_decision x.decisions u (mask_of ss) mv ≡ next_decision c u cs mv
       next_is = ap (λ n. record { number = n + 1; unit = u; mask = mask_of ss; move = mv }) is.decisions.holds.decisions ∙ ap (λ l. record { number = c.log.told.decisions + 1; unit = u; mask = mask_of l; move = mv }) same
@@ -190,7 +190,7 @@ module _ {D : Type 0} (r : Reading D) (d : View) (x : Store) (which : WhichLog) 
 
         -- the partitions behind the decision
         pub behind : (w : Decisions) → IsDecisions e w which (decided c.log (decisions.next_decision x.decisions u (mask_of ss) mv))
-            → IsBehind e y.parts.items u ss which (decided c.log (next_decision c u cs mv)) (with_shares u (shares_of c.log.header.shape cs) v) (decided_by c)
+            → IsBehind e y.parts u ss which (decided c.log (next_decision c u cs mv)) (with_shares u (shares_of c.log.header.shape cs) v) (decided_by c)
         behind w log = record {
           reads = reads_of e w which (decided c.log (next_decision c u cs mv)) (subst (λ k. IsDecisions e w which (decided c.log k)) next_is log);
           are = partitions_stay r b y which c (with_shares u (shares_of c.log.header.shape cs) v) between e keeps;
@@ -205,7 +205,7 @@ module _ {D : Type 0} (r : Reading D) (d : View) (x : Store) (which : WhichLog) 
           decided = now_decided;
         }
 
-        pub may_tell : (w : Decisions) → IsDecisions e w which (decided c.log (decisions.next_decision x.decisions u (mask_of ss) mv)) → MayTell e y.parts.items u ss
+        pub may_tell : (w : Decisions) → IsDecisions e w which (decided c.log (decisions.next_decision x.decisions u (mask_of ss) mv)) → MayTell e y.parts u ss
         may_tell w log = record {
           which = which;
           log = decided c.log (next_decision c u cs mv);
@@ -218,21 +218,21 @@ module _ {D : Type 0} (r : Reading D) (d : View) (x : Store) (which : WhichLog) 
         }
 
         pub committed : (f : View) (z : Store) (w : Store) → KeepsAll e f None → z.decisions ≡ w.decisions → IsDecisions e w.decisions which (decided c.log (decisions.next_decision x.decisions u (mask_of ss) mv))
-            → length z.parts.items ≡ length y.parts.items
-            → ArePartitions f z.parts.items (with_shares u (shares_of c.log.header.shape cs) v) (applied_with_shares u ss (decided_by c))
+            → length z.parts ≡ length y.parts
+            → ArePartitions f z.parts (with_shares u (shares_of c.log.header.shape cs) v) (applied_with_shares u ss (decided_by c))
             → IsStore r f z which (with_decision c (next_decision c u cs mv) conts) (view_after c v cs (next_decision c u cs mv))
         committed f z w all own log sized applied =
             store_after r d x which c v is u cs mv m conts may parts hand room b y between f z (λ told. sym keeps.shape.told ∙ (sym all.shape.told ∙ told))
             (decisions_kept e f z.decisions which (decided c.log (next_decision c u cs mv)) all.shape (all.kept 0 (λ none. none)) (all.kept 1 (λ none. none))
             (subst (λ k. IsDecisions e k which (decided c.log (next_decision c u cs mv))) (sym own) (subst (λ k. IsDecisions e w.decisions which (decided c.log k)) next_is log)))
             sized
-            (subst (λ l. ArePartitions f z.parts.items (with_shares u (shares_of c.log.header.shape cs) v) (applied_with_shares u l (decided_by c))) same applied)
+            (subst (λ l. ArePartitions f z.parts (with_shares u (shares_of c.log.header.shape cs) v) (applied_with_shares u l (decided_by c))) same applied)
 
 -- A FULL DEVICE is as it was before all calls
 
 -- the coordinator's log is none of those of the shares
 pub decision_untouched : {D : Type 0} (r : Reading D) (d b e : View) (x : Store) (which : WhichLog) (c : Coordinator D) (v : ℕ → PartView) → IsStore r d x which c v → (ss : List (List Change))
-    → KeepsBut (IsLogOfShares x.parts.items ss (length x.parts.items)) d b None → (k : ℕ) → k ≡ device_in x.decisions → IsUnchanged b e (device_in x.decisions) → IsUnchanged d e k
+    → KeepsBut (IsLogOfShares x.parts ss (length x.parts)) d b None → (k : ℕ) → k ≡ device_in x.decisions → IsUnchanged b e (device_in x.decisions) → IsUnchanged d e k
 decision_untouched r d b e x which c v is ss others k at same =
     subst (IsUnchanged d e) (sym at) (kept_on d b e (device_in x.decisions) (others.kept (device_in x.decisions) apart) same)
   where
@@ -240,22 +240,22 @@ decision_untouched r d b e x which c v is ss others k at same =
     not_of p LogA equal = apart_from_part which p 0 (let z : 2 + 3 * p + 0 ≡ part_device p = omega arith in z ∙ sym equal)
     not_of p LogB equal = apart_from_part which p 1 (sym equal)
 
-    apart : IsLogOfShares x.parts.items ss (length x.parts.items) (device_in x.decisions) → ⊥
+    apart : IsLogOfShares x.parts ss (length x.parts) (device_in x.decisions) → ⊥
     apart t =
-        let y = if_some (slice_get x.parts.items t.p) t.x (λ z. IsPartition d z t.p (v t.p) (decided_by c t.p)) t.at (is.parts.each t.p) in
+        let y = if_some (slice_get x.parts t.p) t.x (λ z. IsPartition d z t.p (v t.p) (decided_by c t.p)) t.at (is.parts.each t.p) in
         not_of t.p (v t.p).which (sym is.decisions.counting.device ∙ t.log.device ∙ y.device)
 
 -- WHAT A COMMIT TOUCHES
 module _ (x : Store) (cs : List Change) (ss : List (List Change)) (shared : ss ≡ shares_in x cs) (d b : View) where
-  pub wider_shares : (answer : Option DiskErr) → KeepsBut (IsLogOfShares x.parts.items ss (length x.parts.items)) d b answer → KeepsBut (IsCommitLog x cs) d b answer
-  wider_shares answer keeps = keeps_wider (IsLogOfShares x.parts.items ss (length x.parts.items)) (IsCommitLog x cs) d b answer
-      (λ dev t. inr (subst (λ l. IsLogOfShares x.parts.items l (length x.parts.items) dev) shared t)) keeps
+  pub wider_shares : (answer : Option DiskErr) → KeepsBut (IsLogOfShares x.parts ss (length x.parts)) d b answer → KeepsBut (IsCommitLog x cs) d b answer
+  wider_shares answer keeps = keeps_wider (IsLogOfShares x.parts ss (length x.parts)) (IsCommitLog x cs) d b answer
+      (λ dev t. inr (subst (λ l. IsLogOfShares x.parts l (length x.parts) dev) shared t)) keeps
 
-  pub wider_decision : (e : View) (answer : Option DiskErr) → KeepsBut (IsLogOfShares x.parts.items ss (length x.parts.items)) d b None → KeepsOthers (device_in x.decisions) b e answer → KeepsBut (IsCommitLog x cs) d e answer
+  pub wider_decision : (e : View) (answer : Option DiskErr) → KeepsBut (IsLogOfShares x.parts ss (length x.parts)) d b None → KeepsOthers (device_in x.decisions) b e answer → KeepsBut (IsCommitLog x cs) d e answer
   wider_decision e answer first keeps = keeps_on (IsCommitLog x cs) d b e answer (wider_shares None first)
       (keeps_wider (λ dev. dev ≡ device_in x.decisions) (IsCommitLog x cs) b e answer (λ dev is. inl is) keeps)
 
-  pub wider_apply : (e f : View) (answer : Option DiskErr) → KeepsBut (IsLogOfShares x.parts.items ss (length x.parts.items)) d b None → KeepsOthers (device_in x.decisions) b e None → KeepsAll e f answer → KeepsBut (IsCommitLog x cs) d f answer
+  pub wider_apply : (e f : View) (answer : Option DiskErr) → KeepsBut (IsLogOfShares x.parts ss (length x.parts)) d b None → KeepsOthers (device_in x.decisions) b e None → KeepsAll e f answer → KeepsBut (IsCommitLog x cs) d f answer
   wider_apply e f answer first second keeps = keeps_on (IsCommitLog x cs) d e f answer (wider_decision e None first second) (keeps_wider (λ _. ⊥) (IsCommitLog x cs) e f answer (λ dev none. absurd none) keeps)
 
 -- images that were there before a call that writes nothing

@@ -92,14 +92,10 @@ module _ (parts others : List Partition) (shares : List (List Change)) where
             let none : p ≡ 0 + p = omega arith in
             h.each p x there.0 (omega (arith, low, size)) at there.1 (tables p) (at_listed others (λ q. (tables q).list) 0 (length shares) p there.0 are there.1 ∙ ap (λ q. (tables q).list) (sym none)) ∙ ap (λ q. (made q).list) none
 
-    -- where one is missing, they are not those
-    pub as_many : map rows_in parts ≡ rows_of_all (λ p. with_changes (share_at shares p) (tables p)) (length shares) → length parts ≡ length shares
-    as_many e = map_listed_long parts (λ p. (made p).list) 0 (length shares) e
-
     pub others_long : length others ≡ length shares
     others_long = map_listed_long others (λ p. (tables p).list) 0 (length shares) are
 
-    -- nor where one is made otherwise
+    -- where one is made otherwise, they are not those
     pub one_is : (n : ℕ) (x y : Partition) → slice_get parts n ≡ Some x → slice_get others n ≡ Some y → map rows_in parts ≡ rows_of_all (λ p. with_changes (share_at shares p) (tables p)) (length shares)
         → (rows_in y ≡ (tables n).list) × (rows_in x ≡ (with_changes (share_at shares n) (tables n)).list)
     one_is n x y here there e =
@@ -110,6 +106,10 @@ module _ (parts others : List Partition) (shares : List (List Change)) where
 pub shares_made : (shape : Shape) (cs : List Change) (tables : ℕ → Tables) → rows_of_all (λ p. with_changes (share_at (shares_of shape cs) p) (tables p)) shape.parts ≡ rows_of_all (each_changed shape cs tables) shape.parts
 shares_made shape cs tables = listed_same (λ p. (with_changes (share_at (shares_of shape cs) p) (tables p)).list) (λ p. (each_changed shape cs tables p).list) 0 shape.parts
     (λ p low. ap (λ own. (with_changes own (tables p)).list) (share_is shape cs p (omega (arith, low))))
+
+-- there is a share for each partition
+pub share_count : (shape : Shape) (cs : List Change) (ss : List (List Change)) → ss ≡ shares_of shape cs → length ss ≡ shape.parts
+share_count shape cs ss same = ap (λ (l : List (List Change)). length l) same ∙ length-listed (λ p. changes_at shape p cs) 0 shape.parts
 
 -- what is said of two lists of partitions
 abbrev pub SaysMade : Shape → List Change → List Partition → List Partition → Bool → Type 0
@@ -124,7 +124,7 @@ all_say shape cs xs ys ss same (Ok has) h = λ tables are.
     (λ t. two.0 t ∙ made_so tables, λ e. two.1 (e ∙ sym (made_so tables)))
   where
     count : length ss ≡ shape.parts
-    count = ap (λ (l : List (List Change)). length l) same ∙ length-listed (λ p. changes_at shape p cs) 0 shape.parts
+    count = share_count shape cs ss same
 
     made_so : (tables : ℕ → Tables) → rows_of_all (λ p. with_changes (share_at ss p) (tables p)) (length ss) ≡ rows_of_all (each_changed shape cs tables) shape.parts
     made_so tables =

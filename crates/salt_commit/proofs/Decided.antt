@@ -97,7 +97,7 @@ module _ {D : Type 0} (r : Reading D) (d : View) (x : Store) (which : WhichLog) 
       by : (s : List Change) → share_at (shares_of c.log.header.shape cs) p ≡ s → is_sound_log r c p (with_share u s (v p)).log ≡ true
       by [] e = own.sound
       by (ch ∷ chs) e =
-          let q = part_at d x.parts.items v (decided_by c) is.parts p (omega (arith, low, is.size)) in
+          let q = part_at d x.parts v (decided_by c) is.parts p (omega (arith, low, is.size)) in
           let dev = device_of (part_device p) (v p).which in
           let payload = spell_prepared (prepared u (share_at (shares_of c.log.header.shape cs) p)) in
           let same : share c u cs p ≡ prepared u (ch ∷ chs) = ap (prepared u) (sym (share_is c.log.header.shape cs p low) ∙ e) in
@@ -116,9 +116,9 @@ module _ {D : Type 0} (r : Reading D) (d : View) (x : Store) (which : WhichLog) 
           apart LogB a e = omega (arith, e)
 
   -- THE STORE WITH THE SHARES PREPARED
-  pub store_prepared : (b : View) (y : Store) → y.decisions ≡ x.decisions → length y.parts.items ≡ length x.parts.items
-      → KeepsBut (IsLogOfShares x.parts.items (shares_of c.log.header.shape cs) (length x.parts.items)) d b None
-      → ArePartitions b y.parts.items (with_shares u (shares_of c.log.header.shape cs) v) (decided_by c) → IsStore r b y which c (with_shares u (shares_of c.log.header.shape cs) v)
+  pub store_prepared : (b : View) (y : Store) → y.decisions ≡ x.decisions → length y.parts ≡ length x.parts
+      → KeepsBut (IsLogOfShares x.parts (shares_of c.log.header.shape cs) (length x.parts)) d b None
+      → ArePartitions b y.parts (with_shares u (shares_of c.log.header.shape cs) v) (decided_by c) → IsStore r b y which c (with_shares u (shares_of c.log.header.shape cs) v)
   store_prepared b y same size others are = record {
     decisions = subst (λ z. IsDecisions b z which c.log) (sym same) (decisions_kept d b x.decisions which c.log others.shape (unchanged LogA) (unchanged LogB) is.decisions);
     size = size ∙ is.size;
@@ -132,7 +132,7 @@ module _ {D : Type 0} (r : Reading D) (d : View) (x : Store) (which : WhichLog) 
 
       unchanged : (w : WhichLog) → IsUnchanged d b (device_of 0 w)
       unchanged w = others.kept (device_of 0 w) (λ t.
-          apart w t.p (v t.p).which (t.log.device ∙ (if_some (slice_get x.parts.items t.p) t.x (λ z. IsPartition d z t.p (v t.p) (decided_by c t.p)) t.at (is.parts.each t.p)).device))
+          apart w t.p (v t.p).which (t.log.device ∙ (if_some (slice_get x.parts t.p) t.x (λ z. IsPartition d z t.p (v t.p) (decided_by c t.p)) t.at (is.parts.each t.p)).device))
 
   pub shares_last : MayPrepareEach v (decided_by c) u (shares_of c.log.header.shape cs) → AreSharesLast (with_shares u (shares_of c.log.header.shape cs) v) (decided_by c) u (shares_of c.log.header.shape cs)
   shares_last each = record { each = λ p. by p (share_at (shares_of c.log.header.shape cs) p) (each.each p) }
@@ -186,13 +186,13 @@ module _ {D : Type 0} (r : Reading D) (d : View) (x : Store) (which : WhichLog) 
         (pages_same r b y which c (with_shares u (shares_of c.log.header.shape cs) v) is' told') (makes_decision told') images))
 
     -- THE STORE WITH THE UNIT
-    pub store_after : (f : View) (z : Store) → (IsTrue f.told → IsTrue b.told) → IsDecisions f z.decisions which (with_decision c (next_decision c u cs mv) conts).log → length z.parts.items ≡ length y.parts.items
-        → ArePartitions f z.parts.items (with_shares u (shares_of c.log.header.shape cs) v) (applied_with_shares u (shares_of c.log.header.shape cs) (decided_by c))
+    pub store_after : (f : View) (z : Store) → (IsTrue f.told → IsTrue b.told) → IsDecisions f z.decisions which (with_decision c (next_decision c u cs mv) conts).log → length z.parts ≡ length y.parts
+        → ArePartitions f z.parts (with_shares u (shares_of c.log.header.shape cs) v) (applied_with_shares u (shares_of c.log.header.shape cs) (decided_by c))
         → IsStore r f z which (with_decision c (next_decision c u cs mv) conts) (view_after c v cs (next_decision c u cs mv))
     store_after f z was decisions size are = record {
       decisions = decisions;
       size = size ∙ is'.size;
-      parts = record { each = λ p. make_some (slice_get z.parts.items p) (λ q. IsPartition f q p (view_after c v cs (next_decision c u cs mv) p) (decided_by now p)) (each p) };
+      parts = record { each = λ p. make_some (slice_get z.parts p) (λ q. IsPartition f q p (view_after c v cs (next_decision c u cs mv) p) (decided_by now p)) (each p) };
       sound = λ told.
           let s = sound_decided (was told) in
           record { coordinator = s.coordinator; part = λ p low. subst (λ w. is_sound_log r now p w.log ≡ true) (views_after p low) (s.part p low) };
@@ -201,9 +201,9 @@ module _ {D : Type 0} (r : Reading D) (d : View) (x : Store) (which : WhichLog) 
         now : Coordinator D
         now = with_decision c (next_decision c u cs mv) conts
 
-        each : (p : ℕ) (q : Partition) → slice_get z.parts.items p ≡ Some q → IsPartition f q p (view_after c v cs (next_decision c u cs mv) p) (decided_for p (c.log.told.decided ++ next_decision c u cs mv ∷ []))
+        each : (p : ℕ) (q : Partition) → slice_get z.parts p ≡ Some q → IsPartition f q p (view_after c v cs (next_decision c u cs mv) p) (decided_for p (c.log.told.decided ++ next_decision c u cs mv ∷ []))
         each p q e =
-            let low : p < partition_count c = omega (arith, within_list z.parts.items p q e, size, is'.size) in
+            let low : p < partition_count c = omega (arith, within_list z.parts p q e, size, is'.size) in
             subst (λ us. IsPartition f q p (view_after c v cs (next_decision c u cs mv) p) us) (applied_now p)
             (subst (λ w. IsPartition f q p w (applied_with_shares u (shares_of c.log.header.shape cs) (decided_by c) p)) (views_after p low)
-            (if_some (slice_get z.parts.items p) q (λ k. IsPartition f k p (with_shares u (shares_of c.log.header.shape cs) v p) (applied_with_shares u (shares_of c.log.header.shape cs) (decided_by c) p)) e (are.each p)))
+            (if_some (slice_get z.parts p) q (λ k. IsPartition f k p (with_shares u (shares_of c.log.header.shape cs) v p) (applied_with_shares u (shares_of c.log.header.shape cs) (decided_by c) p)) e (are.each p)))

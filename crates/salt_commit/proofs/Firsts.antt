@@ -12,8 +12,8 @@ use Rattle.salt_place.specs.declared.placement.Shape.{Shape}
 use Rattle.std.proofs.Common.{[], length, refl, ◌≡◌}
 
 -- a new coordinator and new partitions are a store
-pub first_store : {D : Type 0} (r : Reading D) (d : View) (x : Store) (asked : Shape) → IsDecisions d x.decisions LogA (begun asked) → length x.parts.items ≡ asked.parts
-    → ArePartitions d x.parts.items (first_view 2) (λ p. []) → IsStore r d x LogA (first_coordinator asked 3) (first_view 2)
+pub first_store : {D : Type 0} (r : Reading D) (d : View) (x : Store) (asked : Shape) → IsDecisions d x.decisions LogA (begun asked) → length x.parts ≡ asked.parts
+    → ArePartitions d x.parts (first_view 2) (λ p. []) → IsStore r d x LogA (first_coordinator asked 3) (first_view 2)
 first_store r d x asked decisions size parts = record {
   decisions = decisions;
   size = size;

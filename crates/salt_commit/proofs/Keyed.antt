@@ -33,5 +33,5 @@ store_keyed r d x which c v is = joined_keyed (each_tables c v) 0 (partition_cou
   where
     each : (k : ℕ) → k < 0 + partition_count c → IsKeyed (each_tables c v k)
     each k low =
-        let one = part_at d x.parts.items v (decided_by c) is.parts k (omega (arith, low, is.size)) in
+        let one = part_at d x.parts v (decided_by c) is.parts k (omega (arith, low, is.size)) in
         part_keyed d one.0 k (v k) (decided_by c k) one.1

@@ -3,6 +3,7 @@ pub mod Beginning
 mod Committed
 mod Decided
 mod Ended
+mod Fields
 mod Entered
 mod Firsts
 mod Fit

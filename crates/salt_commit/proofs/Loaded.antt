@@ -83,7 +83,7 @@ store_same : (d e : View) (x : Store) (which : WhichLog) (c : Coordinator Defini
 store_same d e x which c v shape kept is = record {
   decisions = decisions_kept d e x.decisions which c.log shape (kept 0) (kept 1) is.decisions;
   size = is.size;
-  parts = partitions_kept d e x.parts.items v (decided_by c) shape (λ p. kept (part_device p)) (λ p. kept (part_device p + 1)) is.parts;
+  parts = partitions_kept d e x.parts v (decided_by c) shape (λ p. kept (part_device p)) (λ p. kept (part_device p + 1)) is.parts;
   sound = λ told. is.sound (sym shape.told ∙ told);
 }
 
@@ -174,10 +174,10 @@ typed_rows schema t range es rows is typed = typed_list schema rows (subst (λ (
 -- behind the row that was put fewer rows are left
 pub fewer_left : (d e : View) (x y : Store) (which : WhichLog) (c : Coordinator Definition) (v : ℕ → PartView) → IsStore reading d x which c v → IsStore reading e y which c v
     → (t : ℕ) (range : KeyRange) (after : Option Value) (row : List Value) (key : Value) → Some row ≡ next_row t range after (rows_of c v) → key ≡ key_of row
-    → length (rows_after t range (Some key) (shown_in_all y.parts.items)) < length (rows_after t range after (shown_in_all x.parts.items))
+    → length (rows_after t range (Some key) (shown_in_all y.parts)) < length (rows_after t range after (shown_in_all x.parts))
 fewer_left d e x y which c v is now t range after row key next is_key =
     let was = store_shown reading d x which c v is in
-    fewer t range after (shown_in_all x.parts.items) row key (shown_in_all y.parts.items) (next ∙ ap (next_row t range after) (sym was)) (subst IsKeyed (sym was) (store_keyed reading d x which c v is)) is_key (store_shown reading e y which c v now ∙ sym was)
+    fewer t range after (shown_in_all x.parts) row key (shown_in_all y.parts) (next ∙ ap (next_row t range after) (sym was)) (subst IsKeyed (sym was) (store_keyed reading d x which c v is)) is_key (store_shown reading e y which c v now ∙ sym was)
 
 pub none_left : {A : Type 0} (o : Option A) → ((x : A) → o ≡ Some x → ⊥) → None ≡ o
 none_left None not_some = refl

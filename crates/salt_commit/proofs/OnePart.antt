@@ -100,7 +100,7 @@ module _ (d : View) (x : Store) (s : StandsInPlace d x) (which : WhichLog) (c : 
 
   pub each_placed : ArePlaced c v
   each_placed p low q row found =
-      let one = some_at x.parts.items p (omega (arith, low, is.size)) in
+      let one = some_at x.parts p (omega (arith, low, is.size)) in
       let own : rows_in one.0 ≡ (each_tables c v p).list = rows_are [] d x which c v is p one.0 one.1 in
       let first : rows_in one.0 ≡ (each_tables s.c s.v p).list = rows_are [] d x s.which s.c s.v s.is p one.0 one.1 in
       ap (λ (k : Shape). part_of_key k q.key) (sym same_shape)

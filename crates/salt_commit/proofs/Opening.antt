@@ -209,7 +209,7 @@ module _ (schema : List TableDef) (asked : Shape) (d b : View) (some : IsTrue d.
     refused told Memory h = h
 
     -- all are opened
-    pub opens_store : (e : View) (s : Store) → s.decisions ≡ x → KeepsAll b e None → OpensAll schema asked asked.parts b e own.c s.parts.items → OpensStore d e asked s kept
+    pub opens_store : (e : View) (s : Store) → s.decisions ≡ x → KeepsAll b e None → OpensAll schema asked asked.parts b e own.c s.parts → OpensStore d e asked s kept
     opens_store e s is keeps all = record {
       which = opened.which;
       c = own.c;
@@ -235,7 +235,7 @@ module _ (schema : List TableDef) (asked : Shape) (d b : View) (some : IsTrue d.
           (each_listed (part_at reading own.c (logs_of d.bytes) d.bytes) (λ p. tables_at_part own.c p (all.view p)) 0 (partition_count own.c) (λ p low. part_is_at reading own.c (logs_of d.bytes) d.bytes (0 + p) (all.view (0 + p))
           (subst (λ (bytes : ℕ → List ℕ). PartStands reading own.c (logs_of bytes) bytes (0 + p) (all.view (0 + p))) (bytes_stay told) (all.stand (same_told ∙ told) (own_has told) (0 + p) (within (0 + p) (omega (arith, low)))))));
       no_pages = λ told dev leaves.
-          let x' = standing.part_at e s.parts.items all.view (decided_by own.c) all.are leaves.p (omega (arith, leaves.low, all.size)) in
+          let x' = standing.part_at e s.parts all.view (decided_by own.c) all.are leaves.p (omega (arith, leaves.low, all.size)) in
           no_names d.bytes leaves.p dev (all.view leaves.p).which (all.view leaves.p).log
           (subst (λ (bytes : ℕ → List ℕ). part_pair leaves.p (logs_of bytes) ≡ Counts (all.view leaves.p).which (all.view leaves.p).log) (bytes_stay told) (all.stand (same_told ∙ told) (own_has told) leaves.p leaves.low).counts)
           x'.1.pages leaves.names;

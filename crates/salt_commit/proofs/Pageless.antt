@@ -69,7 +69,7 @@ module _ {D : Type 0} (r : Reading D) (d : View) (x : Store) (which : WhichLog) 
   own p low = (stood r d x which c v is told).part p low
 
   partition : (p : ℕ) → p < partition_count c → (q : Partition) × IsPartition d q p (v p) (decided_by c p)
-  partition p low = part_at d x.parts.items v (decided_by c) is.parts p (omega (arith, low, is.size))
+  partition p low = part_at d x.parts v (decided_by c) is.parts p (omega (arith, low, is.size))
 
   settled : (p : ℕ) → p < partition_count c → (w : WhichLog) → IsSettled d (device_of (part_device p) w)
   settled p low w =
@@ -111,8 +111,8 @@ module _ {D : Type 0} (r : Reading D) (d : View) (x : Store) (which : WhichLog) 
         no_names image p dev (v p).which _ stands.counts (no_pages r d x which c v is p low) names
 
     -- and what comes behind it leaves the partitions' logs
-    module _ (b e : View) (answer : Option DiskErr) (others : KeepsBut (IsLogOfShares x.parts.items (shares_of c.log.header.shape cs) (length x.parts.items)) d b answer)
-        (images : (p : ℕ) → p < length x.parts.items → EachImage b (device_of (part_device p) (v p).which) (IsBeforeOrWith (d.bytes (device_of (part_device p) (v p).which)) (payload p)))
+    module _ (b e : View) (answer : Option DiskErr) (others : KeepsBut (IsLogOfShares x.parts (shares_of c.log.header.shape cs) (length x.parts)) d b answer)
+        (images : (p : ℕ) → p < length x.parts → EachImage b (device_of (part_device p) (v p).which) (IsBeforeOrWith (d.bytes (device_of (part_device p) (v p).which)) (payload p)))
         (count : e.count ≡ d.count) (left_there : (dev : ℕ) → 1 < dev → Shrinks b e dev) where
       pub prepared_unnamed : (image : ℕ → List ℕ) → IsImage e image → (p dev : ℕ) → p < partition_count c → NamesPages image p dev → ⊥
       prepared_unnamed image left p dev low names = unnamed_with image p low (ap entries_in other_bytes) (images p (omega (arith, low, is.size)) (others.shape.told ∙ told) (image (device_of (part_device p) (v p).which)) (in_b (v p).which)) dev names
@@ -135,4 +135,4 @@ module _ {D : Type 0} (r : Reading D) (d : View) (x : Store) (which : WhichLog) 
           other_bytes =
               let k = device_of (part_device p) (other_log (v p).which) in
               settled p low (other_log (v p).which) (image k) (others.images k (λ t.
-              apart t.p (t.log.device ∙ (if_some (slice_get x.parts.items t.p) t.x (λ y. IsPartition d y t.p (v t.p) (decided_by c t.p)) t.at (is.parts.each t.p)).device)) (image k) (in_b (other_log (v p).which)))
+              apart t.p (t.log.device ∙ (if_some (slice_get x.parts t.p) t.x (λ y. IsPartition d y t.p (v t.p) (decided_by c t.p)) t.at (is.parts.each t.p)).device)) (image k) (in_b (other_log (v p).which)))

@@ -118,15 +118,15 @@ one_more_fits schema shape parts n x at so_far one p low = by (less_or p n)
         (subst (λ (o : Option Partition). IfSome o (λ y. list_all (fits_place schema shape n) (rows_in y) ≡ true)) (sym at) one)
 
 module _ (schema : List TableDef) (d : View) (x : Store) (which : WhichLog) (c : Coordinator Definition) (v : ℕ → PartView) (is : IsStore reading d x which c v) where
-  pub rows_are : (p : ℕ) (q : Partition) → slice_get x.parts.items p ≡ Some q → rows_in q ≡ (each_tables c v p).list
-  rows_are p q at = (if_some (slice_get x.parts.items p) q (λ y. IsPartition d y p (v p) (decided_by c p)) at (is.parts.each p)).rows
+  pub rows_are : (p : ℕ) (q : Partition) → slice_get x.parts p ≡ Some q → rows_in q ≡ (each_tables c v p).list
+  rows_are p q at = (if_some (slice_get x.parts p) q (λ y. IsPartition d y p (v p) (decided_by c p)) at (is.parts.each p)).rows
 
   -- WHERE EACH FITS
-  module _ (shape : Shape) (same : shape ≡ c.log.header.shape) (all : FitBelow schema shape x.parts.items (partition_count c)) where
+  module _ (shape : Shape) (same : shape ≡ c.log.header.shape) (all : FitBelow schema shape x.parts (partition_count c)) where
     each_fits : (p : ℕ) → p < partition_count c → Have (λ q row. fits_place schema shape p (q, row) ≡ true) (each_tables c v p)
     each_fits p low =
-        let one = some_at x.parts.items p (omega (arith, low, is.size)) in
-        let fit : list_all (fits_place schema shape p) (rows_in one.0) ≡ true = if_some (slice_get x.parts.items p) one.0 (λ y. list_all (fits_place schema shape p) (rows_in y) ≡ true) one.1 (all p low) in
+        let one = some_at x.parts p (omega (arith, low, is.size)) in
+        let fit : list_all (fits_place schema shape p) (rows_in one.0) ≡ true = if_some (slice_get x.parts p) one.0 (λ y. list_all (fits_place schema shape p) (rows_in y) ≡ true) one.1 (all p low) in
         found_have (λ q row. fits_place schema shape p (q, row) ≡ true) (each_tables c v p).list
         (all_every (fits_place schema shape p) (each_tables c v p).list (subst (λ (es : List Entry). list_all (fits_place schema shape p) es ≡ true) (rows_are p one.0 one.1) fit))
 
@@ -148,7 +148,7 @@ module _ (schema : List TableDef) (d : View) (x : Store) (which : WhichLog) (c :
     }
 
   -- WHERE THE DISKS TELL each fits
-  pub told_fits : IsTrue d.told → tables_defined c.definitions ≡ schema → (p : ℕ) → p < partition_count c → (q : Partition) → slice_get x.parts.items p ≡ Some q → list_all (fits_place schema c.log.header.shape p) (rows_in q) ≡ true
+  pub told_fits : IsTrue d.told → tables_defined c.definitions ≡ schema → (p : ℕ) → p < partition_count c → (q : Partition) → slice_get x.parts p ≡ Some q → list_all (fits_place schema c.log.header.shape p) (rows_in q) ≡ true
   told_fits told tables p low q at =
       subst (λ (es : List Entry). list_all (fits_place schema c.log.header.shape p) es ≡ true) (sym (rows_are p q at))
       (every_all (fits_place schema c.log.header.shape p) (each_tables c v p).list

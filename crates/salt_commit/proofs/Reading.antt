@@ -28,33 +28,33 @@ use Rattle.std.proofs.lemmas.Option.{slice_get_read}
 use Rattle.std.specs.Prelude.{IfSome, map, slice_get}
 
 module _ {D : Type 0} (r : Reading D) (d : View) (x : Store) (which : WhichLog) (c : Coordinator D) (v : ℕ → PartView) (is : IsStore r d x which c v)
-    (p : ℕ) (q : Partition) (within : p < length x.parts.items) (read : q ≡ get_or x.parts.items p q) where
+    (p : ℕ) (q : Partition) (within : p < length x.parts) (read : q ≡ get_or x.parts p q) where
   -- the one that was taken at its place
   pub taken : IsPartition d q p (v p) (decided_by c p)
-  taken = if_some (slice_get x.parts.items p) q (λ z. IsPartition d z p (v p) (decided_by c p)) (slice_get_read x.parts.items (length x.parts.items) p q refl within read) (is.parts.each p)
+  taken = if_some (slice_get x.parts p) q (λ z. IsPartition d z p (v p) (decided_by c p)) (slice_get_read x.parts (length x.parts) p q refl within read) (is.parts.each p)
 
-  pub same_rows : (q' : Partition) → rows_in q' ≡ rows_in q → map rows_in (slice_set x.parts.items p q') ≡ map rows_in x.parts.items
-  same_rows q' same = map_set rows_in x.parts.items p q q' (slice_get_read x.parts.items (length x.parts.items) p q refl within read) same
+  pub same_rows : (q' : Partition) → rows_in q' ≡ rows_in q → map rows_in (slice_set x.parts p q') ≡ map rows_in x.parts
+  same_rows q' same = map_set rows_in x.parts p q q' (slice_get_read x.parts (length x.parts) p q refl within read) same
 
   put_back : (e : View) (y : Store) (q' : Partition) → Rattle.salt_disk.specs.Disks.SameShape d e → ((dev : ℕ) → IsUnchanged d e dev) → IsPartition e q' p (v p) (decided_by c p)
-      → y.decisions ≡ x.decisions → y.parts.items ≡ slice_set x.parts.items p q' → IsStore r e y which c v
+      → y.decisions ≡ x.decisions → y.parts ≡ slice_set x.parts p q' → IsStore r e y which c v
   put_back e y q' shape kept own same_log put = record {
     decisions = subst (λ z. Rattle.salt_decisions.specs.Decisions.IsDecisions e z which c.log) (sym same_log) (decisions_kept d e x.decisions which c.log shape (kept 0) (kept 1) is.decisions);
-    size = ap (λ (l : List Partition). length l) put ∙ length-set x.parts.items p q' ∙ is.size;
+    size = ap (λ (l : List Partition). length l) put ∙ length-set x.parts p q' ∙ is.size;
     parts = subst (λ (l : List Partition). ArePartitions e l v (decided_by c)) (sym put) (record { each = λ k. at k (cases_eq k p) });
     sound = λ told. is.sound (sym shape.told ∙ told);
   }
     where
-      at : (k : ℕ) → (k ≡ p) ⊎ (k ≢ p) → IfSome (slice_get (slice_set x.parts.items p q') k) (λ z. IsPartition e z k (v k) (decided_by c k))
-      at k (inl here) = subst (λ n. IfSome (slice_get (slice_set x.parts.items p q') n) (λ z. IsPartition e z n (v n) (decided_by c n))) (sym here)
-          (subst (λ o. IfSome o (λ z. IsPartition e z p (v p) (decided_by c p))) (sym (set_same x.parts.items p q' within)) own)
-      at k (inr other) = subst (λ o. IfSome o (λ z. IsPartition e z k (v k) (decided_by c k))) (sym (set_other x.parts.items p k q' other))
-          (make_some (slice_get x.parts.items k) (λ z. IsPartition e z k (v k) (decided_by c k))
-          (λ z e'. partition_kept d e z k (v k) (decided_by c k) shape (kept (part_device k)) (kept (part_device k + 1)) (if_some (slice_get x.parts.items k) z (λ w. IsPartition d w k (v k) (decided_by c k)) e' (is.parts.each k))))
+      at : (k : ℕ) → (k ≡ p) ⊎ (k ≢ p) → IfSome (slice_get (slice_set x.parts p q') k) (λ z. IsPartition e z k (v k) (decided_by c k))
+      at k (inl here) = subst (λ n. IfSome (slice_get (slice_set x.parts p q') n) (λ z. IsPartition e z n (v n) (decided_by c n))) (sym here)
+          (subst (λ o. IfSome o (λ z. IsPartition e z p (v p) (decided_by c p))) (sym (set_same x.parts p q' within)) own)
+      at k (inr other) = subst (λ o. IfSome o (λ z. IsPartition e z k (v k) (decided_by c k))) (sym (set_other x.parts p k q' other))
+          (make_some (slice_get x.parts k) (λ z. IsPartition e z k (v k) (decided_by c k))
+          (λ z e'. partition_kept d e z k (v k) (decided_by c k) shape (kept (part_device k)) (kept (part_device k + 1)) (if_some (slice_get x.parts k) z (λ w. IsPartition d w k (v k) (decided_by c k)) e' (is.parts.each k))))
 
   -- the store stands after it was read, unless the disks have failed
   pub stands_after : (e : View) (answer : Option DiskErr) (y : Store) (q' : Partition) → KeepsAll d e answer → UnlessDown answer (IsPartition e q' p (v p) (decided_by c p))
-      → y.decisions ≡ x.decisions → y.parts.items ≡ slice_set x.parts.items p q' → UnlessDown answer (IsStore r e y which c v)
+      → y.decisions ≡ x.decisions → y.parts ≡ slice_set x.parts p q' → UnlessDown answer (IsStore r e y which c v)
   stands_after e None y q' keeps own same_log put = put_back e y q' keeps.shape (λ dev. keeps.kept dev (λ none. none)) own same_log put
   stands_after e (Some Failed) y q' keeps own same_log put = tt
   stands_after e (Some Stopped) y q' keeps own same_log put = tt

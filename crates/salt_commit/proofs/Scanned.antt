@@ -124,10 +124,10 @@ module _ (d0 d : View) (parts0 parts : List Partition) (t : ℕ) (range : KeyRan
 
 -- A STORE whose partitions stand after they were read
 pub store_after_reads : {D : Type 0} (r : Reading D) (d e : View) (x y : Store) (which : WhichLog) (c : Coordinator D) (v : ℕ → PartView) (answer : Option DiskErr) → IsStore r d x which c v → KeepsAll d e answer
-    → y.decisions ≡ x.decisions → length y.parts.items ≡ length x.parts.items → UnlessDown answer (ArePartitions e y.parts.items v (decided_by c)) → UnlessDown answer (IsStore r e y which c v)
+    → y.decisions ≡ x.decisions → length y.parts ≡ length x.parts → UnlessDown answer (ArePartitions e y.parts v (decided_by c)) → UnlessDown answer (IsStore r e y which c v)
 store_after_reads r d e x y which c v answer is keeps same size are = by answer keeps are
   where
-    go : SameShape d e → ((dev : ℕ) → IsUnchanged d e dev) → ArePartitions e y.parts.items v (decided_by c) → IsStore r e y which c v
+    go : SameShape d e → ((dev : ℕ) → IsUnchanged d e dev) → ArePartitions e y.parts v (decided_by c) → IsStore r e y which c v
     go shape kept h = record {
       decisions = subst (λ z. IsDecisions e z which c.log) (sym same) (decisions_kept d e x.decisions which c.log shape (kept 0) (kept 1) is.decisions);
       size = size ∙ is.size;
@@ -135,7 +135,7 @@ store_after_reads r d e x y which c v answer is keeps same size are = by answer 
       sound = λ told. is.sound (sym shape.told ∙ told);
     }
 
-    by : (o : Option DiskErr) → KeepsAll d e o → UnlessDown o (ArePartitions e y.parts.items v (decided_by c)) → UnlessDown o (IsStore r e y which c v)
+    by : (o : Option DiskErr) → KeepsAll d e o → UnlessDown o (ArePartitions e y.parts v (decided_by c)) → UnlessDown o (IsStore r e y which c v)
     by None k h = go k.shape (λ dev. k.kept dev (λ none. none)) h
     by (Some Failed) k h = tt
     by (Some Stopped) k h = tt

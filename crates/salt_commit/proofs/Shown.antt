@@ -33,10 +33,10 @@ all_shown (x ∷ xs) T p h =
     let more : map shown_in xs ≡ listed T (suc p) (length xs) = all_shown xs T (suc p) (λ k. let moved : p + suc k ≡ suc p + k = omega arith in subst (λ n. IfSome (slice_get xs k) (λ y. shown_in y ≡ T n)) moved (h (suc k))) in
     ap (λ y. y ∷ map shown_in xs) (h 0 ∙ ap T zeroed) ∙ ap (λ ys. T p ∷ ys) more
 
-pub store_shown : {D : Type 0} (r : Reading D) (d : View) (x : Store) (which : WhichLog) (c : Coordinator D) (v : ℕ → PartView) → IsStore r d x which c v → shown_in_all x.parts.items ≡ (found_of c v).kept.tables
+pub store_shown : {D : Type 0} (r : Reading D) (d : View) (x : Store) (which : WhichLog) (c : Coordinator D) (v : ℕ → PartView) → IsStore r d x which c v → shown_in_all x.parts ≡ (found_of c v).kept.tables
 store_shown r d x which c v is =
-    ap joined (all_shown x.parts.items (each_tables c v) 0 each) ∙ ap (λ n. joined (listed (each_tables c v) 0 n)) is.size
+    ap joined (all_shown x.parts (each_tables c v) 0 each) ∙ ap (λ n. joined (listed (each_tables c v) 0 n)) is.size
   where
-    each : (k : ℕ) → IfSome (slice_get x.parts.items k) (λ y. shown_in y ≡ each_tables c v (0 + k))
-    each k = make_some (slice_get x.parts.items k) (λ y. shown_in y ≡ each_tables c v (0 + k))
-        (λ y at. let zeroed : k ≡ 0 + k = omega arith in one_shown d y k (v k) (decided_by c k) (if_some (slice_get x.parts.items k) y (λ z. IsPartition d z k (v k) (decided_by c k)) at (is.parts.each k)) ∙ ap (each_tables c v) zeroed)
+    each : (k : ℕ) → IfSome (slice_get x.parts k) (λ y. shown_in y ≡ each_tables c v (0 + k))
+    each k = make_some (slice_get x.parts k) (λ y. shown_in y ≡ each_tables c v (0 + k))
+        (λ y at. let zeroed : k ≡ 0 + k = omega arith in one_shown d y k (v k) (decided_by c k) (if_some (slice_get x.parts k) y (λ z. IsPartition d z k (v k) (decided_by c k)) at (is.parts.each k)) ∙ ap (each_tables c v) zeroed)

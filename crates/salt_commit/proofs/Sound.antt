@@ -86,7 +86,7 @@ joined_are_fit r c T p (suc n) h q row e = by (row_at q (T p)) refl (joined_are_
 -- the tables of a partition
 pub part_is_fit : {D : Type 0} (r : Reading D) (d : View) (x : Store) (which : WhichLog) (c : Coordinator D) (v : ℕ → PartView) → IsStore r d x which c v → IsTrue d.told → (k : ℕ) → k < partition_count c → AreFit r c (each_tables c v k)
 part_is_fit r d x which c v is told k low =
-    let one = part_at d x.parts.items v (decided_by c) is.parts k (omega (arith, low, is.size)) in
+    let one = part_at d x.parts v (decided_by c) is.parts k (omega (arith, low, is.size)) in
     let sound = sound_units r c k (v k).log ((is.sound told).part k low) in
     subst (λ rows. AreFit r c (with_changes (rows ++ decided_changes (decided_by c k) (v k).log.prepared) no_rows)) (sym one.1.none)
     (units_are_fit r c k (decided_by c k) (v k).log.prepared no_rows sound no_row)

@@ -84,11 +84,11 @@ pub record KeepsOtherLogs (which : WhichLog) (n : ℕ) (old new : ℕ → List �
   pub part_b : (p : ℕ) → p < n → new (part_device p + 1) ≡ old (part_device p + 1)
 
 module _ {D : Type 0} (r : Reading D) (d : View) (x : Store) (which : WhichLog) (c : Coordinator D) (v : ℕ → PartView) (is : IsStore r d x which c v) where
-  within : (p : ℕ) → p < partition_count c → p < length x.parts.items
+  within : (p : ℕ) → p < partition_count c → p < length x.parts
   within p low = omega (arith, low, is.size)
 
   partition : (p : ℕ) → p < partition_count c → (q : Partition) × IsPartition d q p (v p) (decided_by c p)
-  partition p low = part_at d x.parts.items v (decided_by c) is.parts p (within p low)
+  partition p low = part_at d x.parts v (decided_by c) is.parts p (within p low)
 
   -- IT STANDS ON THE DEVICES, where they tell their bytes
   pub stood : IsTrue d.told → Stood r (logs_of d.bytes) d.bytes which c v
@@ -192,8 +192,8 @@ module _ {D : Type 0} (r : Reading D) (d : View) (x : Store) (which : WhichLog) 
   sound_with payload c' same_parts told makes = let s = stood_with payload c' told makes in record { coordinator = s.coordinator.is; part = λ p low. (s.part p low).sound }
 
   -- partitions are as they were after a call that writes the coordinator's log alone
-  pub partitions_stay : (e : View) → KeepsOthers (device_in x.decisions) d e None → ArePartitions e x.parts.items v (decided_by c)
-  partitions_stay e keeps = partitions_kept d e x.parts.items v (decided_by c) keeps.shape (λ q. subst (IsUnchanged d e) (omega arith) (unchanged q 0)) (λ q. unchanged q 1) is.parts
+  pub partitions_stay : (e : View) → KeepsOthers (device_in x.decisions) d e None → ArePartitions e x.parts v (decided_by c)
+  partitions_stay e keeps = partitions_kept d e x.parts v (decided_by c) keeps.shape (λ q. subst (IsUnchanged d e) (omega arith) (unchanged q 0)) (λ q. unchanged q 1) is.parts
     where
       unchanged : (p k : ℕ) → IsUnchanged d e (2 + 3 * p + k)
       unchanged p k = keeps.kept (2 + 3 * p + k) (λ same. apart_from_part which p k (same ∙ is.decisions.counting.device))
@@ -209,8 +209,8 @@ module _ {D : Type 0} (r : Reading D) (d : View) (x : Store) (which : WhichLog) 
     sound = λ told. let before = sym keeps.shape.told ∙ told in sound_with payload c' same_parts before (makes before);
   }
     where
-      kept : ArePartitions e x.parts.items v (decided_by c')
-      kept = record { each = λ p. subst (λ us. IfSome (slice_get x.parts.items p) (λ q. IsPartition e q p (v p) us)) (sym (same_units p)) ((partitions_stay e keeps).each p) }
+      kept : ArePartitions e x.parts v (decided_by c')
+      kept = record { each = λ p. subst (λ us. IfSome (slice_get x.parts p) (λ q. IsPartition e q p (v p) us)) (sym (same_units p)) ((partitions_stay e keeps).each p) }
 
   -- NOTHING IS WRITTEN
   pub unchanged_images : IsTrue d.told → (asked : Shape) (image : ℕ → List ℕ) → IsImage d image → stands_on r image asked ≡ Ok (found_of c v)

@@ -154,16 +154,16 @@ module _ {D : Type 0} (r : Reading D) (d : View) (x : Store) (which : WhichLog) 
 
     -- EACH IMAGE while shares are prepared
     module _ (room : c.log.told.decisions + 1 < 2 ^ 64) (told : IsTrue d.told) (b : View) (answer : Option DiskErr)
-        (others : KeepsBut (IsLogOfShares x.parts.items (shares_of c.log.header.shape cs) (length x.parts.items)) d b answer)
-        (images : (p : ℕ) → p < length x.parts.items → EachImage b (device_of (part_device p) (v p).which) (IsBeforeOrWith (d.bytes (device_of (part_device p) (v p).which)) (spell_prepared (prepared u (share_at (shares_of c.log.header.shape cs) p)))))
+        (others : KeepsBut (IsLogOfShares x.parts (shares_of c.log.header.shape cs) (length x.parts)) d b answer)
+        (images : (p : ℕ) → p < length x.parts → EachImage b (device_of (part_device p) (v p).which) (IsBeforeOrWith (d.bytes (device_of (part_device p) (v p).which)) (spell_prepared (prepared u (share_at (shares_of c.log.header.shape cs) p)))))
         (image : ℕ → List ℕ) (left : IsImage b image) where
       partition : (p : ℕ) → p < partition_count c → (q : Partition) × IsPartition d q p (v p) (decided_by c p)
-      partition p low = part_at d x.parts.items v (decided_by c) is.parts p (omega (arith, low, is.size))
+      partition p low = part_at d x.parts v (decided_by c) is.parts p (omega (arith, low, is.size))
 
       -- a device that is no counting log of a partition
       there : (dev : ℕ) → dev < d.count → ((q : ℕ) → dev ≢ device_of (part_device q) (v q).which) → IsSettled d dev → image dev ≡ d.bytes dev
       there dev low apart settled = settled (image dev) (others.images dev (λ t.
-          apart t.p (t.log.device ∙ (if_some (slice_get x.parts.items t.p) t.x (λ y. IsPartition d y t.p (v t.p) (decided_by c t.p)) t.at (is.parts.each t.p)).device)) (image dev) (left dev (omega (arith, low, others.shape.count))))
+          apart t.p (t.log.device ∙ (if_some (slice_get x.parts t.p) t.x (λ y. IsPartition d y t.p (v t.p) (decided_by c t.p)) t.at (is.parts.each t.p)).device)) (image dev) (left dev (omega (arith, low, others.shape.count))))
 
       coordinator_apart : (w : WhichLog) (q : ℕ) (z : WhichLog) → device_of 0 w ≢ device_of (part_device q) z
       coordinator_apart w q LogA e = apart_from_part w q 0 (omega (arith, e))

@@ -16,6 +16,7 @@ use Rattle.salt_decisions.specs.Decisions.{IsDecisions}
 use Rattle.salt_decisions.specs.Opened.{begun, first_payload}
 use Rattle.salt_decisions.specs.declared.decisions.Decisions.{Decisions}
 use Rattle.salt_disk.specs.Disks.{View}
+use Rattle.salt_gatelog.specs.Log as gates
 use Rattle.salt_gatelog.specs.Log.{IsLog}
 use Rattle.salt_gatelog.specs.declared.log.GateLog.{GateLog}
 use Rattle.salt_partition.proofs.Lasts.{no_last}
@@ -132,7 +133,7 @@ part_stands x part nulls log rows = record {
   entries = header ∷ [];
   is_log = subst (λ l. IsLog view l (header ∷ [])) (sym log) part_log;
   some = omega arith;
-  device = ap (λ (l : GateLog). l.dev) log;
+  device = ap gates.device_of log;
   known = omega arith;
   other = λ c left. left;
   nulls = nulls;
@@ -149,7 +150,7 @@ part_stands x part nulls log rows = record {
   };
 }
 
-pub store_stands : (x : Store) (q : Partition) → x.decisions ≡ counting → x.parts.items ≡ q ∷ [] → q.part ≡ 0 → q.nulls ≡ true → q.log ≡ part_gate → rows_in q ≡ [] → StandsOnDevices view x
+pub store_stands : (x : Store) (q : Partition) → x.decisions ≡ counting → x.parts ≡ q ∷ [] → q.part ≡ 0 → q.nulls ≡ true → q.log ≡ part_gate → rows_in q ≡ [] → StandsOnDevices view x
 store_stands x q decisions parts part nulls log rows = record {
   which = LogA;
   c = first_coordinator shape 3;

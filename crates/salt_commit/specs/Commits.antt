@@ -63,7 +63,7 @@ shares_in x cs = shares_of (shape_of_store x) cs
 
 -- the device is the coordinator's log, or that of a partition which the unit changes
 abbrev pub IsCommitLog : Store → List Change → ℕ → Type 0
-IsCommitLog x cs dev = (dev ≡ coordinator_device x) ⊎ IsLogOfShares x.parts.items (shares_in x cs) (length x.parts.items) dev
+IsCommitLog x cs dev = (dev ≡ coordinator_device x) ⊎ IsLogOfShares x.parts (shares_in x cs) (length x.parts) dev
 
 -- the decision's entry would pass the limit of the coordinator's log
 pub record DecisionPassesLimit (limit : ℕ → ℕ) (x : Store) (u : Id) (cs : List Change) (mv : List ℕ) (dev : ℕ) : Type 0 where
@@ -71,4 +71,4 @@ pub record DecisionPassesLimit (limit : ℕ → ℕ) (x : Store) (u : Id) (cs : 
   pub over : limit dev < coordinator_gate x + 10 + length (spell_entry (Decides (decisions.next_decision x.decisions u (mask_of (shares_in x cs)) mv)))
 
 abbrev pub CommitPassesLimit : (limit : ℕ → ℕ) → Store → Id → List Change → List ℕ → ℕ → Type 0
-CommitPassesLimit limit x u cs mv dev = DecisionPassesLimit limit x u cs mv dev ⊎ OnePassesLimit limit x.parts.items u (shares_in x cs) dev
+CommitPassesLimit limit x u cs mv dev = DecisionPassesLimit limit x u cs mv dev ⊎ OnePassesLimit limit x.parts u (shares_in x cs) dev

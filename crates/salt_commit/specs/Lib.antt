@@ -1,3 +1,4 @@
+pub mod Shown
 pub mod Stores
 pub mod Shares
 pub mod Prepares

@@ -51,7 +51,7 @@ coordinator_gate x = decisions.gate_in x.decisions
 
 -- the rows in memory, partition by partition
 abbrev pub rows_of_store : Store → List (List Entry)
-rows_of_store x = map rows_in x.parts.items
+rows_of_store x = map rows_in x.parts
 
 -- the rows of n tables, one after another
 abbrev pub rows_of_all : (ℕ → Tables) → ℕ → List (List Entry)
@@ -78,8 +78,8 @@ pub record ArePartitions (d : View) (parts : List Partition) (v : ℕ → PartVi
 -- The value is a store that stands so on the devices: the coordinator's log, and in each partition the units that are decided.
 pub record IsStore {D : Type 0} (r : Reading D) (d : View) (x : Store) (which : WhichLog) (c : Coordinator D) (v : ℕ → PartView) : Type 0 where
   pub decisions : IsDecisions d x.decisions which c.log
-  pub size : length x.parts.items ≡ partition_count c
-  pub parts : ArePartitions d x.parts.items v (decided_by c)
+  pub size : length x.parts ≡ partition_count c
+  pub parts : ArePartitions d x.parts v (decided_by c)
   pub sound : IsTrue d.told → IsSound r c v
 
 -- a store stands

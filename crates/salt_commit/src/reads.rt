@@ -3,7 +3,7 @@
 ghost use Rattle.salt_bytes.specs.Generations.{WhichLog};
 ghost use Rattle.salt_commit.specs.Messages.{messages_of};
 ghost use Rattle.salt_commit.specs.Reads.{StandsInPlace, is_over, is_past};
-ghost use Rattle.salt_commit.specs.Stores.{IsStore, StandsOnDevices, numbers_in, reading, row_in, rows_of_store};
+ghost use Rattle.salt_commit.specs.Stores.{IsStore, StandsOnDevices, numbers_in, reading, row_in, rows_of_store, shape_of_store};
 ghost use Rattle.salt_disk.specs.Disks.{HasCause, KeepsAll, OnlyFails, UnlessDown};
 ghost use Rattle.salt_eval.specs.Views.{next_row};
 ghost use Rattle.salt_model.specs.Kept.{Definition};
@@ -12,7 +12,7 @@ ghost use Rattle.salt_stands.specs.Coordinator.{Coordinator};
 ghost use Rattle.salt_stands.specs.Pieces.{PartView};
 ghost use Rattle.salt_place.specs.Placement.{GivesPlaceOf, TakesEachKey};
 ghost use Rattle.std.specs.Option.{option_copied};
-ghost use Rattle.std.specs.Prelude.{IfOk, IsTrue, length, ℕ, ◌<◌, ◌≡◌};
+ghost use Rattle.std.specs.Prelude.{IfOk, IsTrue, ℕ, ◌<◌, ◌≡◌};
 ghost use Rattle.std.specs.Result.{result_err};
 
 use crate::error::StoreErr;
@@ -80,7 +80,7 @@ impl Store {
         after: Option<&Key>,
     ) -> Result<Option<Row>, StoreErr>
         requires stands { StandsOnDevices (D.view disks.old) self.old }
-        requires below { number < length self.old.parts.items }
+        requires below { number < (shape_of_store self.old).parts }
         ensures row { (which : WhichLog) (c : Coordinator Definition) (v : ℕ → PartView) → IsStore reading (D.view disks.old) self.old which c v
             → IfOk result (λ row. row ≡ next_row table range.now (option_copied after.entry) (each_tables c v number)) }
         ensures stands { (which : WhichLog) (c : Coordinator Definition) (v : ℕ → PartView) → IsStore reading (D.view disks.old) self.old which c v

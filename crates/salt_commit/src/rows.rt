@@ -2,7 +2,7 @@
 
 ghost use Rattle.salt_bytes.specs.Generations.{WhichLog};
 ghost use Rattle.salt_commit.specs.Loads.{AreInPlace, fits_place};
-ghost use Rattle.salt_commit.specs.Stores.{IsStore, reading, shape_of_store};
+ghost use Rattle.salt_commit.specs.Stores.{IsStore, reading};
 ghost use Rattle.salt_stands.specs.Fitting.{tables_defined};
 ghost use Rattle.salt_model.specs.Kept.{Definition};
 ghost use Rattle.salt_stands.specs.Coordinator.{Coordinator};
@@ -73,7 +73,6 @@ impl Store {
     ) -> Result<bool, AllocError>
         requires callable { TakesEachKey (F.pre place.now.place) }
         requires answers { GivesPlaceOf (F.post place.now.place) }
-        requires parts { IsParts (shape_of_store self.now).parts }
         ensures fit { IfOk result (λ fit. fit ≡ true → (which : WhichLog) (c : Coordinator Definition) (v : ℕ → PartView) → IsStore reading (D.view disks.now) self.now which c v
             → AreInPlace schema.now c v) }
         ensures told { IfOk result (λ fit. (which : WhichLog) (c : Coordinator Definition) (v : ℕ → PartView) → IsStore reading (D.view disks.now) self.now which c v → IsTrue (D.view disks.now).told
@@ -82,9 +81,7 @@ impl Store {
         let _ = disks;
         let shape = self.decisions.shape();
         for part in 0..shape.parts {
-            let Some(partition) = self.parts.get(usize::from(part)) else {
-                return Ok(false);
-            };
+            let partition = &self.parts[usize::from(part)];
             if !rows_fit(self.alloc, place, shape, schema, part, partition.rows())? {
                 return Ok(false);
             }

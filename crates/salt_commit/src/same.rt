@@ -14,16 +14,17 @@ use salt_place::{PlaceKind, Placement};
 use salt_values::{Changes, Key};
 use std::alloc::AllocError;
 
-/// Whether partitions have the rows that shares of changes make of others', each that of its place.
+/// Whether partitions have the rows that shares of changes make of others', each that of its place. There is a share for each.
 fn have_rows_with(
     parts: &[Partition],
     others: &[Partition],
     shares: &[Changes],
 ) -> Result<bool, AllocError>
+    requires { length parts.now ≡ length shares.now }
     ensures { IfOk result (λ have. (tables : ℕ → Tables) → map rows_in others.now ≡ rows_of_all tables (length shares.now)
         → IsTrue have ↔ (map rows_in parts.now ≡ rows_of_all (λ p. with_changes (share_at shares.now p) (tables p)) (length shares.now))) }
 {
-    if parts.len() != shares.len() || others.len() != shares.len() {
+    if others.len() != shares.len() {
         return Ok(false);
     }
     for number in 0..shares.len() {
@@ -48,8 +49,8 @@ impl Store {
     ) -> Result<bool, AllocError>
         requires callable { TakesEachKey (F.pre place.now.place) }
         requires answers { GivesPlaceOf (F.post place.now.place) }
-        requires parts { IsParts (shape_of_store self.now).parts }
-        ensures { IfOk result (λ has. (tables : ℕ → Tables) → rows_of_store other.now ≡ rows_of_all tables (shape_of_store self.now).parts
+        ensures parts { IsParts (shape_of_store self.now).parts }
+        ensures rows { IfOk result (λ has. (tables : ℕ → Tables) → rows_of_store other.now ≡ rows_of_all tables (shape_of_store self.now).parts
             → IsTrue has ↔ (rows_of_store self.now ≡ rows_of_all (each_changed (shape_of_store self.now) changes.now tables) (shape_of_store self.now).parts)) }
     {
         let shape = self.decisions.shape();

@@ -25,6 +25,7 @@ use salt_place::{PlaceKind, Placement};
 use salt_stands::what_fits_still_fits;
 use salt_values::Key;
 use std::alloc::{AllocError, Global};
+use std::marker::Model;
 
 /// A database on its devices: the coordinator's log, and the partitions in order of their numbers. After an error of a call on
 /// it that goes to the devices it is opened again before it is used.
@@ -35,6 +36,18 @@ pub struct Store {
     pub(crate) parts: Vec<Partition>,
     // the net that commits go over, and its turns, where they do
     pub(crate) messages: Option<Messages>,
+}
+
+impl Model for Store {
+    ghost use Rattle.salt_commit.specs.Shown.{Shown};
+    ghost use Rattle.salt_decisions.specs.Decisions.{shape_of};
+    ghost use Rattle.std.specs.Prelude.{length, ◌≡◌};
+
+    ghost Value = { Shown };
+
+    ghost view = { λ x. record { decisions = x.decisions; parts = x.parts.items; messages = x.messages } };
+
+    ghost invariant = { λ x. length x.parts.items ≡ (shape_of x.decisions).parts };
 }
 
 impl Store {
@@ -69,10 +82,10 @@ impl Store {
         ensures new { (u : Id) → IsNewIn self.old u → IsNewIn self.new u }
         ensures rest { self.new ≡ record self.old { messages = self.new.messages } }
     {
-        match &mut self.messages {
-            Some(messages) => messages.arm(pairs),
-            None => Ok(()),
-        }
+        let Some(messages) = &mut self.messages else {
+            return Ok(());
+        };
+        messages.arm(pairs)
     }
 
     /// Gives the net, where commits go over messages.
@@ -80,11 +93,10 @@ impl Store {
         requires { IsAtRest self }
         ensures { result ≡ option_map (λ turning. turning.events) (net_of self) }
     {
-        let messages = self.messages;
-        match messages {
-            Some(messages) => Some(messages.into_net()),
-            None => None,
-        }
+        let Some(messages) = self.messages else {
+            return None;
+        };
+        Some(messages.into_net())
     }
 
     /// Begins the next boot, and gives its number. After Ok it is kept. Whatever the call answers, each image of the devices

@@ -37,7 +37,7 @@ too_long : (d : View) (log : GateLog) (es : List (List ℕ)) → IsLog d log es 
     → d.limit dev < gate + 10 + length payload → IsTooLong d dev payload
 too_long d log es is told dev at gate same payload over = record {
   entries = es;
-  reads = ap (λ n. entries_in (d.bytes n)) at ∙ entries_in-closed es (d.bytes log.dev) (omega (arith, is.end, is.room)) (is.file told);
+  reads = ap (λ n. entries_in (d.bytes n)) at ∙ entries_in-closed es (d.bytes (gates.device_of log)) (omega (arith, is.end, is.room)) (is.file told);
   over = omega (arith, over, same, is.end);
 }
 
@@ -74,7 +74,7 @@ module _ (d : View) (shape : Shape) (x : Store) (k : Kept) (h : IsHeld d shape x
         (subst (λ n. d.limit dev < coordinator_gate x + 10 + length (spell_entry (Decides (record { number = n + 1; unit = u; mask = mask_of (shares_of shape cs); move = spell_move FORMAT m })))) h.is.decisions.holds.decisions
         (subst (λ (s : Shape). d.limit dev < coordinator_gate x + 10 + length (spell_entry (Decides (decisions.next_decision x.decisions u (mask_of (shares_of s cs)) (spell_move FORMAT m))))) has_shape p.over)) told
 
-    share_fills : OnePassesLimit d.limit x.parts.items u (shares_of shape cs) dev → ShareFills d shape u cs dev
+    share_fills : OnePassesLimit d.limit x.parts u (shares_of shape cs) dev → ShareFills d shape u cs dev
     share_fills q = record {
       p = q.p;
       low = low;
@@ -88,10 +88,10 @@ module _ (d : View) (shape : Shape) (x : Store) (k : Kept) (h : IsHeld d shape x
     }
       where
         is : IsPartition d q.x q.p (h.v q.p) (decided_by h.c q.p)
-        is = if_some (slice_get x.parts.items q.p) q.x (λ y. IsPartition d y q.p (h.v q.p) (decided_by h.c q.p)) q.at (h.is.parts.each q.p)
+        is = if_some (slice_get x.parts q.p) q.x (λ y. IsPartition d y q.p (h.v q.p) (decided_by h.c q.p)) q.at (h.is.parts.each q.p)
 
-        within : q.p < length x.parts.items
-        within = slice_get_within x.parts.items q.p q.x q.at
+        within : q.p < length x.parts
+        within = slice_get_within x.parts q.p q.x q.at
 
         low : q.p < shape.parts
         low = omega (arith, within, h.is.size, ap (λ (s : Shape). s.parts) h.keeps.has_shape)
@@ -101,4 +101,4 @@ module _ (d : View) (shape : Shape) (x : Store) (k : Kept) (h : IsHeld d shape x
 
   pub unit_fills : (u : Id) (cs : List Change) (m : Move) (dev : ℕ) → CommitPassesLimit d.limit x u cs (spell_move FORMAT m) dev → FillsIn d shape (OfUnit u cs m) dev
   unit_fills u cs m dev (inl p) told = inl (decision_fills u cs m dev told p)
-  unit_fills u cs m dev (inr q) told = inr (share_fills u cs m dev told (subst (λ (s : Shape). OnePassesLimit d.limit x.parts.items u (shares_of s cs) dev) has_shape q))
+  unit_fills u cs m dev (inr q) told = inr (share_fills u cs m dev told (subst (λ (s : Shape). OnePassesLimit d.limit x.parts u (shares_of s cs) dev) has_shape q))

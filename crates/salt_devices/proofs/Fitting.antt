@@ -70,7 +70,7 @@ module _ (texts : Texts) (keyed : Keyed) where
     stands = record {
       decisions = subst (λ (l : CoordinatorLog). IsDecisions e x.decisions o.which l) (sym own.log_is) o.is.decisions;
       size = o.is.size ∙ sym (ap (λ (l : CoordinatorLog). l.header.shape.parts) own.log_is);
-      parts = subst (λ (l : CoordinatorLog). ArePartitions e x.parts.items v (λ p. decided_for p l.told.decided)) (sym own.log_is) o.is.parts;
+      parts = subst (λ (l : CoordinatorLog). ArePartitions e x.parts v (λ p. decided_for p l.told.decided)) (sym own.log_is) o.is.parts;
       sound = λ told. subst (λ (k : Coordinator Definition). IsSound reading k v) (same told) (o.is.sound told);
     }
 

@@ -69,8 +69,8 @@ module _ (d e : View) (shape : Shape) (x : Store) (k : Kept) (h : IsHeld d shape
           let p = pair_stays 0 h.which (f.device ∙ ap (device_of 0) w) coordinator_apart in
           inl (entry_stays d e others.shape (decision_entry shape u cs m) n p.0 p.1 f)
       by (inr f) =
-          let low : f.p < length x.parts.items = omega (arith, f.low, h.is.size, ap (λ (s : Shape). s.parts) h.keeps.has_shape) in
-          let is = (part_at d x.parts.items h.v (decided_by h.c) h.is.parts f.p low).1 in
+          let low : f.p < length x.parts = omega (arith, f.low, h.is.size, ap (λ (s : Shape). s.parts) h.keeps.has_shape) in
+          let is = (part_at d x.parts h.v (decided_by h.c) h.is.parts f.p low).1 in
           let w : f.which ≡ (h.v f.p).which = same_which f.which (h.v f.p).which f.log (h.v f.p).log (sym f.counts ∙ (is.told was).counts) in
           let p = pair_stays (part_device f.p) (h.v f.p).which (f.device ∙ ap (device_of (part_device f.p)) w) (part_apart f.p) in
           inr (share_stays d e others.shape shape u cs n f p.0 p.1)

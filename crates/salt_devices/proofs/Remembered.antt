@@ -36,8 +36,8 @@ weaker (Some x) P Q f h = f x h
 
 pub store_rows : (d : View) (x : Store) (which : WhichLog) (c : Coordinator Definition) (v : ℕ → PartView) → IsStore reading d x which c v → rows_of_store x ≡ listed (λ p. entries_of (each_tables c v p)) 0 (partition_count c)
 store_rows d x which c v is =
-    all_listed x.parts.items (λ p. entries_of (each_tables c v p)) 0
-    (λ p. weaker (slice_get x.parts.items p) (λ y. IsPartition d y p (v p) (decided_by c p)) (λ y. rows_in y ≡ entries_of (each_tables c v (0 + p)))
+    all_listed x.parts (λ p. entries_of (each_tables c v p)) 0
+    (λ p. weaker (slice_get x.parts p) (λ y. IsPartition d y p (v p) (decided_by c p)) (λ y. rows_in y ≡ entries_of (each_tables c v (0 + p)))
     (λ y one. let e : p ≡ 0 + p = omega arith in one.rows ∙ ap (λ q. entries_of (each_tables c v q)) e) (is.parts.each p))
     ∙ ap (listed (λ p. entries_of (each_tables c v p)) 0) is.size
 

@@ -183,9 +183,9 @@ module _ (d : View) (mute : d.told ≡ false) (u : Id) where
       };
       size = is.size;
       parts = record {
-        each = λ p. make_some (slice_get x.parts.items p) (λ y. IsPartition d y p (view_renamed u c v p) (decided_by (coordinator_renamed u c) p))
+        each = λ p. make_some (slice_get x.parts p) (λ y. IsPartition d y p (view_renamed u c v p) (decided_by (coordinator_renamed u c) p))
             (λ y at. subst (IsPartition d y p (view_renamed u c v p)) (sym (decided_for_renamed u p c.log.told.decided))
-            (part_renamed y p (v p) (decided_by c p) (if_some (slice_get x.parts.items p) y (λ z. IsPartition d z p (v p) (decided_by c p)) at (is.parts.each p))));
+            (part_renamed y p (v p) (decided_by c p) (if_some (slice_get x.parts p) y (λ z. IsPartition d z p (v p) (decided_by c p)) at (is.parts.each p))));
       };
       sound = λ told. not_told _ told;
     }

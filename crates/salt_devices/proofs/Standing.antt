@@ -3,7 +3,7 @@ use Rattle.salt_bytes.specs.Generations.{WhichLog}
 use Rattle.salt_commit.proofs.Standing.{partitions_kept}
 use Rattle.salt_commit.specs.Stores.{IsStore, decided_by, last_boot, last_decision, numbers_in, reading, rows_of_store}
 use Rattle.salt_commit.specs.declared.store.Store.{Store}
-use Rattle.salt_decisions.specs.Decisions.{IsDecisions}
+use Rattle.salt_decisions.specs.Decisions.{IsDecisions, device_in}
 use Rattle.salt_decisions.specs.declared.decisions.Decisions.{Decisions}
 use Rattle.salt_commit.specs.Messages.{IsAtRest, IsNewIn, messages_of}
 use Rattle.salt_devices.proofs.Netted.{IsWithNet, held_as, held_with, net_with}
@@ -64,7 +64,7 @@ module _ (d e : View) (same : AreUnchanged d e) where
         holds = is.holds;
         counting = record {
           entries = c.entries;
-          is_log = log_kept d e x.gate c.entries same.shape (same.each x.gate.dev) c.is_log;
+          is_log = log_kept d e x.gate c.entries same.shape (same.each (device_in x)) c.is_log;
           device = c.device;
           known = omega (arith, c.known, same.shape.count);
           other = still_settled (device_of 0 (other_log which)) c.other;
@@ -76,7 +76,7 @@ module _ (d e : View) (same : AreUnchanged d e) where
   store_unchanged x which c v is = record {
     decisions = decisions_unchanged x.decisions which c.log is.decisions;
     size = is.size;
-    parts = partitions_kept d e x.parts.items v (decided_by c) same.shape (λ p. same.each (part_device p)) (λ p. same.each (part_device p + 1)) is.parts;
+    parts = partitions_kept d e x.parts v (decided_by c) same.shape (λ p. same.each (part_device p)) (λ p. same.each (part_device p + 1)) is.parts;
     sound = λ told. is.sound (sym same.shape.told ∙ told);
   }
 

@@ -39,7 +39,7 @@ pub logs_of_store : (d : View) (x : Store) (w : WhichLog) (c : Coordinator Defin
 logs_of_store d x w c v is told = record {
   which = w;
   counts = is.decisions.counting.counts told;
-  parts = λ p low. let one = part_at d x.parts.items v (decided_by c) is.parts p (omega (arith, low, is.size)) in (one.1.told told).counts;
+  parts = λ p low. let one = part_at d x.parts v (decided_by c) is.parts p (omega (arith, low, is.size)) in (one.1.told told).counts;
 }
 
 module _ (d : View) (c b : Coordinator Definition) (v u : ℕ → PartView) (these : AreLogsOf d c v) (those : AreLogsOf d b u) where
@@ -80,7 +80,7 @@ module _ (d : View) (x : Store) (w : WhichLog) (c : Coordinator Definition) (v :
   pub no_pages_left : ((p : ℕ) → Shrinks d e (part_device p)) → ((p : ℕ) → Shrinks d e (part_device p + 1))
       → (p : ℕ) → p < partition_count c → (dev : ℕ) → NamesPages image p dev → ⊥
   no_pages_left first second p low dev names =
-      let q = part_at d x.parts.items v (decided_by c) is.parts p (omega (arith, low, is.size)) in
+      let q = part_at d x.parts v (decided_by c) is.parts p (omega (arith, low, is.size)) in
       let s = logs_settled d q.0 p (v p) (decided_by c p) q.1 in
       let a : image (part_device p) ≡ d.bytes (part_device p) = s.0 (image (part_device p)) (first p (image (part_device p)) (left (part_device p) (omega (arith, q.1.known, shape.count)))) in
       let b : image (part_device p + 1) ≡ d.bytes (part_device p + 1) = s.1 (image (part_device p + 1)) (second p (image (part_device p + 1)) (left (part_device p + 1) (omega (arith, q.1.known, shape.count)))) in

@@ -51,8 +51,8 @@ module _ (d e : View) (setup : Setup) where
 -- A STORE that is held
 
 -- the log of a partition that has a share
-pub share_device : (d : View) (shape : Shape) (x : Store) (k : Kept) (h : IsHeld d shape x k) (cs : List Change) (dev : ℕ) (t : IsLogOfShares x.parts.items (shares_in x cs) (length x.parts.items) dev) → dev ≡ device_of (part_device t.p) (h.v t.p).which
-share_device d shape x k h cs dev t = t.log.device ∙ (if_some (slice_get x.parts.items t.p) t.x (λ y. IsPartition d y t.p (h.v t.p) (decided_by h.c t.p)) t.at (h.is.parts.each t.p)).device
+pub share_device : (d : View) (shape : Shape) (x : Store) (k : Kept) (h : IsHeld d shape x k) (cs : List Change) (dev : ℕ) (t : IsLogOfShares x.parts (shares_in x cs) (length x.parts) dev) → dev ≡ device_of (part_device t.p) (h.v t.p).which
+share_device d shape x k h cs dev t = t.log.device ∙ (if_some (slice_get x.parts t.p) t.x (λ y. IsPartition d y t.p (h.v t.p) (decided_by h.c t.p)) t.at (h.is.parts.each t.p)).device
 
 of_coordinator : (w : WhichLog) → IsCoordinatorLog (device_of 0 w)
 of_coordinator LogA = inl refl

@@ -84,7 +84,6 @@ fn is_remembered<F: Fn(PlaceKind, &Key, u32) -> u32>(
 ) -> Result<bool, AllocError>
     requires callable { TakesEachKey (F.pre place.now.place) }
     requires answers { GivesPlaceOf (F.post place.now.place) }
-    requires parts { IsParts (shape_of_store store.now).parts }
     ensures { IfOk result (λ is. (shape : Shape) (a b : Kept) → shape_of_store store.now ≡ shape → Recalls shape before.now pending.now a b
         → IsTrue is ↔ (IsFoundAgain shape store.now a ⊎ IsFoundAgain shape store.now b)) }
 {

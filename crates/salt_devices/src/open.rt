@@ -3,7 +3,6 @@
 ghost use Rattle.salt_bytes.specs.Generations.{BothBlank};
 ghost use Rattle.salt_commit.specs.Messages.{messages_of};
 ghost use Rattle.salt_commit.specs.Openings.{HasRoom, StorePassesLimit};
-ghost use Rattle.salt_commit.specs.Stores.{shape_of_store};
 ghost use Rattle.salt_stands.specs.LogDevices.{IsStoreLog};
 ghost use Rattle.salt_decisions.specs.Kept.{IsKept};
 ghost use Rattle.salt_devices.specs.Holding.{setup_in};
@@ -110,7 +109,6 @@ fn fitting<D: Disks, F: Fn(PlaceKind, &Key, u32) -> u32>(
 ) -> Result<Option<Found>, AllocError>
     requires callable { TakesEachKey (F.pre place.now.place) }
     requires answers { GivesPlaceOf (F.post place.now.place) }
-    requires parts { IsParts (shape_of_store store.now).parts }
     ensures some { IfOk result (λ o. IfSome o (λ found. (shape : Shape) (c : Coordinator Definition) (v : ℕ → PartView) → IsOpen (D.view disks.now) shape store.now kept.now c v
         → HoldsFound (D.view disks.now) shape store.now found c v)) }
     ensures numbers { IfOk result (λ o. IfSome o (λ found. (found.boot ≡ kept.now.boot) × (found.decisions ≡ kept.now.decisions))) }

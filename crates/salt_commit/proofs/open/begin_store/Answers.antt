@@ -1,7 +1,9 @@
 use Rattle.salt_commit.proofs.Beginning.{begins, begun_image, begun_unnamed, blank_image, blank_unnamed, open_answer, still_blank, still_blank_image, wider_opened, wider_parts}
+use Rattle.salt_commit.proofs.Fields.{as_many}
 use Rattle.salt_commit.proofs.Limits.{decisions_full, parts_full}
 use Rattle.salt_commit.proofs.open.begin_store.Goals as goal
 use Rattle.salt_commit.specs.Stores.{reading}
+use Rattle.salt_commit.specs.declared.store.Store.{Store}
 use Rattle.salt_gatelog.specs.Answers.{open_disk_err}
 use Rattle.std.proofs.Common.{Err, None, Some, ap, arith, ◌<◌, ◌∙◌}
 use Rattle.std.proofs.lemmas.Result.{err_from_is_err_and}
@@ -90,3 +92,11 @@ returns-in_err-decisions-clause-full g c told =
     let told_b = c.in_ok-parts.ensures.others.shape.told ∙ told in
     let p = err_from_is_err_and c.from_residual-in_err-decisions.result c.from_residual-in_err-decisions.ensures.1 in
     rw (p.1, p.2) (decisions_full (g.D.Disks.view c.open_decisions.new.disks) c.args.shape c.in_err-decisions.field-0.0 (c.in_err-decisions.ensures.full told_b) (λ dev is. c.in_err-decisions.ensures.blank dev (ap Err is) told_b))
+
+pub invariant_of-result : goal.invariant_of-result
+invariant_of-result g c =
+    let x : Store = record { decisions = c.in_ok-decisions.decisions; parts = c.in_ok-parts.parts.items; messages = None } in
+    let opens =
+    begins c.args.shape (g.D.Disks.view c.args.disks.now) (g.D.Disks.view c.create_all.new.disks) (g.D.Disks.view c.open_decisions.new.disks) x c.in_ok-decisions.kept c.in_ok-parts.ensures.others c.in_ok-decisions.ensures.others c.requires.blank
+    c.in_ok-parts.ensures.made.0 c.in_ok-parts.ensures.made.1 c.in_ok-decisions.ensures.ok in
+    as_many (g.D.Disks.view c.open_decisions.new.disks) x opens.which opens.c opens.v opens.is

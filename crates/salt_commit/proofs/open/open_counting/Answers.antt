@@ -1,6 +1,8 @@
+use Rattle.salt_commit.proofs.Fields.{as_many}
 use Rattle.salt_commit.proofs.Opened.{same_bytes}
 use Rattle.salt_commit.proofs.Opening.{opens_store, own, own_has, own_kept, refused, room_on}
 use Rattle.salt_commit.proofs.open.open_counting.Goals as goal
+use Rattle.salt_commit.specs.declared.store.Store.{Store}
 use Rattle.salt_disk.proofs.CallAfterCall.{keeps_on}
 use Rattle.std.proofs.Common.{None, refl, ◌∙◌}
 use Rattle.std.proofs.lemmas.Result.{err_from_is_err_and}
@@ -46,3 +48,16 @@ returns-clause-ok g c =
 pub returns-clause-kept : goal.returns-clause-kept
 returns-clause-kept g c told =
     keeps_on (λ _. ⊥) (g.D.Disks.view c.args.disks.now) (g.D.Disks.view c.open_decisions.new.disks) (g.D.Disks.view c.open_all.new.disks) None (c.in_ok-decisions.ensures.kept told (c.requires.counts told)) c.in_ok-parts.ensures.kept
+
+pub invariant_of-result : goal.invariant_of-result
+invariant_of-result g c =
+    let d = g.D.Disks.view c.args.disks.now in
+    let b = g.D.Disks.view c.open_decisions.new.disks in
+    let o = c.in_ok-decisions.ensures in
+    let some = c.requires.counts in
+    let w = own c.args.schema.now c.args.shape d b some c.requires.schema c.in_ok-decisions.kept c.in_ok-decisions.decisions o.ok in
+    let x : Store = record { decisions = c.in_ok-decisions.decisions; parts = c.in_ok-parts.parts.items; messages = None } in
+    let opens =
+    opens_store c.args.schema.now c.args.shape d b some c.requires.schema c.in_ok-decisions.kept c.in_ok-decisions.decisions o.ok (λ t. same_bytes d b (o.kept t (some t))) o.others.shape.told (g.D.Disks.view c.open_all.new.disks) x refl c.in_ok-parts.ensures.kept
+    (c.in_ok-parts.ensures.opens w.c (own_kept c.args.schema.now c.args.shape d b some c.requires.schema c.in_ok-decisions.kept c.in_ok-decisions.decisions o.ok)) in
+    as_many (g.D.Disks.view c.open_all.new.disks) x opens.which opens.c opens.v opens.is

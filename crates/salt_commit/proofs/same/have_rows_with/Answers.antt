@@ -1,4 +1,4 @@
-use Rattle.salt_commit.proofs.Compared.{IsMadeOf, MadeBelow, all_made, as_many, none_made, one_is, one_more_made, others_long}
+use Rattle.salt_commit.proofs.Compared.{IsMadeOf, MadeBelow, all_made, none_made, one_is, one_more_made, others_long}
 use Rattle.salt_commit.proofs.Sharing.{share_read}
 use Rattle.salt_commit.proofs.same.have_rows_with.Goals as goal
 use Rattle.salt_model.specs.Tables.{with_changes}
@@ -47,11 +47,7 @@ returns c tables are =
     let size : length c.args.parts.now ≡ length c.args.shares.now = omega arith in
     (λ e. all_made c.args.parts.now c.args.others.now c.args.shares.now tables are below size, λ e. refl)
 
-pub returns-then-parts-shares : goal.returns-then-parts-shares
-returns-then-parts-shares c tables are =
-    let others : length c.args.others.now ≡ length c.args.shares.now = others_long c.args.parts.now c.args.others.now c.args.shares.now tables are in (
-      λ e. cc,
-      λ e.
-          let many : length c.args.parts.now ≡ length c.args.shares.now = as_many c.args.parts.now c.args.others.now c.args.shares.now tables are e in
-          absurd (omega arith),
-    )
+pub returns-then-others-shares : goal.returns-then-others-shares
+returns-then-others-shares c tables are =
+    let many : length c.args.others.now ≡ length c.args.shares.now = others_long c.args.parts.now c.args.others.now c.args.shares.now tables are in
+    absurd (omega arith)

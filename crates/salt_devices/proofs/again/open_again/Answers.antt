@@ -1,4 +1,4 @@
-use Rattle.salt_devices.proofs.Anew.{fails_known, has_shape, holds_there, mute_left, mute_there, never, not_left, numbers_there, recalled, unwritten_left}
+use Rattle.salt_devices.proofs.Anew.{fails_known, holds_there, mute_left, mute_there, never, not_left, numbers_there, recalled, unwritten_left}
 use Rattle.salt_devices.proofs.Within.{nothing_within, store_within, within_on}
 use Rattle.salt_devices.proofs.again.open_again.Goals as goal
 use Rattle.salt_devices.specs.Holding.{setup_in}
@@ -7,13 +7,7 @@ use Rattle.salt_devices.specs.declared.pending.Pending.TheVariants.{Lost}
 use Rattle.salt_disk.proofs.CallAfterCall.{cause_on}
 use Rattle.salt_gatelog.proofs.Entries.{not_told}
 use Rattle.salt_storage.specs.Answers.{open_disk_err_of}
-use Rattle.salt_place.specs.Placement.{IsParts}
-use Rattle.salt_place.specs.declared.placement.Shape.{Shape}
-use Rattle.std.proofs.Common.{Err, IsTrue, None, ap, subst, sym, ◌≡◌, ◌∙◌}
-
-pub is_remembered-requires-clause-parts : goal.is_remembered-requires-clause-parts
-is_remembered-requires-clause-parts g c =
-    subst (λ (s : Shape). IsParts s.parts) (sym (has_shape (g.D.Disks.view c.args.disks.now) (g.D.Disks.view c.open_devices.new.disks) c.args.shape c.in-Ok.store _ c.in-Ok.ensures.ok c.in-Ok.ensures.others.shape)) c.requires.parts
+use Rattle.std.proofs.Common.{Err, IsTrue, None, ap, sym, ◌≡◌, ◌∙◌}
 
 pub returns-in-Ok-true-clause-ok : goal.returns-in-Ok-true-clause-ok
 returns-in-Ok-true-clause-ok g c a b h r =

@@ -8,4 +8,4 @@ abbrev pub invariant-loop-after : goal.invariant-loop-after
 invariant-loop-after g l = LoadedSoFar (g.D.Disks.view l.fn.disks) (g.D.Disks.view l.disks) l.fn.self l.self l.reach.table l.reach.range l.schema l.rows.entries l.after
 
 abbrev pub decreases-loop-after : goal.decreases-loop-after
-decreases-loop-after g l = length (rows_after l.reach.table l.reach.range l.after (shown_in_all l.self.parts.items))
+decreases-loop-after g l = length (rows_after l.reach.table l.reach.range l.after (shown_in_all l.self.parts))

@@ -1,6 +1,8 @@
 use Rattle.salt_commit.proofs.Ended.{none_behind}
 use Rattle.salt_commit.proofs.OnePart.{next_of_store}
 use Rattle.salt_commit.proofs.store.Store.next_in.Goals as goal
+use Rattle.salt_commit.specs.Stores.{shape_of_store}
+use Rattle.salt_commit.specs.declared.store.Store.{Store}
 use Rattle.salt_stands.specs.Commits.{found_of, partition_count}
 use Rattle.salt_stands.specs.Partition.{part_of_key}
 use Rattle.std.proofs.Common.{ap, arith, subst, sym, ◌<◌, ◌≡◌, ◌∙◌}
@@ -14,10 +16,9 @@ returns-then-is_over-clause-row g c which co v is =
 pub next_in_part-requires : goal.next_in_part-requires
 next_in_part-requires g c =
     let s = c.requires.stands in
-    let shape = c.shape.ensures.value ∙ s.is.decisions.holds.shape in
     record {
       stands = record { which = s.which; c = s.c; v = s.v; is = s.is };
-      below = omega (arith, c.in-Some.ensures.below, ap (λ k. k.parts) shape, s.is.size);
+      below = omega (arith, c.in-Some.ensures.below, ap (λ k. k.parts) (c.shape.ensures.value ∙ ap (λ (y : Store). shape_of_store y) c.self.view_is));
     }
 
 pub next_in_all-requires : goal.next_in_all-requires
@@ -28,7 +29,7 @@ returns-in-Some-clause-row g c which co v is =
     let x = c.args.self.now in
     let d = g.D.Disks.view c.args.disks.now in
     let p = c.in-Some.number in
-    let shape = c.shape.ensures.value ∙ is.decisions.holds.shape in
+    let shape = c.shape.ensures.value ∙ ap (λ (y : Store). shape_of_store y) c.self.view_is ∙ is.decisions.holds.shape in
     let low : p < partition_count co = omega (arith, c.in-Some.ensures.below, ap (λ k. k.parts) shape) in
     subst (λ o. IfOk c.next_in_part.result (λ row. row ≡ o))
     (next_of_store d x c.requires.stands which co v is c.args.table c.args.range.now (option_copied c.args.after) p low
