@@ -3,7 +3,7 @@ use Rattle.std.proofs.Common.{◌≡◌, ℕ, ◌++◌, arith, Bool, true, false
 use Rattle.std.proofs.lemmas.Bool.Decides.{nat_tests}
 use Rattle.std.proofs.lemmas.List.{append-nil}
 use Rattle.salt_io.specs.LineText.{HasNoLf}
-use Rattle.salt_io.specs.Lines.{Pieces, with_byte, pieces_of, Script, ends_in, ends_in_backslash, front, spaced, joined_on, before_script, last_text, without_cr, script_from, script_of}
+use Rattle.salt_io.specs.Lines.{with_byte, pieces_of, Script, ends_in, ends_in_backslash, front, spaced, joined_on, before_script, last_text, without_cr, script_from, script_of}
 use Rattle.salt_io.proofs.Ends.{append-is-some, ends_in-append}
 
 HasNoLf-append : (a b : List ℕ) → HasNoLf a → HasNoLf b → HasNoLf (a ++ b)
@@ -19,26 +19,21 @@ HasNoLf-without_cr : (a : List ℕ) (cr : Bool) → ends_in 13 a ≡ cr → HasN
 HasNoLf-without_cr a true e p = rw e (HasNoLf-front a p)
 HasNoLf-without_cr a false e p = rw e p
 
--- the first piece begins with this text
-abbrev on_pieces : List ℕ → List (List ℕ) → List ℕ → Pieces
-on_pieces text [] last = record { ended = []; last = text ++ last }
-on_pieces text (piece ∷ pieces) last = record { ended = (text ++ piece) ∷ pieces; last = last }
+joined_on-nil : (pieces : List (List ℕ)) (last : List ℕ) → joined_on [] pieces last ≡ record { ended = pieces; rest = last }
+joined_on-nil [] last = refl
+joined_on-nil (p ∷ ps) last = refl
 
-on_pieces-nil : (pieces : List (List ℕ)) (last : List ℕ) → on_pieces [] pieces last ≡ record { ended = pieces; last = last }
-on_pieces-nil [] last = refl
-on_pieces-nil (p ∷ ps) last = refl
+with_byte-joined_on : (byte : ℕ) (text : List ℕ) (pieces : List (List ℕ)) (last : List ℕ) → eqb byte 10 ≡ false → with_byte byte (joined_on text pieces last) ≡ joined_on (byte ∷ text) pieces last
+with_byte-joined_on byte text [] last e = rw e
+with_byte-joined_on byte text (p ∷ ps) last e = rw e
 
-with_byte-on_pieces : (byte : ℕ) (text : List ℕ) (pieces : List (List ℕ)) (last : List ℕ) → eqb byte 10 ≡ false → with_byte byte (on_pieces text pieces last) ≡ on_pieces (byte ∷ text) pieces last
-with_byte-on_pieces byte text [] last e = rw e
-with_byte-on_pieces byte text (p ∷ ps) last e = rw e
-
-pieces-no_lf : (text v : List ℕ) → HasNoLf text → pieces_of (text ++ v) ≡ on_pieces text (pieces_of v).ended (pieces_of v).last
-pieces-no_lf [] v h = sym (on_pieces-nil (pieces_of v).ended (pieces_of v).last)
-pieces-no_lf (x ∷ xs) v h = ap (with_byte x) (pieces-no_lf xs v h.1) ∙ with_byte-on_pieces x xs (pieces_of v).ended (pieces_of v).last h.0
+pieces-no_lf : (text v : List ℕ) → HasNoLf text → pieces_of (text ++ v) ≡ joined_on text (pieces_of v).ended (pieces_of v).rest
+pieces-no_lf [] v h = sym (joined_on-nil (pieces_of v).ended (pieces_of v).rest)
+pieces-no_lf (x ∷ xs) v h = ap (with_byte x) (pieces-no_lf xs v h.1) ∙ with_byte-joined_on x xs (pieces_of v).ended (pieces_of v).rest h.0
 
 -- the script that pieces are
-abbrev script_in : Pieces → Script
-script_in pieces = script_from pieces.ended pieces.last
+abbrev script_in : Script → Script
+script_in pieces = script_from pieces.ended pieces.rest
 
 -- an LF behind a text
 script-lf : (text v : List ℕ) → HasNoLf text → script_of (text ++ 10 ∷ v) ≡ before_script (without_cr text) (script_of v)
@@ -88,7 +83,7 @@ before_script-spaced s [] true e script = cc
 before_script-spaced s (x ∷ xs) true e script = rw (ends_in-spaced 92 s (x ∷ xs) refl, e, spaced-spaced s x xs) (joined_on-twice (s ++ 32 ∷ []) (spaced (x ∷ xs)) script.ended script.rest)
 
 script_from-spaced : (s : List ℕ) (pieces : List (List ℕ)) (last : List ℕ)
-    → script_in (on_pieces (s ++ 32 ∷ []) pieces last) ≡ joined_on (s ++ 32 ∷ []) (script_from pieces last).ended (script_from pieces last).rest
+    → script_in (joined_on (s ++ 32 ∷ []) pieces last) ≡ joined_on (s ++ 32 ∷ []) (script_from pieces last).ended (script_from pieces last).rest
 script_from-spaced s [] last = ap (λ text. let script : Script = record { ended = []; rest = text } in script) (last_text-spaced s last (ends_in_backslash last) refl)
 script_from-spaced s (p ∷ ps) last =
     ap (λ piece. before_script piece (script_from ps last)) (without_cr-spaced s p (ends_in 13 p) refl)
@@ -98,7 +93,7 @@ script_from-spaced s (p ∷ ps) last =
 script-spaced : (s v : List ℕ) → HasNoLf s → script_of ((s ++ 32 ∷ []) ++ v) ≡ joined_on (s ++ 32 ∷ []) (script_of v).ended (script_of v).rest
 script-spaced s v h =
     ap script_in (pieces-no_lf (s ++ 32 ∷ []) v (HasNoLf-append s (32 ∷ []) h (refl, tt)))
-    ∙ script_from-spaced s (pieces_of v).ended (pieces_of v).last
+    ∙ script_from-spaced s (pieces_of v).ended (pieces_of v).rest
 
 -- The bytes stand for this text, whatever follows.
 pub record IsOpen (used text : List ℕ) : Type 0 where

@@ -1,23 +1,23 @@
 -- Scripts one after another.
 use Rattle.std.proofs.Common.{◌≡◌, ℕ, Bool, true, false, eqb, List, [], ◌∷◌, ◌++◌, refl, ◌∙◌, ap}
 use Rattle.salt_io.proofs.Ends.{append-is-some}
-use Rattle.salt_io.specs.Lines.{Pieces, with_byte, pieces_of, Script, ends_in_backslash, front, spaced, before_script, last_text, without_cr, script_from, script_of}
+use Rattle.salt_io.specs.Lines.{with_byte, pieces_of, Script, ends_in_backslash, front, spaced, before_script, last_text, without_cr, script_from, script_of}
 
--- these pieces, and then those
-abbrev pub behind_pieces : List (List ℕ) → Pieces → Pieces
-behind_pieces pieces behind = record { ended = pieces ++ behind.ended; last = behind.last }
+-- these lines or pieces, and then those of that script
+abbrev pub behind_lines : List (List ℕ) → Script → Script
+behind_lines lines script = record { ended = lines ++ script.ended; rest = script.rest }
 
 pieces-at_byte : (byte : ℕ) (is_lf : Bool) → eqb byte 10 ≡ is_lf → (ended : List (List ℕ)) (last b : List ℕ)
-    → with_byte byte (behind_pieces ended (pieces_of (last ++ b)))
-    ≡ behind_pieces (with_byte byte (record { ended = ended; last = last })).ended (pieces_of ((with_byte byte (record { ended = ended; last = last })).last ++ b))
+    → with_byte byte (behind_lines ended (pieces_of (last ++ b)))
+    ≡ behind_lines (with_byte byte (record { ended = ended; rest = last })).ended (pieces_of ((with_byte byte (record { ended = ended; rest = last })).rest ++ b))
 pieces-at_byte byte true e ended last b = rw e
 pieces-at_byte byte false e [] last b = rw e (rw e)
 pieces-at_byte byte false e (p ∷ ps) last b = rw e
 
 -- the last piece goes on with the bytes behind it
-pub pieces-append : (a b : List ℕ) → pieces_of (a ++ b) ≡ behind_pieces (pieces_of a).ended (pieces_of ((pieces_of a).last ++ b))
+pub pieces-append : (a b : List ℕ) → pieces_of (a ++ b) ≡ behind_lines (pieces_of a).ended (pieces_of ((pieces_of a).rest ++ b))
 pieces-append [] b = refl
-pieces-append (x ∷ xs) b = ap (with_byte x) (pieces-append xs b) ∙ pieces-at_byte x (eqb x 10) refl (pieces_of xs).ended (pieces_of xs).last b
+pieces-append (x ∷ xs) b = ap (with_byte x) (pieces-append xs b) ∙ pieces-at_byte x (eqb x 10) refl (pieces_of xs).ended (pieces_of xs).rest b
 
 spaced-is-some : (xs ys : List ℕ) → spaced xs ++ ys ≡ [] → ⊥
 spaced-is-some xs ys e = more (front xs) ys e where
@@ -43,10 +43,6 @@ last-nil (p ∷ ps) last h =
     let piece = without_cr p in
     last-nil ps last (rest-before_script piece (ends_in_backslash piece) refl script.ended script.rest h)
 
--- these lines, and then that script
-abbrev pub behind_lines : List (List ℕ) → Script → Script
-behind_lines lines script = record { ended = lines ++ script.ended; rest = script.rest }
-
 before_script-behind : (piece : List ℕ) (joins : Bool) → ends_in_backslash piece ≡ joins → (ended : List (List ℕ)) (rest : List ℕ) (script : Script)
     → (before_script piece (record { ended = ended; rest = rest })).rest ≡ []
     → before_script piece (behind_lines ended script) ≡ behind_lines (before_script piece (record { ended = ended; rest = rest })).ended script
@@ -68,11 +64,11 @@ script_from-append (p ∷ ps) others last h =
 pub script_of-append : (a b : List ℕ) → (script_of a).rest ≡ []
     → script_of (a ++ b) ≡ record { ended = (script_of a).ended ++ (script_of b).ended; rest = (script_of b).rest }
 script_of-append a b h =
-    from (pieces_of a).ended (pieces_of a).last (pieces-append a b) (last-nil (pieces_of a).ended (pieces_of a).last h) h
+    from (pieces_of a).ended (pieces_of a).rest (pieces-append a b) (last-nil (pieces_of a).ended (pieces_of a).rest h) h
   where
-    from : (ended : List (List ℕ)) (last : List ℕ) → pieces_of (a ++ b) ≡ behind_pieces ended (pieces_of (last ++ b)) → last ≡ [] → (script_from ended last).rest ≡ []
+    from : (ended : List (List ℕ)) (last : List ℕ) → pieces_of (a ++ b) ≡ behind_lines ended (pieces_of (last ++ b)) → last ≡ [] → (script_from ended last).rest ≡ []
         → script_of (a ++ b) ≡ behind_lines (script_from ended last).ended (script_of b)
-    from ended [] is none h = rw is (script_from-append ended (pieces_of b).ended (pieces_of b).last h)
+    from ended [] is none h = rw is (script_from-append ended (pieces_of b).ended (pieces_of b).rest h)
     from ended (x ∷ xs) is none h = absurd cc
 
 before_script-prefix : (piece : List ℕ) (joins : Bool) → ends_in_backslash piece ≡ joins → (few many : Script) (more : List (List ℕ))
@@ -96,5 +92,5 @@ script_from-prefix (p ∷ ps) last others end =
 -- The lines that are ended stay as they are, whatever follows.
 pub ended-prefix : (a b : List ℕ) → (more : List (List ℕ)) × ((script_of (a ++ b)).ended ≡ (script_of a).ended ++ more)
 ended-prefix a b =
-    let behind = pieces_of ((pieces_of a).last ++ b) in
-    rw pieces-append (script_from-prefix (pieces_of a).ended (pieces_of a).last behind.ended behind.last)
+    let behind = pieces_of ((pieces_of a).rest ++ b) in
+    rw pieces-append (script_from-prefix (pieces_of a).ended (pieces_of a).rest behind.ended behind.rest)

@@ -3,25 +3,22 @@ use Rattle.std.specs.Prelude.{◌≡◌, ◌≢◌, ℕ, ◌+◌, ◌<◌, ◌�
 use Rattle.std.specs.Prelude.{List, [], ◌∷◌, ◌++◌, length, take, Option, Some, None, ◌⊎◌, refl}
 use Rattle.salt_io.specs.Streams.{Takes, IsAtEnd}
 
--- What the LFs cut bytes into: the pieces that an LF ends, and the piece behind the last LF.
-pub record Pieces : Type 0 where
+-- A script, or the pieces that LFs cut bytes into: the lines, or pieces, that an LF ends, and what stands so far behind them.
+pub record Script : Type 0 where
   pub ended : List (List ℕ)
-  pub last : List ℕ
+  pub rest : List ℕ
 
--- the first piece begins with this byte
-abbrev pub begun_with : ℕ → List (List ℕ) → List ℕ → Pieces
-begun_with byte [] last = record { ended = []; last = byte ∷ last }
-begun_with byte (piece ∷ pieces) last = record { ended = (byte ∷ piece) ∷ pieces; last = last }
+-- the first line, ended or not, begins with this text
+abbrev pub joined_on : List ℕ → List (List ℕ) → List ℕ → Script
+joined_on text [] rest = record { ended = []; rest = text ++ rest }
+joined_on text (line ∷ lines) rest = record { ended = (text ++ line) ∷ lines; rest = rest }
 
 -- one byte, and then these pieces
-abbrev pub with_byte : ℕ → Pieces → Pieces
-with_byte byte behind =
-    if byte == 10
-    then record { ended = [] ∷ behind.ended; last = behind.last }
-    else begun_with byte behind.ended behind.last
+abbrev pub with_byte : ℕ → Script → Script
+with_byte byte behind = if byte == 10 then record { ended = [] ∷ behind.ended; rest = behind.rest } else joined_on (byte ∷ []) behind.ended behind.rest
 
-abbrev pub pieces_of : List ℕ → Pieces
-pieces_of [] = record { ended = []; last = [] }
+abbrev pub pieces_of : List ℕ → Script
+pieces_of [] = record { ended = []; rest = [] }
 pieces_of (byte ∷ bytes) = with_byte byte (pieces_of bytes)
 
 abbrev pub ends_in : ℕ → List ℕ → Bool
@@ -47,22 +44,10 @@ ends_in_backslash = ends_in 92
 abbrev pub spaced : List ℕ → List ℕ
 spaced text = front text ++ 32 ∷ []
 
--- A script: the joined lines that an LF ends, and what stands so far behind them.
-pub record Script : Type 0 where
-  pub ended : List (List ℕ)
-  pub rest : List ℕ
-
--- the first line, ended or not, begins with this text
-abbrev pub joined_on : List ℕ → List (List ℕ) → List ℕ → Script
-joined_on text [] rest = record { ended = []; rest = text ++ rest }
-joined_on text (line ∷ lines) rest = record { ended = (text ++ line) ∷ lines; rest = rest }
-
 -- a piece that an LF ends, before a script
 abbrev pub before_script : List ℕ → Script → Script
 before_script piece script =
-    if ends_in_backslash piece
-    then joined_on (spaced piece) script.ended script.rest
-    else record { ended = piece ∷ script.ended; rest = script.rest }
+    if ends_in_backslash piece then joined_on (spaced piece) script.ended script.rest else record { ended = piece ∷ script.ended; rest = script.rest }
 
 -- the piece at the script's end: nothing is joined on
 abbrev pub last_text : List ℕ → List ℕ
@@ -73,7 +58,7 @@ script_from [] last = record { ended = []; rest = last_text last }
 script_from (piece ∷ pieces) last = before_script (without_cr piece) (script_from pieces last)
 
 abbrev pub script_of : List ℕ → Script
-script_of bytes = script_from (pieces_of bytes).ended (pieces_of bytes).last
+script_of bytes = script_from (pieces_of bytes).ended (pieces_of bytes).rest
 
 -- what stands at the script's end is a line, unless it is empty
 abbrev pub with_rest : List (List ℕ) → List ℕ → List (List ℕ)
