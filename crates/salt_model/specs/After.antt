@@ -3,7 +3,7 @@ use Rattle.salt_ast.specs.declared.lines.Line.TheVariants.{Program, Table}
 use Rattle.salt_ast.specs.declared.lines.Line.{Line}
 use Rattle.salt_ast.specs.declared.trees.Statement.{Statement}
 use Rattle.salt_model.specs.Kept.{Definition, Kept, OfProgram, OfTable, conts_branched, conts_committed, schema_of, vars_of_kind}
-use Rattle.salt_model.specs.Trace.{Trace, from, line_of, ◌asks◌, ◌says◌, ◌turns◌}
+use Rattle.salt_model.specs.Trace.{Trace, line_of, over_events}
 use Rattle.salt_model.specs.Units.{done_of, kind_of}
 use Rattle.salt_model.specs.Statements.{UnitRun, outcome_of, serial}
 use Rattle.salt_model.specs.Reaches.{reach}
@@ -59,10 +59,7 @@ begun_with (Began v kind) s u = if is_same_id u v then vars_of_kind s.kept kind 
 begun_with e s u = s.vars u
 
 abbrev pub stage : Trace → Stage
-stage (from k) = record { kept = k.kept; vars = λ u. [] }
-stage (trace asks asked) = stage trace
-stage (trace turns b) = stage trace
-stage (trace says e) = record { kept = keep trace e (stage trace); vars = begun_with e (stage trace) }
+stage = over_events (λ k. record { kept = k.kept; vars = λ u. [] }) (λ trace e s. record { kept = keep trace e s; vars = begun_with e s })
 
 abbrev pub kept : Trace → Kept
 kept trace = (stage trace).kept

@@ -2,7 +2,7 @@
 -- stop the first has come, if there was one.
 use Rattle.salt_ast.specs.declared.lines.Line.TheVariants.{Net, Nothing}
 use Rattle.salt_ast.specs.declared.lines.Line.{Line}
-use Rattle.salt_model.specs.Trace.{Trace, from, line_of, ◌asks◌, ◌says◌, ◌turns◌}
+use Rattle.salt_model.specs.Trace.{Trace, line_of, over_events}
 use Rattle.salt_model.specs.declared.events.Event.TheVariants.{Armed, Down}
 use Rattle.salt_model.specs.declared.events.Event.{Event}
 use Rattle.salt_model.specs.declared.events.Why.TheVariants.{Stopped}
@@ -31,7 +31,4 @@ armed_behind (e ∷ es) (Some stops) = armed_behind es (armed_by Nothing e stops
 
 -- behind a trace, where these were armed before it
 abbrev pub armed_by_lines : List (ℕ × ℕ) → Trace → Option (List (ℕ × ℕ))
-armed_by_lines first (from k) = Some first
-armed_by_lines first (trace asks asked) = armed_by_lines first trace
-armed_by_lines first (trace turns b) = armed_by_lines first trace
-armed_by_lines first (trace says e) = option_and_then (armed_by (line_of trace) e) (armed_by_lines first trace)
+armed_by_lines first = over_events (λ k. Some first) (λ trace e stops. option_and_then (armed_by (line_of trace) e) stops)

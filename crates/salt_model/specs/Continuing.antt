@@ -4,7 +4,7 @@ use Rattle.salt_model.specs.Everywhere.{Each}
 use Rattle.salt_model.specs.Kept.{cont_of}
 use Rattle.salt_model.specs.Phases.{Opening, phase}
 use Rattle.salt_model.specs.Programs.{accepted_in, finished_in}
-use Rattle.salt_model.specs.Trace.{Trace, from, start_of, ◌asks◌, ◌says◌, ◌turns◌}
+use Rattle.salt_model.specs.Trace.{Trace, over_events, start_of, ◌says◌}
 use Rattle.salt_model.specs.Units.{kind_of, open_units, program_begun}
 use Rattle.salt_model.specs.Words.{Every}
 use Rattle.salt_model.specs.declared.events.End.TheVariants.{Branched, Committed, Victim}
@@ -20,10 +20,7 @@ use Rattle.std.specs.Prelude.{Bool, IsTrue, List, None, Option, Some, [], false,
 
 -- the last event of a trace
 abbrev pub last_said : Trace → Option Event
-last_said (from k) = None
-last_said (trace asks asked) = last_said trace
-last_said (trace turns b) = last_said trace
-last_said (trace says e) = Some e
+last_said = over_events (λ k. None) (λ trace e last. Some e)
 
 -- the part at which a program's continuation stands
 abbrev pub part_due : Trace → Id → Option ℕ

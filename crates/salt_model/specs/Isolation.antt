@@ -1,7 +1,7 @@
 -- What ACID units see of BASE programs: chains of readers, and whole programs.
 use Rattle.salt_model.specs.After.{reach_now}
 use Rattle.salt_model.specs.Locks.{Taken, taken_in, touches}
-use Rattle.salt_model.specs.Trace.{Trace, from, ◌asks◌, ◌says◌, ◌turns◌}
+use Rattle.salt_model.specs.Trace.{Trace, from, over_events, ◌asks◌, ◌says◌, ◌turns◌}
 use Rattle.salt_model.specs.Programs.{released_in}
 use Rattle.salt_model.specs.Units.{Over, Standing, is_of_program, is_open_standing, program_of, standing}
 use Rattle.salt_model.specs.Everywhere.{Each}
@@ -20,11 +20,8 @@ use Rattle.std.specs.Prelude.{Bool, IsTrue, List, Option, [], false, if◌then�
 
 -- the units that u reads from at a trace: the last writers of keys that its statements reached
 abbrev pub read_by : Id → Trace → List Id
-read_by u (from k) = []
-read_by u (trace asks asked) = read_by u trace
-read_by u (trace turns b) = read_by u trace
-read_by u (trace says Did v st answer) = if is_same_id u v then writers_in trace (reach_now v trace st) ++ read_by u trace else read_by u trace
-read_by u (trace says e) = read_by u trace
+read_by u = over_events (λ k. []) (λ trace e us. elim e
+    [ Did v st answer ↦ (if is_same_id u v then writers_in trace (reach_now v trace st) ++ us else us) | _ ↦ us ])
 
 -- u is linked to v: it reads from v, or they are subtransactions of one program
 abbrev pub is_linked : Trace → Id → Id → Bool

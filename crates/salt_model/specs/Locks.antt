@@ -6,7 +6,7 @@ use Rattle.salt_model.specs.After.{kept, reach_now}
 use Rattle.salt_model.specs.Kept.{Kept, parts_of, programs_of, schema_of}
 use Rattle.salt_model.specs.Programs.{named_early, released_in}
 use Rattle.salt_model.specs.Reaches.{table_in}
-use Rattle.salt_model.specs.Trace.{Trace, from, ◌asks◌, ◌says◌, ◌turns◌}
+use Rattle.salt_model.specs.Trace.{Trace, over_events}
 use Rattle.salt_model.specs.Units.{Over, Running, Standing, Waiting, kind_of, program_of_kind, standing}
 use Rattle.salt_model.specs.Words.{Every, first_of_list}
 use Rattle.salt_model.specs.declared.events.End.TheVariants.{Committed}
@@ -41,20 +41,11 @@ taken_by u o = map (λ r. record { unit = u; reach = r }) (option_to_list o)
 
 -- what the statements done reached, each with the variables that its unit had there
 abbrev pub taken_in : Trace → List Taken
-taken_in (from k) = []
-taken_in (trace asks asked) = taken_in trace
-taken_in (trace turns b) = taken_in trace
-taken_in (trace says Did u st answer) = taken_in trace ++ taken_by u (reach_now u trace st)
-taken_in (trace says e) = taken_in trace
+taken_in = over_events (λ k. []) (λ trace e ts. elim e [ Did u st answer ↦ ts ++ taken_by u (reach_now u trace st) | _ ↦ ts ])
 
 -- the same, since the last early opening
 abbrev pub taken_since : Trace → List Taken
-taken_since (from k) = []
-taken_since (trace asks asked) = taken_since trace
-taken_since (trace turns b) = taken_since trace
-taken_since (trace says Did u st answer) = taken_since trace ++ taken_by u (reach_now u trace st)
-taken_since (trace says Early bs) = []
-taken_since (trace says e) = taken_since trace
+taken_since = over_events (λ k. []) (λ trace e ts. elim e [ Did u st answer ↦ ts ++ taken_by u (reach_now u trace st) | Early bs ↦ [] | _ ↦ ts ])
 
 abbrev pub family_of : Option UnitKind → Family
 family_of (Some (First s b n args)) = Alkaline

@@ -1,5 +1,5 @@
 -- The BASE programs: accepted, finished, released, and those that are under way.
-use Rattle.salt_model.specs.Trace.{Trace, from, ◌asks◌, ◌says◌, ◌turns◌}
+use Rattle.salt_model.specs.Trace.{Trace, from, over_events, ◌asks◌, ◌says◌, ◌turns◌}
 use Rattle.salt_model.specs.Units.{kind_of, open_units, program_begun, program_of_kind}
 use Rattle.salt_model.specs.declared.events.Event.TheVariants.{Accepted, Began, Early, Finished, Ready, Released}
 use Rattle.salt_values.specs.Id.{has_id, in_order, without}
@@ -9,42 +9,23 @@ use Rattle.std.specs.Prelude.{Bool, List, None, Some, [], if◌then◌else◌, m
 
 -- programs, in the order of their Accepted, Finished
 abbrev pub accepted_in : Trace → List Id
-accepted_in (from k) = map (λ c. c.base) k.kept.conts
-accepted_in (trace asks asked) = accepted_in trace
-accepted_in (trace turns b) = accepted_in trace
-accepted_in (trace says Accepted b) = accepted_in trace ++ b ∷ []
-accepted_in (trace says e) = accepted_in trace
+accepted_in = over_events (λ k. map (λ c. c.base) k.kept.conts) (λ trace e bs. elim e [ Accepted b ↦ bs ++ b ∷ [] | _ ↦ bs ])
 
 abbrev pub finished_in : Trace → List Id
-finished_in (from k) = []
-finished_in (trace asks asked) = finished_in trace
-finished_in (trace turns b) = finished_in trace
-finished_in (trace says Finished b) = finished_in trace ++ b ∷ []
-finished_in (trace says e) = finished_in trace
+finished_in = over_events (λ k. []) (λ trace e bs. elim e [ Finished b ↦ bs ++ b ∷ [] | _ ↦ bs ])
 
 -- programs that have an event: those that go on from the start, and those with a unit
 abbrev pub programs_in : Trace → List Id
-programs_in (from k) = map (λ c. c.base) k.kept.conts
-programs_in (trace asks asked) = programs_in trace
-programs_in (trace turns b) = programs_in trace
-programs_in (trace says Began u kind) = elim (program_of_kind kind) [ None ↦ programs_in trace | Some b ↦ programs_in trace ++ b ∷ [] ]
-programs_in (trace says e) = programs_in trace
+programs_in = over_events (λ k. map (λ c. c.base) k.kept.conts) (λ trace e bs. elim e
+    [ Began u kind ↦ elim (program_of_kind kind) [ None ↦ bs | Some b ↦ bs ++ b ∷ [] ] | _ ↦ bs ])
 
 -- the programs that the last early opening names
 abbrev pub named_early : Trace → List Id
-named_early (from k) = []
-named_early (trace asks asked) = named_early trace
-named_early (trace turns b) = named_early trace
-named_early (trace says Early bs) = bs
-named_early (trace says e) = named_early trace
+named_early = over_events (λ k. []) (λ trace e names. elim e [ Early bs ↦ bs | _ ↦ names ])
 
 -- the accepted programs that an early opening does not name: it found them finished, and no Released will name them
 abbrev pub left_out : Trace → List Id
-left_out (from k) = []
-left_out (trace asks asked) = left_out trace
-left_out (trace turns b) = left_out trace
-left_out (trace says Early bs) = left_out trace ++ without bs (accepted_in trace)
-left_out (trace says e) = left_out trace
+left_out = over_events (λ k. []) (λ trace e out. elim e [ Early bs ↦ out ++ without bs (accepted_in trace) | _ ↦ out ])
 
 -- the programs that an early opening found and did not name
 abbrev pub passed_in : Trace → List Id
@@ -59,20 +40,12 @@ shares bs cs = list_any (λ b. has_id b cs) bs
 
 -- where these are released: the programs that an early opening which names one of them found, and did not name
 abbrev pub freed_by : List Id → Trace → List Id
-freed_by bs (from k) = []
-freed_by bs (trace asks asked) = freed_by bs trace
-freed_by bs (trace turns b) = freed_by bs trace
-freed_by bs (trace says Early names) = if shares names bs then without names (programs_in trace) ++ freed_by bs trace else freed_by bs trace
-freed_by bs (trace says e) = freed_by bs trace
+freed_by bs = over_events (λ k. []) (λ trace e freed. elim e
+    [ Early names ↦ (if shares names bs then without names (programs_in trace) ++ freed else freed) | _ ↦ freed ])
 
 -- programs that are named by a Released or freed by it, or that have an event before a Ready
 abbrev pub released_in : Trace → List Id
-released_in (from k) = []
-released_in (trace asks asked) = released_in trace
-released_in (trace turns b) = released_in trace
-released_in (trace says Released bs) = freed_by bs trace ++ (released_in trace ++ bs)
-released_in (trace says Ready) = released_in trace ++ programs_in trace
-released_in (trace says e) = released_in trace
+released_in = over_events (λ k. []) (λ trace e rs. elim e [ Released bs ↦ freed_by bs trace ++ (rs ++ bs) | Ready ↦ rs ++ programs_in trace | _ ↦ rs ])
 
 -- released, or to be so without being named
 abbrev pub over_in : Trace → List Id

@@ -2,7 +2,7 @@
 use Rattle.salt_model.specs.After.{changes_now, reach_now}
 use Rattle.salt_model.specs.Programs.{accepted_in, finished_in, left_out, released_in}
 use Rattle.salt_model.specs.Tables.{is_within, place, place_cmp}
-use Rattle.salt_model.specs.Trace.{Trace, from, ◌asks◌, ◌says◌, ◌turns◌}
+use Rattle.salt_model.specs.Trace.{Trace, over_events}
 use Rattle.salt_model.specs.Units.{is_of_program, program_of}
 use Rattle.salt_model.specs.Words.{shrink, widened}
 use Rattle.salt_model.specs.declared.events.End.TheVariants.{Committed}
@@ -29,19 +29,12 @@ written_by u changes = map (λ c. record { unit = u; table = c.table; key = c.ke
 
 -- the keys that a unit's statements changed, where they were done
 abbrev pub wrote_of : Id → Trace → List Written
-wrote_of u (from k) = []
-wrote_of u (trace asks asked) = wrote_of u trace
-wrote_of u (trace turns b) = wrote_of u trace
-wrote_of u (trace says Did v st answer) = if is_same_id u v then written_by u (changes_now v trace st) ++ wrote_of u trace else wrote_of u trace
-wrote_of u (trace says e) = wrote_of u trace
+wrote_of u = over_events (λ k. []) (λ trace e keys. elim e
+    [ Did v st answer ↦ (if is_same_id u v then written_by u (changes_now v trace st) ++ keys else keys) | _ ↦ keys ])
 
 -- the keys changed by commits, the latest first
 abbrev pub written_in : Trace → List Written
-written_in (from k) = []
-written_in (trace asks asked) = written_in trace
-written_in (trace turns b) = written_in trace
-written_in (trace says Ended u (Committed n)) = wrote_of u trace ++ written_in trace
-written_in (trace says e) = written_in trace
+written_in = over_events (λ k. []) (λ trace e keys. elim e [ Ended u (Committed n) ↦ wrote_of u trace ++ keys | _ ↦ keys ])
 
 abbrev pub written_at : Written → Place
 written_at w = place w.table w.key
@@ -68,15 +61,11 @@ programs_among trace us = filter_map (λ u. program_of u trace) us
 
 -- the programs that program b reads from, directly; those that an early opening names count as read from by one another
 abbrev pub read_directly : Id → Trace → List Id
-read_directly b (from k) = []
-read_directly b (trace asks asked) = read_directly b trace
-read_directly b (trace turns c) = read_directly b trace
-read_directly b (trace says Did u st answer) =
-    if is_of_program b trace u
-    then without (b ∷ []) (programs_among trace (writers_in trace (reach_now u trace st))) ++ read_directly b trace
-    else read_directly b trace
-read_directly b (trace says Early bs) = if has_id b bs then without (b ∷ []) bs ++ read_directly b trace else read_directly b trace
-read_directly b (trace says e) = read_directly b trace
+read_directly b = over_events (λ k. []) (λ trace e bs. elim e [
+  | Did u st answer ↦ (if is_of_program b trace u then without (b ∷ []) (programs_among trace (writers_in trace (reach_now u trace st))) ++ bs else bs)
+  | Early names ↦ (if has_id b names then without (b ∷ []) names ++ bs else bs)
+  | _ ↦ bs
+])
 
 -- b and the programs that it reads from, directly or through programs; a way to one needs no more steps than programs are accepted
 abbrev pub sources : Trace → Id → List Id

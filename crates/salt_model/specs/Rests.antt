@@ -7,7 +7,7 @@ use Rattle.salt_model.specs.Kept.{parts_of, programs_of}
 use Rattle.salt_model.specs.Next.{is_decision}
 use Rattle.salt_model.specs.Phases.{Opening, phase}
 use Rattle.salt_model.specs.Stops.{is_just_opened}
-use Rattle.salt_model.specs.Trace.{Trace, from, ◌asks◌, ◌says◌, ◌turns◌}
+use Rattle.salt_model.specs.Trace.{Trace, over_events, ◌says◌}
 use Rattle.salt_model.specs.declared.events.Event.TheVariants.{Did, Opened}
 use Rattle.salt_model.specs.declared.events.Event.{Event}
 use Rattle.salt_values.specs.declared.cont.Cont.{Cont}
@@ -38,19 +38,12 @@ statements_told (e ∷ es) = statements_in e + statements_told es
 
 -- what the programs had left that it found: behind its Opened, or behind the decision in flight, where that is told next
 abbrev pub rests_found : Trace → ℕ
-rests_found (from k) = 0
-rests_found (trace asks asked) = rests_found trace
-rests_found (trace turns b) = rests_found trace
-rests_found (trace says Opened boot n) = rests_at (trace says Opened boot n)
-rests_found (trace says e) = if is_just_opened trace && is_decision e then rests_at (trace says e) else rests_found trace
+rests_found = over_events (λ k. 0) (λ trace e n. elim e
+    [ Opened boot number ↦ rests_at (trace says Opened boot number) | f ↦ (if is_just_opened trace && is_decision f then rests_at (trace says f) else n) ])
 
 -- the statements that are told since its Opened
 abbrev pub done_since_opened : Trace → ℕ
-done_since_opened (from k) = 0
-done_since_opened (trace asks asked) = done_since_opened trace
-done_since_opened (trace turns b) = done_since_opened trace
-done_since_opened (trace says Opened boot n) = 0
-done_since_opened (trace says e) = done_since_opened trace + statements_in e
+done_since_opened = over_events (λ k. 0) (λ trace e n. elim e [ Opened boot number ↦ 0 | f ↦ n + statements_in f ])
 
 -- while it goes on, they are no more than that
 abbrev pub DoesItsRests : Trace → Type 0

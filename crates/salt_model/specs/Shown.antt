@@ -2,7 +2,7 @@
 use Rattle.salt_model.specs.After.{kept}
 use Rattle.salt_model.specs.Kept.{cont_of}
 use Rattle.salt_model.specs.Locks.{held, is_same_owner}
-use Rattle.salt_model.specs.Trace.{Trace, from, ◌asks◌, ◌says◌, ◌turns◌}
+use Rattle.salt_model.specs.Trace.{Trace, over_events}
 use Rattle.salt_model.specs.Units.{open_units}
 use Rattle.salt_model.specs.Programs.{under_way, unreleased}
 use Rattle.salt_model.specs.Reads.{is_finished}
@@ -31,11 +31,8 @@ lock_items trace =
 
 -- the name of the program b, by its First unit
 abbrev pub name_of_base : Id → Trace → List ℕ
-name_of_base b (from k) = elim (cont_of b k.kept) [ None ↦ [] | Some c ↦ c.program ]
-name_of_base b (trace asks asked) = name_of_base b trace
-name_of_base b (trace turns c) = name_of_base b trace
-name_of_base b (trace says Began u (First s c n args)) = if is_same_id b c then n else name_of_base b trace
-name_of_base b (trace says e) = name_of_base b trace
+name_of_base b = over_events (λ k. elim (cont_of b k.kept) [ None ↦ [] | Some c ↦ c.program ]) (λ trace e name. elim e
+    [ Began u (First s c n args) ↦ (if is_same_id b c then n else name) | _ ↦ name ])
 
 abbrev pub base_at_of : Trace → Id → BaseAt
 base_at_of trace b = elim (cont_of b (kept trace)) [ Some c ↦ Next c.next | None ↦ (if is_finished trace b then BaseAt.Finished else BaseAt.First) ]

@@ -34,12 +34,16 @@ pub data Trace : Type 0 where
   ◌turns◌ : Trace → Id → Trace
   ◌says◌ : Trace → Event → Trace
 
+-- what is made of a start, and then by each event in turn, of the trace before it and of what was made so far
+abbrev pub over_events : {A : Type 0} → (Start → A) → (Trace → Event → A → A) → Trace → A
+over_events start step (from k) = start k
+over_events start step (trace asks asked) = over_events start step trace
+over_events start step (trace turns b) = over_events start step trace
+over_events start step (trace says e) = step trace e (over_events start step trace)
+
 -- the story: the events of a trace
 abbrev pub story_of : Trace → List Event
-story_of (from k) = []
-story_of (trace asks asked) = story_of trace
-story_of (trace turns b) = story_of trace
-story_of (trace says e) = story_of trace ++ e ∷ []
+story_of = over_events (λ k. []) (λ trace e story. story ++ e ∷ [])
 
 -- the story before the segment in which the trace ends, which is that of a line or of an opening
 abbrev pub story_before : Trace → List Event
@@ -64,7 +68,4 @@ line_of (trace turns b) = line_of trace
 line_of (trace says e) = line_of trace
 
 abbrev pub start_of : Trace → Start
-start_of (from k) = k
-start_of (trace asks asked) = start_of trace
-start_of (trace turns b) = start_of trace
-start_of (trace says e) = start_of trace
+start_of = over_events (λ k. k) (λ trace e k. k)

@@ -16,7 +16,7 @@ use Rattle.salt_values.specs.Id.{is_same_id}
 use Rattle.salt_values.specs.declared.id.Id.{Id}
 use Rattle.std.specs.List.{filter}
 use Rattle.std.specs.Prelude.{Bool, List, None, Option, Some, [], false, if◌then◌else◌, is_some, option_and_then, true, ℕ, ◌++◌, ◌+◌, ◌==◌, ◌∷◌}
-use Rattle.salt_model.specs.Trace.{Trace, from, line_of, ◌asks◌, ◌says◌, ◌turns◌}
+use Rattle.salt_model.specs.Trace.{Trace, from, line_of, over_events, ◌asks◌, ◌says◌, ◌turns◌}
 
 -- where a unit stands: it is open while it runs or waits
 pub data Standing : Type 0 where
@@ -33,10 +33,7 @@ standing_after u (Ended v end) s = if is_same_id u v then Over end else s
 standing_after u e s = s
 
 abbrev pub standing : Id → Trace → Standing
-standing u (from k) = Never
-standing u (trace asks asked) = standing u trace
-standing u (trace turns b) = standing u trace
-standing u (trace says e) = standing_after u e (standing u trace)
+standing u = over_events (λ k. Never) (λ trace e s. standing_after u e s)
 
 abbrev pub is_open_standing : Standing → Bool
 is_open_standing Running = true
@@ -59,18 +56,11 @@ kind_begun u e = None
 
 -- the kind of a unit, by its Began
 abbrev pub kind_of : Id → Trace → Option UnitKind
-kind_of u (from k) = None
-kind_of u (trace asks asked) = kind_of u trace
-kind_of u (trace turns b) = kind_of u trace
-kind_of u (trace says e) = option_or (kind_begun u e) (kind_of u trace)
+kind_of u = over_events (λ k. None) (λ trace e kind. option_or (kind_begun u e) kind)
 
 -- the units, in the order of their Began
 abbrev pub units_begun : Trace → List Id
-units_begun (from k) = []
-units_begun (trace asks asked) = units_begun trace
-units_begun (trace turns b) = units_begun trace
-units_begun (trace says Began u kind) = units_begun trace ++ u ∷ []
-units_begun (trace says e) = units_begun trace
+units_begun = over_events (λ k. []) (λ trace e us. elim e [ Began u kind ↦ us ++ u ∷ [] | _ ↦ us ])
 
 abbrev pub open_units : Trace → List Id
 open_units trace = filter (is_open trace) (units_begun trace)
@@ -85,21 +75,13 @@ history_of (trace says e) = history_of trace
 
 -- the statements that a unit has done since its Began, in order
 abbrev pub done_of : Id → Trace → List Statement
-done_of u (from k) = []
-done_of u (trace asks asked) = done_of u trace
-done_of u (trace turns b) = done_of u trace
-done_of u (trace says Began v kind) = if is_same_id u v then [] else done_of u trace
-done_of u (trace says Did v st answer) = if is_same_id u v then done_of u trace ++ st ∷ [] else done_of u trace
-done_of u (trace says e) = done_of u trace
+done_of u = over_events (λ k. []) (λ trace e done. elim e
+    [ Began v kind ↦ (if is_same_id u v then [] else done) | Did v st answer ↦ (if is_same_id u v then done ++ st ∷ [] else done) | _ ↦ done ])
 
 -- its printed answers
 abbrev pub answers_of : Id → Trace → List Answer
-answers_of u (from k) = []
-answers_of u (trace asks asked) = answers_of u trace
-answers_of u (trace turns b) = answers_of u trace
-answers_of u (trace says Began v kind) = if is_same_id u v then [] else answers_of u trace
-answers_of u (trace says Did v st answer) = if is_same_id u v then answers_of u trace ++ answer ∷ [] else answers_of u trace
-answers_of u (trace says e) = answers_of u trace
+answers_of u = over_events (λ k. []) (λ trace e given. elim e
+    [ Began v kind ↦ (if is_same_id u v then [] else given) | Did v st answer ↦ (if is_same_id u v then given ++ answer ∷ [] else given) | _ ↦ given ])
 
 abbrev pub program_of_kind : UnitKind → Option Id
 program_of_kind (First s b n args) = Some b
@@ -131,38 +113,20 @@ program_unit b trace = first_of_list (filter (is_of_program b trace) (open_units
 
 -- the line in whose segment the unit's Began stands
 abbrev pub line_begun : Id → Trace → Line
-line_begun u (from k) = Nothing
-line_begun u (trace asks asked) = line_begun u trace
-line_begun u (trace turns b) = line_begun u trace
-line_begun u (trace says Began v kind) = if is_same_id u v then line_of trace else line_begun u trace
-line_begun u (trace says e) = line_begun u trace
+line_begun u = over_events (λ k. Nothing) (λ trace e line. elim e [ Began v kind ↦ (if is_same_id u v then line_of trace else line) | _ ↦ line ])
 
 -- the line in whose segment its last Waits stands
 abbrev pub line_waited : Id → Trace → Line
-line_waited u (from k) = Nothing
-line_waited u (trace asks asked) = line_waited u trace
-line_waited u (trace turns b) = line_waited u trace
-line_waited u (trace says Waits v owners) = if is_same_id u v then line_of trace else line_waited u trace
-line_waited u (trace says e) = line_waited u trace
+line_waited u = over_events (λ k. Nothing) (λ trace e line. elim e [ Waits v owners ↦ (if is_same_id u v then line_of trace else line) | _ ↦ line ])
 
 -- the waiting units, the longest first
 abbrev pub wait_list : Trace → List Id
-wait_list (from k) = []
-wait_list (trace asks asked) = wait_list trace
-wait_list (trace turns b) = wait_list trace
-wait_list (trace says Waits u owners) = without (u ∷ []) (wait_list trace) ++ u ∷ []
-wait_list (trace says Did u st answer) = without (u ∷ []) (wait_list trace)
-wait_list (trace says Ended u end) = without (u ∷ []) (wait_list trace)
-wait_list (trace says e) = wait_list trace
+wait_list = over_events (λ k. []) (λ trace e us. elim e
+    [ Waits u owners ↦ without (u ∷ []) us ++ u ∷ [] | Did u st answer ↦ without (u ∷ []) us | Ended u end ↦ without (u ∷ []) us | _ ↦ us ])
 
 -- units and programs are numbered from 1 in each boot
 abbrev pub unit_count : Trace → ℕ
-unit_count (from k) = 0
-unit_count (trace asks asked) = unit_count trace
-unit_count (trace turns b) = unit_count trace
-unit_count (trace says Began u kind) = unit_count trace + 1
-unit_count (trace says Opened boot n) = 0
-unit_count (trace says e) = unit_count trace
+unit_count = over_events (λ k. 0) (λ trace e n. elim e [ Began u kind ↦ n + 1 | Opened boot number ↦ 0 | _ ↦ n ])
 
 -- the program that a unit begins, by its kind
 abbrev pub program_begun : UnitKind → Option Id
@@ -170,9 +134,4 @@ program_begun (First s b n args) = Some b
 program_begun kind = None
 
 abbrev pub base_count : Trace → ℕ
-base_count (from k) = 0
-base_count (trace asks asked) = base_count trace
-base_count (trace turns b) = base_count trace
-base_count (trace says Began u kind) = if is_some (program_begun kind) then base_count trace + 1 else base_count trace
-base_count (trace says Opened boot n) = 0
-base_count (trace says e) = base_count trace
+base_count = over_events (λ k. 0) (λ trace e n. elim e [ Began u kind ↦ (if is_some (program_begun kind) then n + 1 else n) | Opened boot number ↦ 0 | _ ↦ n ])

@@ -1,6 +1,6 @@
 -- Behind an early opening: what ACID units don't see of the programs that it names, and which turns these have.
 use Rattle.salt_model.specs.Isolation.{IsChain}
-use Rattle.salt_model.specs.Trace.{Trace, from, ◌asks◌, ◌says◌, ◌turns◌}
+use Rattle.salt_model.specs.Trace.{Trace, from, over_events, ◌asks◌, ◌says◌, ◌turns◌}
 use Rattle.salt_model.specs.Turns.{next_to_go, turn_owed}
 use Rattle.salt_model.specs.Units.{program_of}
 use Rattle.salt_model.specs.Waiting.{is_acid}
@@ -15,13 +15,7 @@ use Rattle.std.specs.Prelude.{Bool, IsTrue, List, None, Some, [], false, not, �
 -- HELD BACK are the programs that the last early opening names, until a Released names them, or a Ready comes.
 
 abbrev pub held_back : Trace → List Id
-held_back (from k) = []
-held_back (trace asks asked) = held_back trace
-held_back (trace turns b) = held_back trace
-held_back (trace says Early bs) = bs
-held_back (trace says Released bs) = without bs (held_back trace)
-held_back (trace says Ready) = []
-held_back (trace says e) = held_back trace
+held_back = over_events (λ k. []) (λ trace e held. elim e [ Early bs ↦ bs | Released bs ↦ without bs held | Ready ↦ [] | _ ↦ held ])
 
 abbrev pub is_part_held_back : Trace → Id → Bool
 is_part_held_back trace u = option_map_or (λ b. has_id b (held_back trace)) (program_of u trace) false

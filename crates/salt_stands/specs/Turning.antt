@@ -2,7 +2,7 @@
 use Rattle.salt_ast.specs.declared.lines.Line.TheVariants.{Net}
 use Rattle.salt_ast.specs.declared.lines.Line.{Line}
 use Rattle.salt_model.specs.After.{kept, run_of}
-use Rattle.salt_model.specs.Trace.{Trace, from, line_of, ◌asks◌, ◌says◌, ◌turns◌}
+use Rattle.salt_model.specs.Trace.{Trace, from, line_of, over_events, ◌asks◌, ◌says◌, ◌turns◌}
 use Rattle.salt_model.specs.declared.events.End.TheVariants.{Branched, Committed}
 use Rattle.salt_model.specs.declared.events.Event.TheVariants.{Armed, Ended, Opened}
 use Rattle.salt_model.specs.declared.events.Event.{Event}
@@ -51,7 +51,4 @@ changes_ended trace e = []
 
 -- behind a trace
 abbrev pub turning : Shape → Trace → Turning
-turning shape (from k) = no_turns
-turning shape (trace asks asked) = turning shape trace
-turning shape (trace turns b) = turning shape trace
-turning shape (trace says e) = turned shape (line_of trace) (kept trace).boot (changes_ended trace e) e (turning shape trace)
+turning shape = over_events (λ k. no_turns) (λ trace e t. turned shape (line_of trace) (kept trace).boot (changes_ended trace e) e t)
