@@ -9,8 +9,8 @@ use Rattle.salt_values.specs.declared.limits.TheConstants.{CALLS_MOST, PARTITION
 use Rattle.std.specs.Bool.{then_some}
 use Rattle.std.specs.Char.{is_ascii_digit}
 use Rattle.std.specs.Global.{Global}
-use Rattle.std.specs.List.{find, list_all, position}
-use Rattle.std.specs.Prelude.{Bool, List, None, Option, Some, [], codes, drop, false, if◌then◌else◌, map, nat_le, nat_lt, option_and_then, option_map, string_bytes, suc, take, true, zero, ℕ, ◌&&◌, ◌+◌, ◌==◌, ◌∷◌}
+use Rattle.std.specs.List.{filter, find, list_all, position}
+use Rattle.std.specs.Prelude.{Bool, List, None, Option, Some, [], codes, drop, false, if◌then◌else◌, length, map, nat_le, nat_lt, option_and_then, option_map, string_bytes, suc, take, true, zero, ℕ, ◌&&◌, ◌+◌, ◌==◌, ◌∷◌}
 use Rattle.std.specs.Str.Parse.{digits_value}
 use Rattle.std.specs.Str.{byte, bytes_eq}
 use Rattle.std.specs.declared.string.String.{String}
@@ -24,6 +24,12 @@ is_count most n = nat_lt 0 n && nat_le n most
 -- the number from 1 to `most` that decimal digits say
 abbrev pub count_said : ℕ → List ℕ → Option ℕ
 count_said most word = then_some (list_all is_ascii_digit word && is_count most (digits_value 10 word)) (digits_value 10 word)
+
+-- what is read of a value that is given once; this, where none is given
+abbrev pub once : {A : Type 0} → A → (List ℕ → Option A) → List (List ℕ) → Option A
+once unsaid read [] = Some unsaid
+once unsaid read (value ∷ []) = read value
+once unsaid read (value ∷ another ∷ values) = None
 
 -- ---- the settings of a run
 
@@ -90,17 +96,11 @@ values_of setting (goes_over_net ∷ gs) = values_of setting gs
 
 -- how often openings are given leave to end early
 abbrev pub early_given : List Given → ℕ
-early_given [] = 0
-early_given (given setting value ∷ gs) = early_given gs
-early_given (ends_early ∷ gs) = suc (early_given gs)
-early_given (goes_over_net ∷ gs) = early_given gs
+early_given gs = length (filter (λ g. elim g [ ends_early ↦ true | _ ↦ false ]) gs)
 
 -- how often commits are given over to messages
 abbrev pub net_given : List Given → ℕ
-net_given [] = 0
-net_given (given setting value ∷ gs) = net_given gs
-net_given (ends_early ∷ gs) = net_given gs
-net_given (goes_over_net ∷ gs) = suc (net_given gs)
+net_given gs = length (filter (λ g. elim g [ goes_over_net ↦ true | _ ↦ false ]) gs)
 
 -- ---- a run
 
@@ -113,31 +113,13 @@ pub record Settings : Type 0 where
   pub early : Bool
   pub over_net : Bool
 
--- a run has two partitions, or as many as it is told once
-abbrev pub parts_said : List (List ℕ) → Option ℕ
-parts_said [] = Some 2
-parts_said (count ∷ []) = count_said PARTITIONS_MOST count
-parts_said (count ∷ another ∷ counts) = None
-
 -- no folder has an empty name
 abbrev pub folder_called : List ℕ → Option (Option (List ℕ))
 folder_called [] = None
 folder_called (b ∷ path) = Some (Some (b ∷ path))
 
--- no folder, or the one that it is told once
-abbrev pub folder_said : List (List ℕ) → Option (Option (List ℕ))
-folder_said [] = Some None
-folder_said (path ∷ []) = folder_called path
-folder_said (path ∷ another ∷ paths) = None
-
 abbrev pub kind_called : List ℕ → Option PlaceKind
 kind_called word = if bytes_eq word (codes "remainder") then Some Remainder else if bytes_eq word (codes "bands") then Some Bands else None
-
--- rows are spread by remainders, or as it is told once
-abbrev pub kind_said : List (List ℕ) → Option PlaceKind
-kind_said [] = Some Remainder
-kind_said (word ∷ []) = kind_called word
-kind_said (word ∷ another ∷ words) = None
 
 -- openings end early, or commits go over messages, where that is said once, and not where it is not said
 abbrev pub once_said : ℕ → Option Bool
@@ -149,9 +131,11 @@ abbrev pub settings_of : Option ℕ → Option (Option (List ℕ)) → Option Pl
 settings_of (Some parts) (Some folder) (Some kind) (Some early) (Some over_net) = Some (record { parts = parts; folder = folder; kind = kind; early = early; over_net = over_net })
 settings_of parts folder kind early over_net = None
 
+-- two partitions, no folder, and rows that are spread by remainders, where it is not said otherwise
 abbrev pub settings_given : List Given → Option Settings
 settings_given gs =
-    settings_of (parts_said (values_of Parts gs)) (folder_said (values_of Folder gs)) (kind_said (values_of Place gs)) (once_said (early_given gs)) (once_said (net_given gs))
+    settings_of (once 2 (count_said PARTITIONS_MOST) (values_of Parts gs)) (once None folder_called (values_of Folder gs))
+    (once Remainder kind_called (values_of Place gs)) (once_said (early_given gs)) (once_said (net_given gs))
 
 -- the settings of a run that is called with these words behind `run`
 abbrev pub settings_said : List (List ℕ) → Option Settings

@@ -1,10 +1,11 @@
 -- The numbers of a command are within their limits.
+use Rattle.salt_place.specs.declared.placement.PlaceKind.TheVariants.{Remainder}
 use Rattle.salt_values.specs.declared.limits.TheConstants.{CALLS_MOST}
 use Rattle.salt_promise.specs.Given.{shape_of}
 use Rattle.salt_place.specs.Placement.{IsParts}
 use Rattle.salt_place.specs.declared.placement.PlaceKind.{PlaceKind}
 use Rattle.salt_values.specs.declared.limits.TheConstants.{PARTITIONS_MOST}
-use Rattle.salt_promise.specs.Words.{Given, Settings, all_given, command_of, command_said, count_said, early_given, folder_said, is_count, kind_said, load_said, net_given, once_said, parts_said, run_said, script_with, settings_given, settings_of, settings_said, values_of}
+use Rattle.salt_promise.specs.Words.{Given, Settings, all_given, command_of, command_said, count_said, early_given, folder_called, is_count, kind_called, load_said, net_given, once, once_said, run_said, script_with, settings_given, settings_of, settings_said, values_of}
 use Rattle.salt_promise.specs.declared.command.Command.TheVariants.{Load, Script}
 use Rattle.salt_promise.specs.declared.command.Command.{Command}
 use Rattle.salt_promise.specs.declared.command.Setting.TheVariants.{Folder, Parts, Place}
@@ -37,7 +38,7 @@ count-given most v n true false is e = absurd cc
 count-within : (most : ℕ) (word : List ℕ) (n : ℕ) → count_said most word ≡ Some n → IsWithin most n
 count-within most word n e = count-given most (digits_value 10 word) n (list_all is_ascii_digit word) (is_count most (digits_value 10 word)) refl e
 
-parts-within : (counts : List (List ℕ)) (n : ℕ) → parts_said counts ≡ Some n → IsParts n
+parts-within : (counts : List (List ℕ)) (n : ℕ) → once 2 (count_said PARTITIONS_MOST) counts ≡ Some n → IsParts n
 parts-within [] n e =
     let same : 2 ≡ n = cc in
     subst IsParts same (omega arith, omega arith)
@@ -56,7 +57,7 @@ settings-parts None f kind early over s e = absurd cc
 
 given-within : (gs : Option (List Given)) (s : Settings) → option_and_then settings_given gs ≡ Some s → IsParts s.parts
 given-within None s e = absurd cc
-given-within (Some gs) s e = parts-within (values_of Parts gs) s.parts (settings-parts (parts_said (values_of Parts gs)) (folder_said (values_of Folder gs)) (kind_said (values_of Place gs)) (once_said (early_given gs)) (once_said (net_given gs)) s e)
+given-within (Some gs) s e = parts-within (values_of Parts gs) s.parts (settings-parts (once 2 (count_said PARTITIONS_MOST) (values_of Parts gs)) (once None folder_called (values_of Folder gs)) (once Remainder kind_called (values_of Place gs)) (once_said (early_given gs)) (once_said (net_given gs)) s e)
 
 -- the limits of a command
 abbrev pub IsCommand : Command → Type 0

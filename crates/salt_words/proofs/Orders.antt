@@ -1,6 +1,8 @@
 -- Settings behind settings.
+use Rattle.salt_place.specs.declared.placement.PlaceKind.TheVariants.{Remainder}
+use Rattle.salt_values.specs.declared.limits.TheConstants.{PARTITIONS_MOST}
 use Rattle.salt_words.proofs.Givens.{none-alone, none-given, one-given, two-given}
-use Rattle.salt_promise.specs.Words.{Given, all_given, early_given, ends_early, folder_said, given, given_by, given_in, goes_over_net, is_setting, kind_said, net_given, once_said, parts_said, settings_given, settings_of, settings_said, values_of}
+use Rattle.salt_promise.specs.Words.{Given, all_given, count_said, early_given, ends_early, folder_called, given, given_by, given_in, goes_over_net, is_setting, kind_called, net_given, once, once_said, settings_given, settings_of, settings_said, values_of}
 use Rattle.salt_promise.specs.declared.command.Setting.TheVariants.{Folder, Parts, Place}
 use Rattle.salt_promise.specs.declared.command.Setting.{Setting}
 use Rattle.std.proofs.Common.{ap, append-nil, arith, refl, subst, sym, ◌∙◌}
@@ -124,11 +126,11 @@ given-swapped : (xs ys : List Given) → settings_given (xs ++ ys) ≡ settings_
 given-swapped xs ys =
     let one = xs ++ ys in
     let other = ys ++ xs in
-    ap (λ parts. settings_of parts (folder_said (values_of Folder one)) (kind_said (values_of Place one)) (once_said (early_given one)) (once_said (net_given one))) (said-swapped Parts parts_said (λ u v ws. refl) xs ys)
-    ∙ ap (λ folder. settings_of (parts_said (values_of Parts other)) folder (kind_said (values_of Place one)) (once_said (early_given one)) (once_said (net_given one))) (said-swapped Folder folder_said (λ u v ws. refl) xs ys)
-    ∙ ap (λ kind. settings_of (parts_said (values_of Parts other)) (folder_said (values_of Folder other)) kind (once_said (early_given one)) (once_said (net_given one))) (said-swapped Place kind_said (λ u v ws. refl) xs ys)
-    ∙ ap (λ times. settings_of (parts_said (values_of Parts other)) (folder_said (values_of Folder other)) (kind_said (values_of Place other)) (once_said times) (once_said (net_given one))) (early-swapped xs ys)
-    ∙ ap (λ times. settings_of (parts_said (values_of Parts other)) (folder_said (values_of Folder other)) (kind_said (values_of Place other)) (once_said (early_given other)) (once_said times)) (net-swapped xs ys)
+    ap (λ parts. settings_of parts (once None folder_called (values_of Folder one)) (once Remainder kind_called (values_of Place one)) (once_said (early_given one)) (once_said (net_given one))) (said-swapped Parts (once 2 (count_said PARTITIONS_MOST)) (λ u v ws. refl) xs ys)
+    ∙ ap (λ folder. settings_of (once 2 (count_said PARTITIONS_MOST) (values_of Parts other)) folder (once Remainder kind_called (values_of Place one)) (once_said (early_given one)) (once_said (net_given one))) (said-swapped Folder (once None folder_called) (λ u v ws. refl) xs ys)
+    ∙ ap (λ kind. settings_of (once 2 (count_said PARTITIONS_MOST) (values_of Parts other)) (once None folder_called (values_of Folder other)) kind (once_said (early_given one)) (once_said (net_given one))) (said-swapped Place (once Remainder kind_called) (λ u v ws. refl) xs ys)
+    ∙ ap (λ times. settings_of (once 2 (count_said PARTITIONS_MOST) (values_of Parts other)) (once None folder_called (values_of Folder other)) (once Remainder kind_called (values_of Place other)) (once_said times) (once_said (net_given one))) (early-swapped xs ys)
+    ∙ ap (λ times. settings_of (once 2 (count_said PARTITIONS_MOST) (values_of Parts other)) (once None folder_called (values_of Folder other)) (once Remainder kind_called (values_of Place other)) (once_said (early_given other)) (once_said times)) (net-swapped xs ys)
 
 both-swapped : (o p : Option (List Given)) → IsSome o → IsSome p → option_and_then settings_given (both o p) ≡ option_and_then settings_given (both p o)
 unfolding both

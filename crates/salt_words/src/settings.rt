@@ -1,7 +1,9 @@
 //! The settings of a run.
 
-ghost use Rattle.salt_promise.specs.Words.{all_given, begins_with_dash, given_by, given_in, given_to, kind_called, kind_said, parts_said, setting_named, settings_said, value_in};
+ghost use Rattle.salt_place.specs.declared.placement.PlaceKind.TheVariants.{Remainder};
+ghost use Rattle.salt_promise.specs.Words.{all_given, begins_with_dash, count_said, given_by, given_in, given_to, kind_called, once, setting_named, settings_said, value_in};
 ghost use Rattle.salt_promise.specs.Words as words;
+ghost use Rattle.salt_values.specs.declared.limits.TheConstants.{PARTITIONS_MOST};
 ghost use Rattle.salt_words.specs.Meanings.{first_meant, given_meant, settings_behind, settings_meant};
 ghost use Rattle.std.specs.Option.{option_copied};
 ghost use Rattle.std.specs.Prelude.{◌<◌, ◌≡◌, ◌∷◌, IfSome, List, MatchOption, None, Some, [], length, map, option_map, option_to_list, string_bytes};
@@ -212,7 +214,7 @@ fn said_in<'a>(words: &'a [String]) -> Option<Said<'a>>
 
 /// How many partitions a run has.
 fn parts_in(count: Option<&str>) -> Option<u8>
-    ensures { result ≡ parts_said (option_to_list (option_copied count.entry)) }
+    ensures { result ≡ once 2 (count_said PARTITIONS_MOST) (option_to_list (option_copied count.entry)) }
 {
     match count {
         Some(word) => match count_in(u64::from(PARTITIONS_MOST), word) {
@@ -237,7 +239,7 @@ fn kind_called(word: &str) -> Option<PlaceKind>
 
 /// How a run's rows are spread.
 fn kind_in(place: Option<&str>) -> Option<PlaceKind>
-    ensures { result ≡ kind_said (option_to_list (option_copied place.entry)) }
+    ensures { result ≡ once Remainder kind_called (option_to_list (option_copied place.entry)) }
 {
     match place {
         Some(word) => kind_called(word),
