@@ -1,9 +1,10 @@
 -- Counting one event more.
+use Rattle.salt_model.specs.Releasing.{released_names}
 use Rattle.salt_model.specs.declared.events.Event.{Event}
 use Rattle.salt_model.specs.declared.events.Event.TheVariants.{Did}
 use Rattle.salt_workload.specs.Counts.{AreCounts}
 use Rattle.salt_model.specs.Summary.{cell_of, count_of, last_value}
-use Rattle.salt_workload.specs.Summary.{is_accepted, is_began, is_committed, is_victim, is_waits, released_count, released_in}
+use Rattle.salt_workload.specs.Summary.{is_accepted, is_began, is_committed, is_victim, is_waits, released_count}
 use Rattle.salt_workload.specs.declared.counts.Counts.{Counts}
 use Rattle.salt_values.specs.declared.value.Value.{Value}
 use Rattle.std.proofs.Common.{ap, append-nil, arith, get_or, length-append, length-take, take, subst, sym, ◌∙◌}
@@ -35,25 +36,25 @@ fits-one is n story same few = let most = count-most is story in omega (arith, s
 pub fits-released : (c : Counts) (story : List Event) (n : ℕ) → AreCounts c story → length story < 2 ^ 64 - 1 → n < 2 ^ 64 → c.released + n < 2 ^ 128
 fits-released c story n are few m = let most = are.few in omega (arith, few, m, most)
 
-released-more : (story : List Event) (e : Event) → released_count (story ++ e ∷ []) ≡ released_count story + length (released_in e)
-released-more [] e = let l = ap length (append-nil (released_in e)) in omega (arith, l)
+released-more : (story : List Event) (e : Event) → released_count (story ++ e ∷ []) ≡ released_count story + length (released_names e)
+released-more [] e = let l = ap length (append-nil (released_names e)) in omega (arith, l)
 released-more (x ∷ story) e =
-    let l = length-append (released_in x) (flat_map released_in (story ++ e ∷ [])) in
-    let m = length-append (released_in x) (flat_map released_in story) in
+    let l = length-append (released_names x) (flat_map released_names (story ++ e ∷ [])) in
+    let m = length-append (released_names x) (flat_map released_names story) in
     let h = released-more story e in
     omega (arith, l, m, h)
 
 pub counts-more : (c d : Counts) (e : Event) (story : List Event) → AreCounts c story → d.units ≡ c.units + count_of is_began (e ∷ []) →
     d.committed ≡ c.committed + count_of is_committed (e ∷ []) → d.accepted ≡ c.accepted + count_of is_accepted (e ∷ []) →
     d.waits ≡ c.waits + count_of is_waits (e ∷ []) → d.victims ≡ c.victims + count_of is_victim (e ∷ []) →
-    d.released ≡ c.released + length (released_in e) → length (released_in e) < 2 ^ 64 → AreCounts d (story ++ e ∷ [])
+    d.released ≡ c.released + length (released_names e) → length (released_names e) < 2 ^ 64 → AreCounts d (story ++ e ∷ [])
 counts-more c d e story are units committed accepted waits victims released few = record {
   units = units ∙ ap (λ n. n + count_of is_began (e ∷ [])) are.units ∙ sym (count-more is_began story e);
   committed = committed ∙ ap (λ n. n + count_of is_committed (e ∷ [])) are.committed ∙ sym (count-more is_committed story e);
   accepted = accepted ∙ ap (λ n. n + count_of is_accepted (e ∷ [])) are.accepted ∙ sym (count-more is_accepted story e);
   waits = waits ∙ ap (λ n. n + count_of is_waits (e ∷ [])) are.waits ∙ sym (count-more is_waits story e);
   victims = victims ∙ ap (λ n. n + count_of is_victim (e ∷ [])) are.victims ∙ sym (count-more is_victim story e);
-  released = released ∙ ap (λ n. n + length (released_in e)) are.released ∙ sym (released-more story e);
+  released = released ∙ ap (λ n. n + length (released_names e)) are.released ∙ sym (released-more story e);
   few = let l = length-append story (e ∷ []) in let most = are.few in omega (arith, l, most, few, released);
 }
 

@@ -1,10 +1,10 @@
 -- What the line of a workload counts, told of each event.
+use Rattle.salt_model.specs.Releasing.{released_names}
 use Rattle.salt_model.specs.declared.events.End.TheVariants.{Committed, Victim}
 use Rattle.salt_model.specs.declared.events.Event.{Event}
-use Rattle.salt_model.specs.declared.events.Event.TheVariants.{Accepted, Began, Ended, Released, Waits}
-use Rattle.salt_values.specs.declared.id.Id.{Id}
+use Rattle.salt_model.specs.declared.events.Event.TheVariants.{Accepted, Began, Ended, Waits}
 use Rattle.std.specs.List.{flat_map}
-use Rattle.std.specs.Prelude.{Bool, List, [], false, length, true, ℕ}
+use Rattle.std.specs.Prelude.{Bool, List, false, length, true, ℕ}
 
 abbrev pub is_began : Event → Bool
 is_began (Began u kind) = true
@@ -26,10 +26,6 @@ abbrev pub is_victim : Event → Bool
 is_victim (Ended u Victim) = true
 is_victim e = false
 
-abbrev pub released_in : Event → List Id
-released_in (Released bs) = bs
-released_in e = []
-
 -- how many programs were released
 abbrev pub released_count : List Event → ℕ
-released_count story = length (flat_map released_in story)
+released_count story = length (flat_map released_names story)

@@ -7,7 +7,7 @@ use Rattle.salt_devices.specs.declared.pending.Pending.TheVariants.{Lost}
 use Rattle.salt_disk.proofs.CallAfterCall.{cause_on}
 use Rattle.salt_gatelog.proofs.Entries.{not_told}
 use Rattle.salt_storage.specs.Answers.{open_disk_err_of}
-use Rattle.std.proofs.Common.{Err, IsTrue, None, ap, sym, ◌≡◌, ◌∙◌}
+use Rattle.std.proofs.Common.{Err, IsTrue, None, ap, subst, sym, ◌≡◌, ◌∙◌}
 
 pub returns-in-Ok-true-clause-ok : goal.returns-in-Ok-true-clause-ok
 returns-in-Ok-true-clause-ok g c a b h r =
