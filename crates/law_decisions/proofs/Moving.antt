@@ -5,14 +5,14 @@ use Rattle.salt_model.specs.Kept.{cont_in}
 use Rattle.salt_stands.proofs.Booleans.{all_push, join, left, right}
 use Rattle.salt_stands.proofs.Decided.{same_id_sym}
 use Rattle.salt_stands.proofs.OpenConts.{all_filter, replace_rises}
-use Rattle.salt_stands.specs.OpenConts.{do_rise, end_of, go_to, is_accepted_before, is_later_than, is_not_of, make_move, replace_cont, without_cont}
+use Rattle.salt_stands.specs.OpenConts.{do_rise, go_to, is_accepted_before, is_later_than, is_not_of, make_move, replace_cont}
 use Rattle.salt_values.specs.Id.{is_same_id}
 use Rattle.salt_values.specs.declared.cont.Cont.{Cont}
 use Rattle.salt_values.specs.declared.id.Id.{Id}
 use Rattle.std.proofs.Common.{ap, subst, sym, ◌∙◌}
 use Rattle.std.proofs.lemmas.Bool.Decides.{Decides-eqb}
 use Rattle.std.specs.List.{filter, list_all}
-use Rattle.std.specs.Prelude.{Bool, List, None, Option, Some, [], cond, false, if◌then◌else◌, nat_lt, not, refl, true, ◌++◌, ◌==◌, ◌∷◌, ◌≡◌}
+use Rattle.std.specs.Prelude.{Bool, List, None, Option, Some, [], cond, false, if◌then◌else◌, nat_lt, not, option_map, refl, true, ◌++◌, ◌==◌, ◌∷◌, ◌≡◌}
 use Rattle.std.specs.Bool.{then_some}
 
 rise-filter : (q : Cont → Bool) (cs : List Cont) → do_rise cs ≡ true → do_rise (filter q cs) ≡ true
@@ -52,11 +52,11 @@ goes-rise c (Some d) cs ds found rise e =
     let is = given-is (c.accepted == d.accepted) (replace_cont c cs) ds e in
     subst (λ (xs : List Cont). do_rise xs ≡ true) is.1 (replace_rises c d ((Decides-eqb c.accepted d.accepted).0 is.0) cs rise found)
 
-ends-rise : (b : Id) (o : Option Cont) (cs ds : List Cont) → do_rise cs ≡ true → end_of b o cs ≡ Some ds → do_rise ds ≡ true
+ends-rise : (b : Id) (o : Option Cont) (cs ds : List Cont) → do_rise cs ≡ true → option_map (λ d. filter (is_not_of b) cs) o ≡ Some ds → do_rise ds ≡ true
 ends-rise b None cs ds rise e = cc
 ends-rise b (Some d) cs ds rise e = subst (λ (xs : List Cont). do_rise xs ≡ true) is (rise-filter (is_not_of b) cs rise)
   where
-    is : without_cont b cs ≡ ds
+    is : (filter (is_not_of b) cs) ≡ ds
     is = cc
 
 pub move-rises : (m : Move) (cs ds : List Cont) → do_rise cs ≡ true → make_move cs m ≡ Some ds → do_rise ds ≡ true

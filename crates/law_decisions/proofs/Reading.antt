@@ -1,6 +1,6 @@
 -- What lines of bytes ask to define, texts spell.
 use Rattle.salt_ast.specs.Grammar.{Within}
-use Rattle.salt_ast.specs.Limits.{field_passed, height_passed, name_passed, passed_in_list, table_limit}
+use Rattle.salt_ast.specs.Limits.{height_passed, name_passed, passed_in_list, table_limit}
 use Rattle.salt_ast.specs.Lines.{IsLine, of_crash, of_go, of_go_all, of_net, of_program, of_session, of_show_bases, of_show_locks, of_table}
 use Rattle.salt_ast.specs.ProgramLimits.{body_passed, line_limit, part_passed, program_exprs, program_limit, program_passed}
 use Rattle.salt_ast.specs.declared.limit.LimitName.TheVariants as limit
@@ -83,8 +83,8 @@ body-few (Base parts) h = let most = few PARTS_MOST limit.Parts part_passed part
 
 program-few : (p : ProgramDef) → program_passed p ≡ None → length (parts_in p.body) < 2 ^ 32
 program-few p h =
-    let vars = passed_in_list VARIABLES_MOST limit.Variables field_passed p.vars in
-    let params = passed_in_list PARAMETERS_MOST limit.Parameters field_passed p.params in
+    let vars = passed_in_list VARIABLES_MOST limit.Variables (λ f. name_passed f.name) p.vars in
+    let params = passed_in_list PARAMETERS_MOST limit.Parameters (λ f. name_passed f.name) p.params in
     let rest = option_or vars (body_passed p.body) in
     body-few p.body (second-free vars (body_passed p.body) (second-free params rest (second-free (name_passed p.name) (option_or params rest) h)))
 

@@ -14,7 +14,7 @@ use Rattle.salt_model.specs.Trace.{Trace, from, start_of, ◌asks◌, ◌says◌
 use Rattle.salt_model.specs.Units.{program_of}
 use Rattle.salt_model.specs.declared.events.Event.{Event}
 use Rattle.salt_model.specs.declared.events.Event.TheVariants.{Did, Early, Ready, Released}
-use Rattle.salt_promise.specs.EarlyOpenings.{HidesHeldBack, held_back, is_part_held_back}
+use Rattle.salt_promise.specs.EarlyOpenings.{HidesHeldBack, held_back}
 use Rattle.salt_values.specs.Id.{has_id}
 use Rattle.salt_values.specs.declared.id.Id.{Id}
 use Rattle.std.proofs.Common.{inl, inr, sym, ◌∙◌}
@@ -68,13 +68,13 @@ part-hidden trace (Some b) h r = go (has_id b (held_back trace)) refl
     go true e = let x : true ≡ false = sym r ∙ h b e in cc
 
 chain-hidden : (trace : Trace) (chain : List Id) → AreUnreleased trace → list_all (λ u. is_program_released trace (program_of u trace)) chain ≡ true →
-    list_all (λ u. not (is_part_held_back trace u)) chain ≡ true
+    list_all (λ u. not (option_map_or (λ b. has_id b (held_back trace)) (program_of u trace) false)) chain ≡ true
 chain-hidden trace [] h r = refl
 chain-hidden trace (u ∷ us) h r = go (is_program_released trace (program_of u trace)) refl r (chain-hidden trace us h)
   where
     go : (t : Bool) → is_program_released trace (program_of u trace) ≡ t → (t && list_all (λ v. is_program_released trace (program_of v trace)) us) ≡ true →
-        (list_all (λ v. is_program_released trace (program_of v trace)) us ≡ true → list_all (λ v. not (is_part_held_back trace v)) us ≡ true) →
-        list_all (λ v. not (is_part_held_back trace v)) (u ∷ us) ≡ true
+        (list_all (λ v. is_program_released trace (program_of v trace)) us ≡ true → list_all (λ v. not (option_map_or (λ b. has_id b (held_back trace)) (program_of v trace) false)) us ≡ true) →
+        list_all (λ v. not (option_map_or (λ b. has_id b (held_back trace)) (program_of v trace) false)) (u ∷ us) ≡ true
     go true e g more = rw (part-hidden trace (program_of u trace) h e) (more g)
     go false e g more = cc
 

@@ -15,13 +15,14 @@ use Rattle.salt_ast.specs.declared.lines.Line.TheVariants.{Go, Program, Session,
 use Rattle.salt_ast.specs.declared.programs.Body.{Body}
 use Rattle.salt_ast.specs.declared.programs.Body.TheVariants.{Acid, Base}
 use Rattle.salt_ast.specs.declared.trees.Statement.{Statement}
+use Rattle.salt_model.specs.After.{kept}
 use Rattle.salt_model.specs.Kept.{block_of_kind, cont_of, kept_program}
 use Rattle.salt_model.specs.Locks.{clashing}
 use Rattle.salt_model.specs.Openings.{cuts_or_drains, drains, to_cut, unfinished}
 use Rattle.salt_model.specs.Programs.{named_early}
 use Rattle.salt_model.specs.Shown.{base_items, lock_items}
 use Rattle.salt_model.specs.Trace.{Trace}
-use Rattle.salt_model.specs.Turns.{act_event, after_began, after_did, after_end, asks_for, begins, calls, can_go, commits, does, does_next, fails, finishes, go, goes_on, is_at_end, kind_called, line_event, next_to_go, next_turn, settle_by, turn, turn_owed}
+use Rattle.salt_model.specs.Turns.{act_event, after_began, after_did, after_end, asks_for, begins, can_go, commits, does, does_next, fails, finishes, go, goes_on, is_at_end, kind_called, line_event, next_to_go, next_turn, settle_by, turn, turn_owed}
 use Rattle.salt_model.specs.Units.{done_of, is_waiting, open_units, program_unit}
 use Rattle.salt_model.specs.Waiting.{block_of}
 use Rattle.salt_model.specs.Words.{Every, is_empty}
@@ -97,7 +98,7 @@ module _ (s : UnitState) (trace : Trace) (keeps : KeepsUnits s trace) where
   kind-told t n args (Acid block) = refl
   kind-told t n args (Base parts) = ap (λ b. First t b n args) (base-name-kept s trace keeps)
 
-  calls-told : (t : ℕ) (n : List ℕ) (args : List Value) → calls trace t n args ≡ calls_in s t n args
+  calls-told : (t : ℕ) (n : List ℕ) (args : List Value) → option_map (λ p. begins trace (kind_called trace t n args p.body)) (kept_program n (kept trace)) ≡ calls_in s t n args
   calls-told t n args = λ i. option_map (λ p. Began (unit-name-kept s trace keeps i) (kind-told t n args p.body i)) (kept_program n (keeps.kept i))
 
   pub commits-told : (o : OpenUnit) → commits trace o.unit ≡ commits_in s o

@@ -14,7 +14,7 @@ use Rattle.salt_model.specs.Arming.{armed_behind, armed_by, armed_by_lines, stop
 use Rattle.salt_model.specs.Kept.{cont_of, kept_program}
 use Rattle.salt_model.specs.Locks.{clashing}
 use Rattle.salt_model.specs.Next.{flight, is_decision, next, said_event, serving_event}
-use Rattle.salt_model.specs.Openings.{after_opened, cuts_or_drains, drains, follow_opening, opening_event, stands_now, to_cut, unfinished}
+use Rattle.salt_model.specs.Openings.{after_opened, cuts_or_drains, drains, follow_opening, stands_now, to_cut, unfinished}
 use Rattle.salt_model.specs.Phases.{Fallen, Opening, Phase, Serving, phase}
 use Rattle.salt_model.specs.Played.{IsPlayed}
 use Rattle.salt_model.specs.Reads.{to_release}
@@ -147,7 +147,7 @@ module _ (line : Line) (trace : Trace) where
   by-follow_opening (Accepted b) = by-finishes b
   by-follow_opening e = tt
 
-  by-opening : (e : Event) → IfComes P (opening_event trace e)
+  by-opening : (e : Event) → IfComes P (option_or (follow_opening trace e) (cuts_or_drains trace (to_cut trace)))
   by-opening e = comes-option_or P (follow_opening trace e) (cuts_or_drains trace (to_cut trace)) (by-follow_opening e) (by-cuts (to_cut trace))
 
   by-said : (q : Phase) (e : Event) → IfComes P (said_event q trace e)

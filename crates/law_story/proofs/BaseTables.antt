@@ -19,7 +19,7 @@ use Rattle.salt_model.specs.Eval.{value_of}
 use Rattle.salt_model.specs.Kept.{Definition, Kept, block_of_kind, block_of_part, cont_of, kept_program, parts_of, program_of_definition, programs_of, schema_of, table_of_definition}
 use Rattle.salt_model.specs.Locks.{Taken, base_tables, is_base_table, is_of_table, names_table, numbers_from, taken_by, taken_in}
 use Rattle.salt_model.specs.Played.{IsPlayed}
-use Rattle.salt_model.specs.Reaches.{first_value, key_reached, no_row, range_of, reach, reach_in, reached, table_from, table_in, table_named}
+use Rattle.salt_model.specs.Reaches.{first_value, key_reached, no_row, range_of, reach, reach_in, reached, table_from, table_in}
 use Rattle.salt_model.specs.Trace.{Trace, from, line_of, start_of, ◌asks◌, ◌says◌, ◌turns◌}
 use Rattle.salt_model.specs.Units.{done_of, kind_of, program_of, program_of_kind}
 use Rattle.salt_model.specs.declared.events.Cause.{Cause}
@@ -194,15 +194,15 @@ reach-base : (k : Kept) (vars : List Binding) (st : Statement) (r : Reach) → (
 unfolding reach
 reach-base k vars st r f h = by (table_in st) refl h
   where
-    found : (name : List ℕ) → table_in st ≡ Some name → (o : Option (ℕ × TableDef)) → table_named name (schema_of k) ≡ o → option_and_then (λ (d : ℕ × TableDef). reach_in d.0 vars st) o ≡ Some r → In r.table (base_tables k)
+    found : (name : List ℕ) → table_in st ≡ Some name → (o : Option (ℕ × TableDef)) → table_from 0 name (schema_of k) ≡ o → option_and_then (λ (d : ℕ × TableDef). reach_in d.0 vars st) o ≡ Some r → In r.table (base_tables k)
     found name e None q g = cc
     found name e (Some x) q g =
         let same : is_of_table x.1.name st ≡ true = subst (λ o. elim o [ None ↦ false | Some m ↦ same_bytes m x.1.name ] ≡ true) (sym e) (from-name 0 name (schema_of k) x q) in
         subst (λ n. In n (base_tables k)) (in-table x.0 vars st r g) (from-numbers 0 name (is_base_table k) (schema_of k) x q (f x.1.name same))
 
-    by : (o : Option (List ℕ)) → table_in st ≡ o → option_and_then (λ (d : ℕ × TableDef). reach_in d.0 vars st) (option_and_then (λ name. table_named name (schema_of k)) o) ≡ Some r → In r.table (base_tables k)
+    by : (o : Option (List ℕ)) → table_in st ≡ o → option_and_then (λ (d : ℕ × TableDef). reach_in d.0 vars st) (option_and_then (λ name. table_from 0 name (schema_of k)) o) ≡ Some r → In r.table (base_tables k)
     by None e g = cc
-    by (Some name) e g = found name e (table_named name (schema_of k)) refl g
+    by (Some name) e g = found name e (table_from 0 name (schema_of k)) refl g
 
 -- at a place
 

@@ -13,7 +13,7 @@ use Rattle.salt_model.specs.Honest.{FitsEnd, cause_in}
 use Rattle.salt_model.specs.Kept.{cont_of, kept_program}
 use Rattle.salt_model.specs.Locks.{as_held, clashing, cover, family_of, is_holding, lock_of, taken_since, touches}
 use Rattle.salt_model.specs.Next.{serving_event}
-use Rattle.salt_model.specs.Openings.{cuts_or_drains, drains, follow_opening, opening_event, to_cut, unfinished}
+use Rattle.salt_model.specs.Openings.{cuts_or_drains, drains, follow_opening, to_cut, unfinished}
 use Rattle.salt_model.specs.Phases.{Opening, Serving, phase}
 use Rattle.salt_model.specs.Programs.{accepted_in}
 use Rattle.salt_model.specs.Reads.{to_release}
@@ -323,7 +323,7 @@ good-drains trace (Ended u end) s = good-end (trace says Ended u end) end (kind_
 good-drains trace (Accepted b) s = good-finishes (trace says Accepted b) b
 good-drains trace e s = tt
 
-pub good-opening : (trace : Trace) (e : Event) → phase (trace says e) ≡ Opening → Sole (trace says e) → IfSome (Good (trace says e)) (opening_event (trace says e) e)
+pub good-opening : (trace : Trace) (e : Event) → phase (trace says e) ≡ Opening → Sole (trace says e) → IfSome (Good (trace says e)) (option_or (follow_opening (trace says e) e) (cuts_or_drains (trace says e) (to_cut (trace says e))))
 good-opening trace e p s = some-option_or (Good (trace says e)) (follow_opening (trace says e) e) (cuts_or_drains (trace says e) (to_cut (trace says e))) (good-drains trace e s) (good-cuts (trace says e) p)
 
 not-busy : (trace : Trace) → is_busy trace ≡ false → open_units trace ≡ []

@@ -14,7 +14,7 @@ use Rattle.salt_model.specs.Continuing.{last_said, part_due, program_continued}
 use Rattle.salt_model.specs.Kept.{cont_in, cont_of, kept_program}
 use Rattle.salt_model.specs.Locks.{clashing, is_holding}
 use Rattle.salt_model.specs.Next.{decision_in, flight, next, said_event, serving_event}
-use Rattle.salt_model.specs.Openings.{cuts_or_drains, drains, follow_opening, opening_event, stands_now, to_cut, unfinished}
+use Rattle.salt_model.specs.Openings.{cuts_or_drains, drains, follow_opening, stands_now, to_cut, unfinished}
 use Rattle.salt_model.specs.Phases.{Fallen, Opening, Phase, Serving, phase}
 use Rattle.salt_model.specs.Programs.{accepted_in}
 use Rattle.salt_model.specs.Reads.{to_release}
@@ -389,7 +389,7 @@ serves-next trace s h = with-phase trace Serving (next trace) s (λ o. cc) (λ n
 
 fits-said : (trace : Trace) (e : Event) (p : Phase) → phase (trace says e) ≡ p → Drains (trace says e) → IfComes (Comes (trace says e)) (said_event p (trace says e) e)
 fits-said trace e Serving h d = with-phase (trace says e) Serving (serving_event (trace says e) e) h (λ o. cc) (λ n. fits-serving trace e h)
-fits-said trace e Opening h d = with-phase (trace says e) Opening (opening_event (trace says e) e) h (λ o. comes-option_or (FitsOpening (trace says e)) (follow_opening (trace says e) e) (cuts_or_drains (trace says e) (to_cut (trace says e))) (opens-follow trace e h d) (fits-cuts (trace says e) h (to_cut (trace says e)) refl)) (λ n. absurd (n refl))
+fits-said trace e Opening h d = with-phase (trace says e) Opening (option_or (follow_opening (trace says e) e) (cuts_or_drains (trace says e) (to_cut (trace says e)))) h (λ o. comes-option_or (FitsOpening (trace says e)) (follow_opening (trace says e) e) (cuts_or_drains (trace says e) (to_cut (trace says e))) (opens-follow trace e h d) (fits-cuts (trace says e) h (to_cut (trace says e)) refl)) (λ n. absurd (n refl))
 fits-said trace e Fallen h d = tt
 
 -- a flight is a definition, or the end of an open unit

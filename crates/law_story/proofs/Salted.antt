@@ -12,7 +12,7 @@ use Rattle.law_story.proofs.Unreleased.{whole-did}
 use Rattle.law_story.proofs.Upheld.{OfBoots, comes-at, holds, may-fit, may-open}
 use Rattle.salt_model.specs.Continuing.{last_said}
 use Rattle.salt_model.specs.Everywhere.{Each}
-use Rattle.salt_model.specs.Isolation.{IsChain, IsSalted, IsWhole, ReadsReleased, is_linked, is_program_released, read_by}
+use Rattle.salt_model.specs.Isolation.{IsChain, IsSalted, IsWhole, ReadsReleased, is_program_released, read_by}
 use Rattle.salt_model.specs.Next.{next, said_event}
 use Rattle.salt_model.specs.Phases.{Fallen, Opening, Phase, Serving, phase}
 use Rattle.salt_model.specs.Played.{IsPlayed}
@@ -34,7 +34,7 @@ use Rattle.salt_values.specs.declared.id.Id.{Id}
 use Rattle.std.proofs.Common.{ap, subst, sym, ◌∙◌}
 use Rattle.std.specs.List.{list_all}
 use Rattle.std.specs.Option.{option_or}
-use Rattle.std.specs.Prelude.{List, None, Option, Some, [], false, is_none, not, refl, true, ◌∷◌, ◌≡◌}
+use Rattle.std.specs.Prelude.{List, None, Option, Some, [], false, is_none, not, refl, true, ◌||◌, ◌∷◌, ◌≡◌}
 
 salty-start : (k : Start) → Salty (from k)
 salty-start k = record { written = λ w h. absurd h; reads = λ u v h. absurd h; closed = λ b c r h. absurd h }
@@ -82,7 +82,7 @@ good-same trace v (Some b) h g = by (program_of v trace) h
     by None e = cc
     by (Some c) e = subst (λ x. has_id x (released_in trace) ≡ true) (is_same_id-true b c e) g
 
-good-linked : (trace : Trace) (u v : Id) → Salty trace → is_linked trace u v ≡ true → Good trace u → Good trace v
+good-linked : (trace : Trace) (u v : Id) → Salty trace → (has_id v (read_by u trace) || option_map_or (λ b. is_of_program b trace v) (program_of u trace) false) ≡ true → Good trace u → Good trace v
 good-linked trace u v z h g = either (λ r. good-read trace (program_of u trace) (program_of v trace) z (z.reads u v (has-in v _ r)).fits g) (λ m. good-same trace v (program_of u trace) m g) (or_cases (has_id v (read_by u trace)) _ h)
 
 good-chain : (trace : Trace) (u : Id) (chain : List Id) → Salty trace → IsChain trace u chain → Good trace u → list_all (λ v. is_program_released trace (program_of v trace)) chain ≡ true

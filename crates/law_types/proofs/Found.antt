@@ -16,16 +16,16 @@ use Rattle.law_story.proofs.Every.{every-append, every-filter}
 use Rattle.law_story.proofs.Ids.{and_left, and_right}
 use Rattle.salt_model.specs.Kept.{Definition, Kept, OfProgram, OfTable, cont_in, nothing_kept}
 use Rattle.salt_model.specs.Tables.{Entry, Tables, changed_at, no_rows}
-use Rattle.salt_model.specs.Words.{Every}
+use Rattle.salt_model.specs.Words.{Every, and_then}
 use Rattle.salt_values.specs.Id.{has_id}
 use Rattle.salt_stands.specs.Coordinator.{Coordinator, Logs, are_sound, coordinator_at, coordinator_of, coordinator_pair, decided_for, define, definitions_read, device_of, is_sound_cont, is_sound_decision, judge_coordinator}
 use Rattle.salt_stands.specs.CoordinatorLog.{CoordinatorLog, Told}
-use Rattle.salt_stands.specs.OpenConts.{conts_of_move, end_of, go_to, is_accepted_before, is_not_of, make_move, move_on, moved, replace_cont}
+use Rattle.salt_stands.specs.OpenConts.{conts_of_move, go_to, is_accepted_before, is_not_of, make_move, move_on, moved, replace_cont}
 use Rattle.salt_stands.specs.Partition.{are_sound_rows, changes_if, decided_changes, is_sound_change, is_sound_log, is_sound_prepared, is_sound_to, judge_part, pages_device, part_at, part_device, part_pair, part_tables, rows_from, rows_of_pages}
 use Rattle.salt_stands.specs.PartitionLog.{PartitionLog, partition_generation, partition_in}
 use Rattle.salt_stands.specs.Stands.{Found, found_with, if_ok, stands_on, logs_of, nothing_found, parts_at, stands_of, with_parts}
 use Rattle.salt_stands.specs.Tables.{change_of_row, joined, put_entries}
-use Rattle.salt_stands.specs.Words.{each_from, if_sound, or_fault}
+use Rattle.salt_stands.specs.Words.{each_from}
 use Rattle.law_types.proofs.Defining.{program-defined, table-defined}
 use Rattle.law_types.proofs.Judged.{unmapped}
 use Rattle.law_types.proofs.Rows.{every-put, rows-changed}
@@ -38,7 +38,8 @@ use Rattle.salt_values.specs.declared.id.Id.{Id}
 use Rattle.salt_place.specs.declared.placement.Shape.{Shape}
 use Rattle.salt_values.specs.declared.value.Value.{Value}
 use Rattle.std.proofs.Common.{ap, subst}
-use Rattle.std.specs.List.{list_all}
+use Rattle.std.specs.List.{filter, list_all}
+use Rattle.std.specs.Option.{ok_or}
 use Rattle.std.specs.Prelude.{Bool, Err, List, None, Ok, Option, Result, Some, [], cond, false, is_some, map, nat_le, nat_lt, not, option_map, refl, suc, true, zero, ℕ, ⊤, ◌+◌, ◌++◌, ◌==◌, ◌∷◌, ◌≡◌}
 use Rattle.std.specs.Bool.{then_some}
 use Rattle.std.specs.Prelude.{option_and_then, slice_get}
@@ -57,11 +58,11 @@ map-some : {A B : Type 0} (f : A → B) (o : Option A) (y : B) → option_map f 
 map-some f None y h = absurd cc
 map-some f (Some x) y h = (x, refl, cc)
 
-no-fault : {A : Type 0} (dev : ℕ) (o : Option A) (x : A) → or_fault dev o ≡ Ok x → o ≡ Some x
+no-fault : {A : Type 0} (dev : ℕ) (o : Option A) (x : A) → ok_or o dev ≡ Ok x → o ≡ Some x
 no-fault dev None x h = absurd cc
 no-fault dev (Some y) x h = let same : y ≡ x = cc in ap Some same
 
-sound-ok : {A B : Type 0} (f : A → Result B ℕ) (r : Result A ℕ) (y : B) → if_sound f r ≡ Ok y → (x : A) × (r ≡ Ok x) × (f x ≡ Ok y)
+sound-ok : {A B : Type 0} (f : A → Result B ℕ) (r : Result A ℕ) (y : B) → and_then r f ≡ Ok y → (x : A) × (r ≡ Ok x) × (f x ≡ Ok y)
 sound-ok f (Err dev) y h = absurd cc
 sound-ok f (Ok x) y h = (x, refl, h)
 
@@ -158,7 +159,7 @@ module _ (read : List ℕ → Option Definition) (c : Coordinator Definition) wh
   judged-fits p pages BothBlank tables keyed h = absurd cc
   judged-fits p pages (Faulty which) tables keyed h = absurd cc
   judged-fits p pages (Counts which log) tables keyed h =
-      let r = sound-ok _ (or_fault (device_of (part_device p) which) (then_some (is_sound_log (definitions_reading read) c p log) log)) tables h in
+      let r = sound-ok _ (ok_or (then_some (is_sound_log (definitions_reading read) c p log) log) (device_of (part_device p) which)) tables h in
       let g = given-some (is_sound_log (definitions_reading read) c p log) log r.0 (no-fault (device_of (part_device p) which) _ r.0 r.1) in
       let m = map-some (part_tables (decided_for p c.log.told.decided) r.0) (rows_of_pages (definitions_reading read) c p r.0 pages) tables (no-fault (pages_device p) _ tables r.2) in
       let prepared = subst (λ (l : PartitionLog). Every (λ (x : Prepared). AreChangesOf schema x.changes) l.prepared) g.1 (log-fits p log keyed g.0) in
@@ -245,7 +246,7 @@ module _ (read : List ℕ → Option Definition) (keys : (text : List ℕ) (d : 
     goes-to c None cs h all = all-given (list_all (is_accepted_before c) cs) (cs ++ c ∷ []) (every-append Fits cs (c ∷ []) all (h, tt))
     goes-to c (Some d) cs h all = all-given (c.accepted == d.accepted) (replace_cont c cs) (replaced c cs h all)
 
-    ends : (b : Id) (o : Option Cont) (cs : List Cont) → Every Fits cs → AllFit (end_of b o cs)
+    ends : (b : Id) (o : Option Cont) (cs : List Cont) → Every Fits cs → AllFit (option_map (λ d. filter (is_not_of b) cs) o)
     ends b None cs all = tt
     ends b (Some d) cs all = every-filter Fits (is_not_of b) cs all
 

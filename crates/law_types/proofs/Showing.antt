@@ -9,7 +9,7 @@ use Rattle.salt_model.specs.Kept.{cont_of, kept_program}
 use Rattle.salt_model.specs.After.{kept}
 use Rattle.salt_model.specs.Locks.{clashing}
 use Rattle.salt_model.specs.Next.{decision_in, flight, is_decision, next, said_event, serving_event}
-use Rattle.salt_model.specs.Openings.{after_opened, cuts_or_drains, drains, follow_opening, opening_event, stands_now, to_cut, unfinished}
+use Rattle.salt_model.specs.Openings.{after_opened, cuts_or_drains, drains, follow_opening, stands_now, to_cut, unfinished}
 use Rattle.salt_model.specs.Phases.{Fallen, Opening, Phase, Serving, phase}
 use Rattle.salt_model.specs.Reads.{to_release}
 use Rattle.salt_model.specs.Refusals.{refusal}
@@ -33,6 +33,7 @@ use Rattle.salt_values.specs.declared.cont.Cont.{Cont}
 use Rattle.salt_values.specs.declared.id.Id.{Id}
 use Rattle.std.proofs.Common.{inl, inr}
 use Rattle.std.specs.Bool.{then_some}
+use Rattle.std.specs.Option.{option_or}
 use Rattle.std.specs.Prelude.{Bool, List, None, Option, Some, [], false, is_none, option_map, refl, true, ℕ, ⊤, ◌==◌, ◌∷◌, ◌≡◌, ◌⊎◌, option_and_then}
 
 abbrev pub IsShownBy : Trace → Event → Type 0
@@ -150,7 +151,7 @@ module _ (trace : Trace) where
   by-follow_opening (Accepted b) = by-finishes b
   by-follow_opening e = tt
 
-  by-opening : (e : Event) → IfComes P (opening_event trace e)
+  by-opening : (e : Event) → IfComes P (option_or (follow_opening trace e) (cuts_or_drains trace (to_cut trace)))
   by-opening e = comes-option_or P (follow_opening trace e) (cuts_or_drains trace (to_cut trace)) (by-follow_opening e) (by-cuts (to_cut trace))
 
   by-said : (q : Phase) (e : Event) → IfComes P (said_event q trace e)

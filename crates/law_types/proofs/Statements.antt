@@ -1,5 +1,5 @@
 -- A statement that is judged makes changes that fit, and leaves variables of their types.
-use Rattle.salt_ast.specs.Judgement.{are_row, bindings, columns_of, field_named, gives_type, is_key, is_nullable, is_typed_set, is_typed_statement, key_type, same_types, takes, takes_in, type_named, value_type, values}
+use Rattle.salt_ast.specs.Judgement.{are_row, bindings, columns_of, field_named, gives_type, is_key, is_nullable, is_typed_set, is_typed_statement, key_type, same_types, takes, type_named, value_type, values}
 use Rattle.salt_ast.specs.ProgramJudgement.{are_arguments}
 use Rattle.salt_ast.specs.declared.trees.ColType.{ColType}
 use Rattle.salt_ast.specs.declared.trees.Expr.{Expr}
@@ -9,12 +9,12 @@ use Rattle.salt_ast.specs.declared.trees.Set.{Set}
 use Rattle.salt_ast.specs.declared.trees.Statement.TheVariants.{Delete, Ensure, Insert, Select, SelectInto, Update}
 use Rattle.salt_ast.specs.declared.trees.Statement.{Statement}
 use Rattle.salt_ast.specs.declared.trees.TableDef.{TableDef}
-use Rattle.salt_stands.specs.Fitting.{are_of_columns, is_key_of, is_of_column, is_row_of, passes_checks}
+use Rattle.salt_stands.specs.Fitting.{are_of_columns, is_key_of, is_of_column, is_row_of}
 use Rattle.law_story.proofs.Every.{IfOk, IfSome, every-collect, every-filter, every-passes, ok-map}
 use Rattle.law_story.proofs.Ids.{and_left, and_right}
 use Rattle.law_story.proofs.Lists.{not-true}
 use Rattle.salt_model.specs.Eval.{holds, known, named_values, passes, value_named, value_of, values_of}
-use Rattle.salt_model.specs.Reaches.{first_value, in_row, key_reached, no_row, range_of, reach, reach_in, reached, table_for, table_in, table_named}
+use Rattle.salt_model.specs.Reaches.{first_value, in_row, key_reached, no_row, range_of, reach, reach_in, reached, table_for, table_from, table_in}
 use Rattle.salt_model.specs.Statements.{Done, answering, changing, checked, collect, column_of, do_at, do_in, done, inserted, on_match, outcome_of, removed, seen, set_field, shown, stored, updated, with_sets}
 use Rattle.salt_model.specs.Tables.{Entry, Tables, is_within, place, rows_in}
 use Rattle.salt_model.specs.Words.{Every, and_then}
@@ -38,6 +38,7 @@ use Rattle.salt_values.specs.declared.value.Value.{Value}
 use Rattle.std.proofs.Common.{ap, subst, sym, ◌∙◌}
 use Rattle.std.proofs.lemmas.Bool.{eqb-true}
 use Rattle.std.specs.List.{list_all}
+use Rattle.std.specs.Option.{option_map_or}
 use Rattle.std.specs.Prelude.{Bool, Err, List, None, Ok, Option, Result, Some, [], cond, false, is_ok, not, option_and_then, option_map, pos, refl, true, unwrap_or, ℕ, ◌&&◌, ◌==◌, ◌||◌, ◌∷◌, ◌≡◌}
 use Rattle.std.specs.Prelude.{slice_get}
 
@@ -144,7 +145,7 @@ module _ (schema : List TableDef) (scope : Scope) (apart : AreApart (bindings sc
     cells : (e : Entry) → IsOwn schema t e → are_of_columns def.columns e.1 ≡ true
     cells e is = and_left (are_of_columns def.columns e.1) _ (sym (ap (λ (o : Option TableDef). is_row_of o e.1) (at-table e.0 is.1)) ∙ is.0.fits)
 
-    row-fits : (p : Place) (row : List Value) → p.table ≡ t → p.key ≡ key_of row → are_of_columns def.columns row ≡ true → passes_checks def row ≡ true → IsRowAt schema p row
+    row-fits : (p : Place) (row : List Value) → p.table ≡ t → p.key ≡ key_of row → are_of_columns def.columns row ≡ true → is_ok (checked (in_row def row []) def.checks) ≡ true → IsRowAt schema p row
     row-fits p row same key typed meets = record {
       fits = ap (λ (o : Option TableDef). is_row_of o row) (at-table p same) ∙ both (are_of_columns def.columns row) _ typed meets;
       key = key;
@@ -186,7 +187,7 @@ module _ (schema : List TableDef) (scope : Scope) (apart : AreApart (bindings sc
         other : is_key def.columns s.column ≡ false
         other = not-true _ (and_left _ _ first)
 
-        by : (o : Option Field) → field_named def.columns s.column ≡ o → takes_in def.columns fields o s.value ≡ true →
+        by : (o : Option Field) → field_named def.columns s.column ≡ o → option_map_or (λ f. takes def.columns fields f s.value) o false ≡ true →
             ((old : List Value) → are_of_columns def.columns old ≡ true → IfOk (IsMade old) (with_sets def (in_row def e.1 vars) sets old)) →
             IfOk (IsMade row) (and_then (value_of (in_row def e.1 vars) s.value) (λ v. with_sets def (in_row def e.1 vars) sets (set_field def.columns s.column v row)))
         by None q g more = absurd cc
@@ -270,7 +271,7 @@ module _ (schema : List TableDef) (scope : Scope) (apart : AreApart (bindings sc
     looked-up : (st : Statement) (d : ℕ × TableDef) → table_for schema st ≡ Some d → (slice_get schema d.0 ≡ Some d.1) × IsProperTable d.1 × IfSome (λ name. columns_of schema name ≡ d.1.columns) (table_in st)
     looked-up st d e = by (table_in st) e
       where
-        by : (o : Option (List ℕ)) → option_and_then (λ name. table_named name schema) o ≡ Some d →
+        by : (o : Option (List ℕ)) → option_and_then (λ name. table_from 0 name schema) o ≡ Some d →
             (slice_get schema d.0 ≡ Some d.1) × IsProperTable d.1 × IfSome (λ name. columns_of schema name ≡ d.1.columns) o
         by None g = absurd cc
         by (Some name) g = let f = found schema name d g in (f.place, every-of IsProperTable d.1 schema each f.one, f.columns)

@@ -14,7 +14,7 @@ use Rattle.salt_model.specs.Statements.{UnitRun}
 use Rattle.salt_model.specs.Kept.{Kept, WellKept, schema_of, table_of_definition}
 use Rattle.salt_model.specs.Locks.{base_tables, cover_lock, cover_of, held, is_base_table, numbers_from}
 use Rattle.salt_model.specs.Played.{IsPlayed}
-use Rattle.salt_model.specs.Reaches.{first_value, key_reached, no_row, range_of, reach, reach_in, reached, table_for, table_from, table_in, table_named}
+use Rattle.salt_model.specs.Reaches.{first_value, key_reached, no_row, range_of, reach, reach_in, reached, table_for, table_from, table_in}
 use Rattle.salt_model.specs.Trace.{Trace, from, line_of, start_of, ◌asks◌, ◌says◌, ◌turns◌}
 use Rattle.salt_model.specs.Units.{kind_of}
 use Rattle.salt_model.specs.Words.{first_of_list}
@@ -78,7 +78,7 @@ in-table t vars (Ensure e) r h = cc
 table-within : (schema : List TableDef) (st : Statement) (x : ℕ × TableDef) → table_for schema st ≡ Some x → x.0 < length schema
 table-within schema st x h = by (table_in st) h
   where
-    by : (o : Option (List ℕ)) → option_and_then (λ name. table_named name schema) o ≡ Some x → x.0 < length schema
+    by : (o : Option (List ℕ)) → option_and_then (λ name. table_from 0 name schema) o ≡ Some x → x.0 < length schema
     by None h = cc
     by (Some name) h = let w = from-within 0 name schema x h in omega arith
 

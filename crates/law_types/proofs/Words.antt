@@ -5,7 +5,7 @@ use Rattle.salt_ast.specs.declared.trees.ColType.{ColType}
 use Rattle.salt_ast.specs.declared.trees.TableDef.{TableDef}
 use Rattle.law_story.proofs.Every.{IfOk}
 use Rattle.law_story.proofs.Lists.{In}
-use Rattle.salt_model.specs.Reaches.{table_from, table_named}
+use Rattle.salt_model.specs.Reaches.{table_from}
 use Rattle.salt_model.specs.Words.{Every, and_then}
 use Rattle.salt_model.specs.declared.events.Cause.{Cause}
 use Rattle.salt_tokens.specs.Spelling.{same_bytes}
@@ -59,7 +59,7 @@ found-from m name (e ∷ schema) d h = by (same_bytes name e.name) refl h (found
         let number : d.0 ≡ (m + 1) + rest.0 = rest.1 in
         (suc rest.0, omega arith, record { place = rest.2.place; columns = rw same rest.2.columns; one = inr rest.2.one })
 
-pub found : (schema : List TableDef) (name : List ℕ) (d : ℕ × TableDef) → table_named name schema ≡ Some d → IsFound schema name d.0 d.1
+pub found : (schema : List TableDef) (name : List ℕ) (d : ℕ × TableDef) → table_from 0 name schema ≡ Some d → IsFound schema name d.0 d.1
 found schema name d h =
     let f = found-from 0 name schema d h in
     let number : d.0 ≡ 0 + f.0 = f.1 in

@@ -3,7 +3,7 @@ use Rattle.salt_ast.proofs.Each.{Each, each_of_append}
 use Rattle.salt_ast.proofs.Fragments.{IsFragment, IsNameWord, IsReadAs, Stops, behind, behind_space, closed, colon_before, minus_before, name_fragment, number_fragment, open_before, regrouped, space_before, space_stops, spaced_sign, spaced_word, text_fragment, word_fragment}
 use Rattle.salt_ast.proofs.TokenRows.{HasToken}
 use Rattle.salt_ast.specs.TokenLaws.{TokenLaws}
-use Rattle.salt_ast.specs.Grammar.{Atom, Conjunction, Expression, Left, Negation, Nots, Once, Product, Spells, Sum, Within, alone, colon as colon_name, is_not_null, is_null, literal, minus_int, more, named, not, one, pair, paren, plain, plus_int}
+use Rattle.salt_ast.specs.Grammar.{Atom, Conjunction, Expression, Left, Nots, Once, Spells, Sum, Within, alone, colon as colon_name, is_not_null, is_null, literal, minus_int, more, named, not, one, pair, paren, plain, plus_int}
 use Rattle.salt_ast.specs.Limits.{height}
 use Rattle.salt_ast.specs.Operators.{op_text}
 use Rattle.salt_ast.specs.Texts.{expr_text, null_test_text}
@@ -29,13 +29,13 @@ AreRead Form = (ts : Symbols) (e : Expr) → Form ts e → Each HasToken ts → 
 -- ---- the levels of an atom
 
 module _ {Inner : Spells} {ts : Symbols} {e : Expr} (a : Atom Inner ts e) where
-  as_product : Product Inner ts e
+  as_product : (Left 5 (Atom Inner)) ts e
   as_product = one a
 
   pub as_sum : Sum Inner ts e
   as_sum = one as_product
 
-  as_negation : Negation Inner ts e
+  as_negation : (Nots (Once 3 (Sum Inner))) ts e
   as_negation = plain (alone as_sum)
 
   pub as_conjunction : Conjunction Inner ts e

@@ -1,11 +1,12 @@
 -- Which rows of symbols spell which expression.
 use Rattle.salt_ast.specs.Operators.{operator, precedence}
-use Rattle.salt_ast.specs.Trees.{letters, negation, null_test, number, operation}
-use Rattle.salt_ast.specs.declared.trees.Expr.{Column, Expr, Variable}
+use Rattle.salt_ast.specs.Trees.{negation, null_test, number, operation}
+use Rattle.salt_ast.specs.declared.trees.Expr.{Column, Expr, Lit, Variable}
 use Rattle.salt_ast.specs.declared.trees.Op.{Op}
 use Rattle.salt_tokens.specs.Symbols.{Symbols, Symbol, int, key, name, sign, text}
 use Rattle.salt_tokens.specs.declared.keyword.Keyword.TheVariants as word
 use Rattle.salt_tokens.specs.declared.sign.Sign.TheVariants as mark
+use Rattle.salt_values.specs.declared.value.Value.TheVariants as value
 use Rattle.std.specs.Prelude.{List, Some, [], false, neg_ℤ, pos, suc, true, zero, ℕ, ◌++◌, ◌∷◌, ◌≡◌}
 
 -- what spells what
@@ -37,27 +38,18 @@ pub data Nots (Operand : Symbols → Expr → Type 0) : Symbols → Expr → Typ
 pub data Atom (Inner : Symbols → Expr → Type 0) : Symbols → Expr → Type 0 where
   plus_int : {n : ℕ} → Atom Inner (int n ∷ []) (number (pos n))
   minus_int : {n : ℕ} → Atom Inner (sign mark.Minus ∷ int n ∷ []) (number (neg_ℤ (pos n)))
-  literal : {t : List ℕ} → Atom Inner (text t ∷ []) (letters t)
+  literal : {t : List ℕ} → Atom Inner (text t ∷ []) (Lit (value.Text t))
   named : {n : List ℕ} → Atom Inner (name n ∷ []) (Column n)
   colon : {n : List ℕ} → Atom Inner (sign mark.Colon ∷ name n ∷ []) (Variable n)
   paren : {ts : Symbols} {e : Expr} → Inner ts e → Atom Inner (sign mark.Open ∷ (ts ++ sign mark.Close ∷ [])) e
 
 -- The forms of expressions, from the tightest on, given what stands in their parentheses.
 
-abbrev pub Product : Spells → Spells
-Product Inner = Left 5 (Atom Inner)
-
 abbrev pub Sum : Spells → Spells
-Sum Inner = Left 4 (Product Inner)
-
-abbrev pub Comparison : Spells → Spells
-Comparison Inner = Once 3 (Sum Inner)
-
-abbrev pub Negation : Spells → Spells
-Negation Inner = Nots (Comparison Inner)
+Sum Inner = Left 4 (Left 5 (Atom Inner))
 
 abbrev pub Conjunction : Spells → Spells
-Conjunction Inner = Left 2 (Negation Inner)
+Conjunction Inner = Left 2 (Nots (Once 3 (Sum Inner)))
 
 abbrev pub Expression : Spells → Spells
 Expression Inner = Left 1 (Conjunction Inner)

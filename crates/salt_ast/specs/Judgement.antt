@@ -227,10 +227,6 @@ abbrev pub takes : (columns variables : List Field) → Field → Expr → Bool
 takes columns variables f e =
     (f.nullable || not (may_be_null columns e)) && (is_null_literal e || gives_type columns variables (Some f.kind) e)
 
-abbrev pub takes_in : (columns variables : List Field) → Option Field → Expr → Bool
-takes_in columns variables None e = false
-takes_in columns variables (Some f) e = takes columns variables f e
-
 -- what each column takes
 abbrev pub are_row : (columns variables : List Field) → List Expr → Bool
 are_row [] variables [] = true
@@ -252,7 +248,7 @@ is_typed_scan columns variables scan =
 -- no set is of the key
 abbrev pub is_typed_set : (columns variables : List Field) → Set → Bool
 is_typed_set columns variables set =
-    not (is_key columns set.column) && takes_in columns variables (field_named columns set.column) set.value
+    not (is_key columns set.column) && option_map_or (λ f. takes columns variables f set.value) (field_named columns set.column) false
 
 abbrev pub same_types : Option ColType → Option ColType → Bool
 same_types (Some a) (Some b) = is_same_type a b

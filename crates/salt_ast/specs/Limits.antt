@@ -9,7 +9,6 @@ use Rattle.salt_ast.specs.declared.limit.LimitName.TheVariants as limit
 use Rattle.salt_ast.specs.declared.trees.Bound.{Bound}
 use Rattle.salt_ast.specs.declared.trees.Bound.TheVariants as bound
 use Rattle.salt_ast.specs.declared.trees.Expr.{Binary', Column, Expr, IsNull', Lit, Not', Variable, end_of-Expr, more_of-Expr}
-use Rattle.salt_ast.specs.declared.trees.Field.{Field}
 use Rattle.salt_ast.specs.declared.trees.Scan.{Scan}
 use Rattle.salt_ast.specs.declared.trees.Set.{Set}
 use Rattle.salt_ast.specs.declared.trees.Statement.{Statement}
@@ -102,13 +101,10 @@ statement_passed (statement.Update table sets scan) = option_or (name_passed tab
 statement_passed (statement.Delete table scan) = option_or (name_passed table) (scan_passed scan)
 statement_passed (statement.Ensure e) = expr_passed e
 
-abbrev pub field_passed : Field → Option LimitName
-field_passed f = name_passed f.name
-
 abbrev pub table_passed : TableDef → Option LimitName
 table_passed d =
     option_or (name_passed d.name)
-    (option_or (passed_in_list COLUMNS_MOST limit.Columns field_passed d.columns) (passed_in_list CHECKS_MOST limit.Checks expr_passed d.checks))
+    (option_or (passed_in_list COLUMNS_MOST limit.Columns (λ f. name_passed f.name) d.columns) (passed_in_list CHECKS_MOST limit.Checks expr_passed d.checks))
 
 -- The depth, which comes after all other limits of a text.
 

@@ -1,7 +1,7 @@
 -- Limits of programs and lines, and the first that a tree's text passes.
 use Rattle.salt_values.specs.declared.limits.TheConstants.{CRASH_MOST, PAIRS_MOST, PARAMETERS_MOST, PARTS_MOST}
 use Rattle.salt_values.specs.declared.limits.TheConstants.{PICK_MOST, RETRY_MOST, SESSION_MOST, STATEMENTS_MOST, TURN_MOST, TWIST_MOST, VARIABLES_MOST}
-use Rattle.salt_ast.specs.Limits.{above, field_passed, height_passed, name_passed, passed_in_list, statement_passed, table_passed, value_passed}
+use Rattle.salt_ast.specs.Limits.{above, height_passed, name_passed, passed_in_list, statement_passed, table_passed, value_passed}
 use Rattle.salt_ast.specs.Paths.{body_statements}
 use Rattle.salt_ast.specs.Trees.{statement_exprs}
 use Rattle.salt_ast.specs.Words.{first_in}
@@ -20,7 +20,6 @@ use Rattle.salt_ast.specs.declared.programs.Next.TheVariants as next
 use Rattle.salt_ast.specs.declared.programs.PartDef.{PartDef}
 use Rattle.salt_ast.specs.declared.programs.ProgramDef.{ProgramDef}
 use Rattle.salt_ast.specs.declared.trees.Expr.{Expr}
-use Rattle.salt_ast.specs.declared.trees.Statement.{Statement}
 use Rattle.std.specs.Prelude.{List, None, Option, [], flat_map, nat_lt, ℕ, ◌-◌, ◌^◌, ◌||◌, option_and_then}
 
 -- the limit that a number below `least` or above `most` passes
@@ -33,31 +32,25 @@ number_passed n = above (2 ^ 63 - 1) limit.Number n
 
 -- The first limit that is passed in the order of the text, but for the depth.
 
-abbrev pub block_passed : List Statement → Option LimitName
-block_passed block = passed_in_list STATEMENTS_MOST limit.Statements statement_passed block
-
 abbrev pub next_passed : Next → Option LimitName
 next_passed (next.Part k) = number_passed k
 next_passed next.End = None
 
-abbrev pub retry_passed : ℕ → Option LimitName
-retry_passed n = outside 1 RETRY_MOST limit.Retry n
-
 abbrev pub part_passed : PartDef → Option LimitName
 part_passed p =
-    option_or (block_passed p.block)
+    option_or (passed_in_list STATEMENTS_MOST limit.Statements statement_passed p.block)
     (option_or (option_and_then next_passed p.then)
-    (option_or (option_and_then retry_passed p.retry) (option_and_then next_passed p.on_failure)))
+    (option_or (option_and_then (outside 1 RETRY_MOST limit.Retry) p.retry) (option_and_then next_passed p.on_failure)))
 
 abbrev pub body_passed : Body → Option LimitName
-body_passed (body.Acid block) = block_passed block
+body_passed (body.Acid block) = passed_in_list STATEMENTS_MOST limit.Statements statement_passed block
 body_passed (body.Base parts) = passed_in_list PARTS_MOST limit.Parts part_passed parts
 
 abbrev pub program_passed : ProgramDef → Option LimitName
 program_passed p =
     option_or (name_passed p.name)
-    (option_or (passed_in_list PARAMETERS_MOST limit.Parameters field_passed p.params)
-    (option_or (passed_in_list VARIABLES_MOST limit.Variables field_passed p.vars) (body_passed p.body)))
+    (option_or (passed_in_list PARAMETERS_MOST limit.Parameters (λ f. name_passed f.name) p.params)
+    (option_or (passed_in_list VARIABLES_MOST limit.Variables (λ f. name_passed f.name) p.vars) (body_passed p.body)))
 
 abbrev pub act_passed : Act → Option LimitName
 act_passed (act.Call program args) = option_or (name_passed program) (first_in value_passed args)

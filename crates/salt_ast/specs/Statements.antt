@@ -1,8 +1,7 @@
 -- Which rows of symbols spell which statement.
 use Rattle.salt_ast.specs.Grammar.{Conjunction, Expression, Sum}
-use Rattle.salt_ast.specs.Trees.{null}
 use Rattle.salt_ast.specs.declared.trees.Bound.TheVariants as bound
-use Rattle.salt_ast.specs.declared.trees.Expr.{Expr}
+use Rattle.salt_ast.specs.declared.trees.Expr.{Expr, Lit}
 use Rattle.salt_ast.specs.declared.trees.Scan.{Scan}
 use Rattle.salt_ast.specs.declared.trees.Set.{Set}
 use Rattle.salt_ast.specs.declared.trees.Statement.{Statement}
@@ -13,6 +12,7 @@ use Rattle.salt_tokens.specs.Symbols.{Symbols, key, name, sign}
 use Rattle.salt_tokens.specs.declared.keyword.Keyword.TheVariants as word
 use Rattle.salt_tokens.specs.declared.sign.Sign.{Sign}
 use Rattle.salt_tokens.specs.declared.sign.Sign.TheVariants as mark
+use Rattle.salt_values.specs.declared.value.Value.TheVariants as value
 use Rattle.std.specs.Prelude.{List, None, Option, Some, [], ℕ, ◌++◌, ◌∷◌}
 
 -- {separator Item}
@@ -40,7 +40,7 @@ pub data IsName : Symbols → List ℕ → Type 0 where
 -- what a column takes: an expression, or "null"
 pub data ColumnValue (Inner : Symbols → Expr → Type 0) : Symbols → Expr → Type 0 where
   is_expression : {ts : Symbols} {e : Expr} → Expression Inner ts e → ColumnValue Inner ts e
-  is_null : ColumnValue Inner (key word.Null ∷ []) null
+  is_null : ColumnValue Inner (key word.Null ∷ []) (Lit value.Null)
 
 -- NAME "=" what it takes
 pub data IsSet (Inner : Symbols → Expr → Type 0) : Symbols → Set → Type 0 where

@@ -5,7 +5,7 @@ use Rattle.salt_audit.specs.Replaying.{answers_on, done_under}
 use Rattle.law_states.specs.Overlays.{AreInOrder, Edit, over, put_all, row_edited, with_edits}
 use Rattle.law_story.proofs.Places.{row_at-set}
 use Rattle.salt_model.specs.Statements.{UnitRun, has_failed, run_on, serial, with_done}
-use Rattle.salt_model.specs.Tables.{Edits, Tables, changed_at, make_change, no_edits, place_cmp, place_total, row_at, with_changes}
+use Rattle.salt_model.specs.Tables.{Edits, Tables, changed_at, make_change, place_cmp, place_total, row_at, with_changes}
 use Rattle.salt_model.specs.declared.events.Answer.{Answer}
 use Rattle.salt_model.specs.declared.locks.Reach.{Reach}
 use Rattle.salt_model.specs.declared.places.Place.{Place}
@@ -62,4 +62,4 @@ module _ (laws : OfEdits) (es : Tables) where
       by false more = more
 
   pub serial_answers : (schema : List TableDef) (vars : List Binding) (sts : List Statement) → answers_on schema es [] vars sts ≡ (serial schema es vars sts).answers
-  serial_answers schema vars sts = sym (answers_are schema sts [] [] vars no_edits [] tt)
+  serial_answers schema vars sts = sym (answers_are schema sts [] [] vars (record { list = []; sorted = tt }) [] tt)

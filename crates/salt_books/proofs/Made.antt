@@ -1,11 +1,11 @@
 -- A move that continuations allow, by its kind.
 use Rattle.salt_cont.specs.Move.TheVariants.{Continue, Finish}
 use Rattle.salt_model.specs.Kept.{cont_in}
-use Rattle.salt_stands.specs.OpenConts.{end_of, go_to, is_accepted_before, make_move, replace_cont, without_cont}
+use Rattle.salt_stands.specs.OpenConts.{go_to, is_accepted_before, is_not_of, make_move, replace_cont}
 use Rattle.salt_values.specs.declared.cont.Cont.{Cont}
 use Rattle.salt_values.specs.declared.id.Id.{Id}
-use Rattle.std.specs.List.{list_all}
-use Rattle.std.specs.Prelude.{Bool, List, None, Option, Some, [], false, is_some, true, ◌++◌, ◌==◌, ◌∷◌, ◌≡◌}
+use Rattle.std.specs.List.{filter, list_all}
+use Rattle.std.specs.Prelude.{Bool, List, None, Option, Some, [], false, is_some, option_map, true, ◌++◌, ◌==◌, ◌∷◌, ◌≡◌}
 use Rattle.std.specs.Bool.{then_some}
 
 allowed : (t : Bool) (x y : List Cont) → then_some t x ≡ Some y → x ≡ y
@@ -28,9 +28,9 @@ added c cs ds none e = by (cont_in c.base cs) none e
     by None h f = allowed (list_all (is_accepted_before c) cs) (cs ++ c ∷ []) ds f
     by (Some d) h f = absurd cc
 
-pub finished : (b : Id) (cs ds : List Cont) → make_move cs (Finish b) ≡ Some ds → without_cont b cs ≡ ds
+pub finished : (b : Id) (cs ds : List Cont) → make_move cs (Finish b) ≡ Some ds → filter (is_not_of b) cs ≡ ds
 finished b cs ds e = by (cont_in b cs) e
   where
-    by : (o : Option Cont) → end_of b o cs ≡ Some ds → without_cont b cs ≡ ds
+    by : (o : Option Cont) → option_map (λ d. filter (is_not_of b) cs) o ≡ Some ds → filter (is_not_of b) cs ≡ ds
     by None f = absurd cc
     by (Some d) f = cc

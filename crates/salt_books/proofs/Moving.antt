@@ -16,7 +16,7 @@ use Rattle.salt_model.specs.Words.{Every}
 use Rattle.salt_model.specs.declared.events.UnitKind.TheVariants.{Later}
 use Rattle.salt_model.specs.declared.vars.Binding.{Binding}
 use Rattle.salt_stands.proofs.Booleans.{all_weaker, join, left, right}
-use Rattle.salt_stands.specs.OpenConts.{do_rise, end_of, go_to, is_accepted_before, is_later_than, is_not_of, make_move, replace_cont, without_cont}
+use Rattle.salt_stands.specs.OpenConts.{do_rise, go_to, is_accepted_before, is_later_than, is_not_of, make_move, replace_cont}
 use Rattle.salt_values.specs.Id.{is_same_id}
 use Rattle.salt_values.specs.declared.cont.Cont.{Cont}
 use Rattle.salt_values.specs.declared.id.Id.{Id}
@@ -24,7 +24,7 @@ use Rattle.salt_values.specs.declared.value.Value.{Value}
 use Rattle.std.proofs.Common.{ap, arith, subst, sym, ◌∙◌}
 use Rattle.std.proofs.lemmas.Bool.Decides.{Decides-eqb, nat_tests}
 use Rattle.std.specs.List.{filter, list_all}
-use Rattle.std.specs.Prelude.{Bool, List, None, Option, Some, [], cond, false, if◌then◌else◌, nat_lt, not, option_and_then, refl, true, ℕ, ◌+◌, ◌++◌, ◌∷◌, ◌≡◌, ◌≤◌}
+use Rattle.std.specs.Prelude.{Bool, List, None, Option, Some, [], cond, false, if◌then◌else◌, nat_lt, not, option_and_then, option_map, refl, true, ℕ, ◌++◌, ◌+◌, ◌∷◌, ◌≡◌, ◌≤◌}
 use Rattle.std.specs.Bool.{then_some}
 
 -- WHERE NONE, OR ONE, IS OF THE PROGRAM
@@ -39,7 +39,7 @@ apart_replaced c (d ∷ ds) e =
     ap (λ b. (if b then c else d) ∷ replace_cont c ds) (from_not (is_same_id c.base d.base) (left (is_not_of c.base d) (list_all (is_not_of c.base) ds) e))
     ∙ ap (λ l. d ∷ l) (apart_replaced c ds (right (is_not_of c.base d) (list_all (is_not_of c.base) ds) e))
 
-apart_left : (b : Id) (ds : List Cont) → list_all (is_not_of b) ds ≡ true → without_cont b ds ≡ ds
+apart_left : (b : Id) (ds : List Cont) → list_all (is_not_of b) ds ≡ true → filter (is_not_of b) ds ≡ ds
 apart_left b [] e = refl
 apart_left b (d ∷ ds) e =
     ap (λ t. cond t (d ∷ filter (is_not_of b) ds) (filter (is_not_of b) ds)) (left (is_not_of b d) (list_all (is_not_of b) ds) e)
@@ -60,11 +60,11 @@ changed_one c (d ∷ ds) rise = by (is_same_id c.base d.base) refl (changed_one 
     by true same more = ap (λ l. c ∷ l) (apart_replaced c ds (apart_behind c.base d ds same (left (list_all (is_later_than d) ds) (do_rise ds) rise)))
     by false other more = ap (λ l. d ∷ l) more
 
-left_one : (b : Id) (cs : List Cont) → do_rise cs ≡ true → without_cont b cs ≡ kept.without_cont b cs
+left_one : (b : Id) (cs : List Cont) → do_rise cs ≡ true → filter (is_not_of b) cs ≡ kept.without_cont b cs
 left_one b [] rise = refl
 left_one b (d ∷ ds) rise = by (is_same_id b d.base) refl (left_one b ds (right (list_all (is_later_than d) ds) (do_rise ds) rise))
   where
-    by : (t : Bool) → is_same_id b d.base ≡ t → without_cont b ds ≡ kept.without_cont b ds →
+    by : (t : Bool) → is_same_id b d.base ≡ t → filter (is_not_of b) ds ≡ kept.without_cont b ds →
         cond (not t) (d ∷ filter (is_not_of b) ds) (filter (is_not_of b) ds) ≡ cond t ds (d ∷ kept.without_cont b ds)
     by true same more = apart_left b ds (apart_behind b d ds same (left (list_all (is_later_than d) ds) (do_rise ds) rise))
     by false other more = ap (λ l. d ∷ l) more
@@ -82,7 +82,7 @@ base_of b (d ∷ ds) c h = by (is_same_id b d.base) refl h (base_of b ds c)
 -- the move of a continuation that is there
 made_own : (cs : List Cont) (c : Cont) (vars : List Value) (at : Option Position) → cont_in c.base cs ≡ Some c → do_rise cs ≡ true →
     make_move cs (move_to c vars at) ≡ Some (after_move c.base (move_to c vars at) cs)
-made_own cs c vars None here rise = ap (λ o. end_of c.base o cs) here ∙ ap (λ l. Some l) (left_one c.base cs rise)
+made_own cs c vars None here rise = ap (λ o. option_map (λ d. filter (is_not_of c.base) cs) o) here ∙ ap (λ l. Some l) (left_one c.base cs rise)
 made_own cs c vars (Some p) here rise =
     let moved : Cont = with_place c vars p in
     ap (λ o. go_to moved o cs) here

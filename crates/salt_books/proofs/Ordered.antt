@@ -6,13 +6,13 @@ use Rattle.law_story.proofs.Lists.{either}
 use Rattle.salt_books.specs.Bases.{bases_in}
 use Rattle.salt_model.specs.Kept.{cont_in}
 use Rattle.salt_model.specs.Words.{Every}
-use Rattle.salt_stands.specs.OpenConts.{replace_cont, without_cont}
+use Rattle.salt_stands.specs.OpenConts.{is_not_of, replace_cont}
 use Rattle.salt_values.specs.Id.{is_older, is_same_id}
 use Rattle.salt_values.specs.declared.cont.Cont.{Cont}
 use Rattle.salt_values.specs.declared.id.Id.{Id}
 use Rattle.std.proofs.Common.{ap, arith, refl, subst, sym, ◌∙◌}
 use Rattle.std.proofs.lemmas.Bool.{both_ways, cases_order}
-use Rattle.std.specs.List.{find, remove}
+use Rattle.std.specs.List.{filter, find, remove}
 use Rattle.std.specs.List.Sorted.{IsPartitionPoint, IsPartitionedBy}
 use Rattle.std.specs.Prelude.{Bool, List, None, Some, [], cond, false, get_or, is_some, length, not, set, suc, true, zero, ℕ, ◌+◌, ◌++◌, ◌<◌, ◌∷◌, ◌≡◌}
 
@@ -93,10 +93,10 @@ pub none-found : (b : Id) (cs : List Cont) → NoneOf b cs → find (λ (c : Con
 none-found b [] none = refl
 none-found b (c ∷ cs) none = ap (λ t. cond t (Some c) (find (λ (c : Cont). is_same_id b c.base) cs)) (none 0 c (omega arith)) ∙ none-found b cs (less b c cs none)
 
-pub none-left-out : (b : Id) (cs : List Cont) → NoneOf b cs → without_cont b cs ≡ cs
+pub none-left-out : (b : Id) (cs : List Cont) → NoneOf b cs → filter (is_not_of b) cs ≡ cs
 none-left-out b [] none = refl
 none-left-out b (c ∷ cs) none =
-    ap (λ t. cond (not t) (c ∷ without_cont b cs) (without_cont b cs)) (none 0 c (omega arith)) ∙ ap (λ l. c ∷ l) (none-left-out b cs (less b c cs none))
+    ap (λ t. cond (not t) (c ∷ filter (is_not_of b) cs) (filter (is_not_of b) cs)) (none 0 c (omega arith)) ∙ ap (λ l. c ∷ l) (none-left-out b cs (less b c cs none))
 
 -- those behind one are of other programs
 behind : (b : Id) (c : Cont) (cs : List Cont) → is_same_id b c.base ≡ true → Every (λ v. is_older c.base v ≡ true) (bases_in cs) → NoneOf b cs
@@ -118,12 +118,12 @@ found-there b (c ∷ cs) (suc n) d r h same =
     ap (λ t. cond t (Some c) (find (λ (c : Cont). is_same_id b c.base) cs)) (before b c cs n d (omega (arith, h)) same r.0)
     ∙ found-there b cs n d r.1 (omega (arith, h)) same
 
-pub left-out : (b : Id) (cs : List Cont) (n : ℕ) (d : Cont) → Rising (bases_in cs) → n < length cs → is_same_id b (get_or cs n d).base ≡ true → without_cont b cs ≡ remove cs n
+pub left-out : (b : Id) (cs : List Cont) (n : ℕ) (d : Cont) → Rising (bases_in cs) → n < length cs → is_same_id b (get_or cs n d).base ≡ true → filter (is_not_of b) cs ≡ remove cs n
 left-out b [] n d r h same = absurd (omega (arith, h))
 left-out b (c ∷ cs) zero d r h same =
-    ap (λ t. cond (not t) (c ∷ without_cont b cs) (without_cont b cs)) same ∙ none-left-out b cs (behind b c cs same r.0)
+    ap (λ t. cond (not t) (c ∷ filter (is_not_of b) cs) (filter (is_not_of b) cs)) same ∙ none-left-out b cs (behind b c cs same r.0)
 left-out b (c ∷ cs) (suc n) d r h same =
-    ap (λ t. cond (not t) (c ∷ without_cont b cs) (without_cont b cs)) (before b c cs n d (omega (arith, h)) same r.0)
+    ap (λ t. cond (not t) (c ∷ filter (is_not_of b) cs) (filter (is_not_of b) cs)) (before b c cs n d (omega (arith, h)) same r.0)
     ∙ ap (λ l. c ∷ l) (left-out b cs n d r.1 (omega (arith, h)) same)
 
 none-replaced : (x : Cont) (cs : List Cont) → NoneOf x.base cs → replace_cont x cs ≡ cs

@@ -2,16 +2,17 @@
 use Rattle.salt_bytes.proofs.Logs.{takes_table_row}
 use Rattle.salt_bytes.proofs.Numbers.{takes_16}
 use Rattle.salt_bytes.proofs.Taking.{Takes, both, takes_bytes, takes_each}
-use Rattle.salt_bytes.specs.Page.{TableRow, if_zeros, is_zero, page_front, page_length, rows_in_page, spell_page, spell_table_row, take_page, take_rows, take_table_row}
+use Rattle.salt_bytes.specs.Numbers.{take_16}
+use Rattle.salt_bytes.specs.Page.{TableRow, if_zeros, is_zero, page_front, page_length, rows_in_page, spell_page, spell_table_row, take_page, take_table_row}
 use Rattle.salt_bytes.specs.Spellable.{IsSpellablePage, IsSpellableTableRow}
-use Rattle.salt_bytes.specs.Taking.{go_on}
+use Rattle.salt_bytes.specs.Taking.{go_on, take_each, then_take}
 use Rattle.std.proofs.Common.{Bool, Some, ap, arith, length, length-append, refl, suc, true, zero, ℕ, ◌-◌, ◌≡◌, ◌∙◌}
 use Rattle.std.proofs.lemmas.List.{length-replicate}
 use Rattle.std.specs.List.{list_all}
 use Rattle.std.specs.Prelude.{List, option_map, replicate}
 use Rattle.std.specs.Bool.{then_some}
 
-takes_rows : (nulls : Bool) (rows : List TableRow) → IsSpellablePage nulls rows → Takes (take_rows nulls) (page_front rows) rows
+takes_rows : (nulls : Bool) (rows : List TableRow) → IsSpellablePage nulls rows → Takes (then_take take_16 (take_each (take_table_row nulls))) (page_front rows) rows
 takes_rows nulls rows good = both _ (takes_16 (length rows) good.count) (takes_each (IsSpellableTableRow nulls) (take_table_row nulls) spell_table_row (takes_table_row nulls) rows good.each)
 
 all_zero : (n : ℕ) → list_all is_zero (replicate n 0) ≡ true

@@ -1,7 +1,6 @@
 -- The coordinator's log: its header and its entries, as they are spelled.
 use Rattle.salt_values.specs.declared.cont.Cont.{Cont}
 use Rattle.salt_bytes.specs.Conts.{spell_cont, take_cont}
-use Rattle.salt_bytes.specs.Formats.{is_coordinator_format}
 use Rattle.salt_bytes.specs.Ids.{spell_id, take_id}
 use Rattle.salt_bytes.specs.Numbers.{spell_64, spell_counted, take_64, take_counted}
 use Rattle.salt_bytes.specs.Taking.{Take, give, only_if, take_byte, take_bytes, then_take, whole}
@@ -68,7 +67,7 @@ is_number_of_parts n = nat_le 1 n && nat_le n 8
 abbrev pub take_header : Take CoordinatorHeader
 take_header =
     then_take (take_word (codes "SALTC")) (λ word.
-    then_take take_byte (λ format. only_if (is_coordinator_format format) (
+    then_take take_byte (λ format. only_if (nat_le 1 format && nat_le format 3) (
     then_take take_64 (λ generation. only_if (nat_le 1 generation) (
     then_take take_byte (λ parts. only_if (is_number_of_parts parts) (
     then_take take_kind (λ kind.

@@ -4,8 +4,10 @@ use Rattle.salt_bytes.specs.Coordinator.{Boots, Decides, Defines, entry_in, head
 use Rattle.salt_bytes.specs.Generations.{BothBlank, Counts, Faulty, LogA, LogB, next_generation, pair_of}
 use Rattle.salt_bytes.specs.Generations.{Blank, IsRead, Outside}
 use Rattle.salt_bytes.specs.Log.{entries_in, entries_up_to, split_payload}
-use Rattle.salt_bytes.specs.Page.{if_zeros, page_place, take_rows}
+use Rattle.salt_bytes.specs.Numbers.{take_16}
+use Rattle.salt_bytes.specs.Page.{if_zeros, page_place, take_table_row}
 use Rattle.salt_bytes.specs.Partition.{partition_header_in, prepared_in}
+use Rattle.salt_bytes.specs.Taking.{take_each, then_take}
 use Rattle.salt_bytes.specs.Values.{take_row, spell_values}
 use Rattle.salt_bytes.specs.declared.moves.Move.TheVariants.{Continue, Finish, Plain}
 use Rattle.salt_values.specs.declared.cont.Cont.{Cont}
@@ -157,10 +159,10 @@ null_removed = refl
 
 -- PAGES: their rows, and zeros behind them
 
-rows_read : if_zeros (take_rows true (0 ∷ 1 ∷ 0 ∷ 6 ∷ 1 ∷ 0 ∷ replicate 9 0)) ≡ Some (record { table = 6; row = Null ∷ [] } ∷ [])
+rows_read : if_zeros (then_take take_16 (take_each (take_table_row true)) (0 ∷ 1 ∷ 0 ∷ 6 ∷ 1 ∷ 0 ∷ replicate 9 0)) ≡ Some (record { table = 6; row = Null ∷ [] } ∷ [])
 rows_read = refl
 
-byte_behind_the_rows : if_zeros (take_rows true (0 ∷ 1 ∷ 0 ∷ 6 ∷ 1 ∷ 0 ∷ replicate 9 0 ++ 1 ∷ [])) ≡ None
+byte_behind_the_rows : if_zeros (then_take take_16 (take_each (take_table_row true)) (0 ∷ 1 ∷ 0 ∷ 6 ∷ 1 ∷ 0 ∷ replicate 9 0 ++ 1 ∷ [])) ≡ None
 byte_behind_the_rows = refl
 
 place_of_side_1 : page_place 1 1 ≡ 24576

@@ -28,9 +28,6 @@ page_front rows = spell_16 (length rows) ++ flat_map spell_table_row rows
 abbrev pub spell_page : List TableRow → List ℕ
 spell_page rows = page_front rows ++ replicate (page_length - length (page_front rows)) 0
 
-abbrev pub take_rows : Bool → Take (List TableRow)
-take_rows nulls = then_take take_16 (take_each (take_table_row nulls))
-
 abbrev pub is_zero : ℕ → Bool
 is_zero b = b == 0
 
@@ -40,7 +37,7 @@ if_zeros None = None
 if_zeros (Some taken) = then_some (list_all is_zero taken.1) taken.0
 
 abbrev pub rows_in_page : Bool → List ℕ → Option (List TableRow)
-rows_in_page nulls bytes = if_zeros (take_rows nulls bytes)
+rows_in_page nulls bytes = if_zeros (then_take take_16 (take_each (take_table_row nulls)) bytes)
 
 -- the rows of a page that stands at the front of these bytes
 abbrev pub take_page : Bool → Take (List TableRow)

@@ -2,13 +2,12 @@
 use Rattle.salt_values.specs.declared.change.Change.{Change}
 use Rattle.salt_bytes.specs.Changes.{are_in_order, spell_change, take_change}
 use Rattle.salt_bytes.specs.Coordinator.{take_word}
-use Rattle.salt_bytes.specs.Formats.{is_partition_format}
 use Rattle.salt_bytes.specs.Ids.{spell_id, take_id}
 use Rattle.salt_bytes.specs.Numbers.{spell_32, spell_64, spell_counted, take_32, take_64, take_counted}
 use Rattle.salt_bytes.specs.Taking.{Take, give, only_if, take_byte, take_bytes, then_take, whole}
 use Rattle.salt_values.specs.declared.id.Id.{Id}
 use Rattle.std.specs.List.{list_all}
-use Rattle.std.specs.Prelude.{Bool, List, Option, codes, length, nat_le, ℕ, ◌++◌, ◌==◌, ◌∷◌}
+use Rattle.std.specs.Prelude.{Bool, List, Option, codes, length, nat_le, ℕ, ◌&&◌, ◌++◌, ◌==◌, ◌∷◌}
 
 pub record PartitionHeader : Type 0 where
   pub format : ℕ
@@ -27,7 +26,7 @@ is_side side = nat_le side 1
 abbrev pub take_partition_header : Take PartitionHeader
 take_partition_header =
     then_take (take_word (codes "SALTP")) (λ word.
-    then_take take_byte (λ format. only_if (is_partition_format format) (
+    then_take take_byte (λ format. only_if (nat_le 1 format && nat_le format 2) (
     then_take take_64 (λ generation. only_if (nat_le 1 generation) (
     then_take take_byte (λ part.
     then_take (then_take take_32 take_bytes) (λ sides. only_if (list_all is_side sides) (

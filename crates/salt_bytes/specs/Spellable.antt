@@ -7,7 +7,7 @@ use Rattle.salt_values.specs.declared.value.Value.{Value}
 use Rattle.salt_values.specs.declared.value.Value.TheVariants.{Int, Null, Text}
 use Rattle.salt_bytes.specs.Changes.{are_in_order}
 use Rattle.salt_bytes.specs.Coordinator.{Boots, CoordinatorEntry, CoordinatorHeader, Decides, Decision, Defines, NumberedText, is_number_of_parts}
-use Rattle.salt_bytes.specs.Formats.{has_nulls, has_tries, is_coordinator_format, is_partition_format}
+use Rattle.salt_bytes.specs.Formats.{has_nulls, has_tries}
 use Rattle.salt_bytes.specs.Page.{TableRow, page_front, page_length}
 use Rattle.salt_bytes.specs.Partition.{PartitionHeader, Prepared, is_side}
 use Rattle.salt_bytes.specs.Values.{is_row_length}
@@ -15,7 +15,7 @@ use Rattle.salt_values.specs.Text.{is_text}
 use Rattle.salt_values.specs.declared.id.Id.{Id}
 use Rattle.std.specs.Int.{w64}
 use Rattle.std.specs.List.{list_all}
-use Rattle.std.specs.Prelude.{Bool, FitsSigned, List, None, Option, Some, [], false, length, nat_le, nat_lt, true, ℕ, ⊤, ◌^◌, ◌∷◌, ◌≡◌, ◌<◌, ◌≤◌}
+use Rattle.std.specs.Prelude.{Bool, FitsSigned, List, None, Option, Some, [], false, length, nat_le, nat_lt, true, ℕ, ⊤, ◌&&◌, ◌<◌, ◌^◌, ◌∷◌, ◌≡◌, ◌≤◌}
 use Rattle.salt_values.specs.Value.{key_of}
 
 -- a fact of each element
@@ -62,7 +62,7 @@ pub record IsSpellableNumbered (d : NumberedText) : Type 0 where
   pub text : length d.text < 2 ^ 64
 
 pub record IsSpellableHeader (h : CoordinatorHeader) : Type 0 where
-  pub format : is_coordinator_format h.format ≡ true
+  pub format : (nat_le 1 h.format && nat_le h.format 3) ≡ true
   pub generation : h.generation < 2 ^ 64
   pub first : nat_le 1 h.generation ≡ true
   pub parts : is_number_of_parts h.shape.parts ≡ true
@@ -94,7 +94,7 @@ pub record IsSpellableChange (nulls : Bool) (c : Change) : Type 0 where
   pub to : IsSpellableTo nulls c.key c.row
 
 pub record IsSpellablePartitionHeader (h : PartitionHeader) : Type 0 where
-  pub format : is_partition_format h.format ≡ true
+  pub format : (nat_le 1 h.format && nat_le h.format 2) ≡ true
   pub generation : h.generation < 2 ^ 64
   pub first : nat_le 1 h.generation ≡ true
   pub count : length h.sides < 2 ^ 32

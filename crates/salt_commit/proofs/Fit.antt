@@ -5,7 +5,9 @@ use Rattle.salt_ast.specs.declared.trees.Field.{Field}
 use Rattle.salt_ast.specs.declared.trees.TableDef.{TableDef}
 use Rattle.salt_commit.specs.Openings.{HasTables}
 use Rattle.salt_commit.specs.Stores.{reading}
-use Rattle.salt_stands.specs.Fitting.{are_of_columns, is_key_of, is_of_column, is_row_of, passes_checks, tables_defined}
+use Rattle.salt_model.specs.Reaches.{in_row}
+use Rattle.salt_model.specs.Statements.{checked}
+use Rattle.salt_stands.specs.Fitting.{are_of_columns, is_key_of, is_of_column, is_row_of, tables_defined}
 use Rattle.salt_eval.specs.Meets as eval
 use Rattle.salt_eval.specs.Meets.{meets_found, meets_table}
 use Rattle.salt_model.specs.Kept.{Definition}
@@ -19,7 +21,7 @@ use Rattle.salt_values.specs.declared.value.Value.{Value}
 use Rattle.std.proofs.Common.{Bool, List, None, Option, Some, [], ap, arith, false, length, refl, slice_get, sym, true, ℕ, ◌≡◌, ◌∙◌, ◌∷◌}
 use Rattle.std.proofs.lemmas.Bool.Decides.{nat_tests}
 use Rattle.std.specs.List.{list_all}
-use Rattle.std.specs.Prelude.{nat_lt, suc, take, zero, ◌&&◌, ◌<◌, ◌==◌, ◌≤◌}
+use Rattle.std.specs.Prelude.{is_ok, nat_lt, suc, take, zero, ◌&&◌, ◌<◌, ◌==◌, ◌≤◌}
 
 pub nor : (b : Bool) → (b && false) ≡ false
 nor true = refl
@@ -45,7 +47,7 @@ of_columns (f ∷ fs) (v ∷ vs) = ap (λ b. b && are_of_columns fs vs) (of_type
 
 row_of : (o : Option TableDef) (row : List Value) → is_row_of o row ≡ meets_found o row
 row_of None row = refl
-row_of (Some d) row = ap (λ b. b && passes_checks d row) (of_columns d.columns row)
+row_of (Some d) row = ap (λ b. b && is_ok (checked (in_row d row []) d.checks)) (of_columns d.columns row)
 
 -- what meets its table is a row of it
 pub is_row_at : (schema : List TableDef) (table : ℕ) (row : List Value) → meets_table schema table row ≡ true → is_row_of (slice_get schema table) row ≡ true

@@ -1,7 +1,7 @@
 -- The formats of logs.
 use Rattle.salt_bytes.specs.Conts.{take_cont}
 use Rattle.salt_bytes.specs.Coordinator.{CoordinatorHeader, header_in, is_number_of_parts, take_header, take_kind, take_numbered, take_word}
-use Rattle.salt_bytes.specs.Formats.{has_nulls, is_coordinator_format, is_partition_format}
+use Rattle.salt_bytes.specs.Formats.{has_nulls}
 use Rattle.salt_bytes.specs.Generations.{Counts, IsRead, LogA, LogB, WhichLog, content_of, read_or_outside}
 use Rattle.salt_bytes.specs.Numbers.{take_32, take_64, take_counted}
 use Rattle.salt_bytes.specs.Partition.{PartitionHeader, is_side, partition_header_in, take_partition_header}
@@ -15,7 +15,7 @@ use Rattle.salt_stands.specs.PartitionLog.{PartitionLog, gathered, own_log, part
 use Rattle.std.proofs.Common.{Bool, List, None, Option, Some, [], ap, arith, codes, false, refl, subst, true, ℕ, ◌<◌, ◌≡◌, ◌≤◌, ◌∙◌, ◌∷◌}
 use Rattle.std.proofs.lemmas.Bool.Decides.{nat_tests}
 use Rattle.std.specs.List.{list_all}
-use Rattle.std.specs.Prelude.{nat_le, nat_lt, ◌==◌, ◌||◌, option_and_then}
+use Rattle.std.specs.Prelude.{nat_le, nat_lt, option_and_then, ◌&&◌, ◌==◌, ◌||◌}
 use Rattle.std.specs.Bool.{then_some}
 
 -- whatever is taken has P
@@ -39,14 +39,14 @@ then_gives {A = A} {B = B} P take next h = record { each = λ bytes rest y e. by
 HasFormat : PartitionHeader → Type 0
 HasFormat h = h.format < 3
 
-low_format : (format : ℕ) → is_partition_format format ≡ true → format < 3
+low_format : (format : ℕ) → (nat_le 1 format && nat_le format 2) ≡ true → format < 3
 low_format format e = let h = right (nat_le 1 format) (nat_le format 2) e in grind (arith, nat_tests)
 
 header_gives : Gives take_partition_header HasFormat
 unfolding HasFormat
 header_gives =
     then_gives HasFormat (take_word (codes "SALTP")) _ (λ word.
-    then_gives HasFormat take_byte _ (λ format. if_only HasFormat (is_partition_format format) _ (λ is.
+    then_gives HasFormat take_byte _ (λ format. if_only HasFormat (nat_le 1 format && nat_le format 2) _ (λ is.
     then_gives HasFormat take_64 _ (λ generation. if_only HasFormat (nat_le 1 generation) _ (λ first.
     then_gives HasFormat take_byte _ (λ part.
     then_gives HasFormat (then_take take_32 take_bytes) _ (λ sides. if_only HasFormat (list_all is_side sides) _ (λ each.
@@ -90,14 +90,14 @@ format_under format own nulls is low = ap (λ b. nat_lt format 2 || b) (is ∙ s
 HasKnownFormat : CoordinatorHeader → Type 0
 HasKnownFormat h = h.format ≤ 3
 
-known_format : (format : ℕ) → is_coordinator_format format ≡ true → format ≤ 3
+known_format : (format : ℕ) → (nat_le 1 format && nat_le format 3) ≡ true → format ≤ 3
 known_format format e = let h = right (nat_le 1 format) (nat_le format 3) e in grind (arith, nat_tests)
 
 coordinator_header_gives : Gives take_header HasKnownFormat
 unfolding HasKnownFormat
 coordinator_header_gives =
     then_gives HasKnownFormat (take_word (codes "SALTC")) _ (λ word.
-    then_gives HasKnownFormat take_byte _ (λ format. if_only HasKnownFormat (is_coordinator_format format) _ (λ is.
+    then_gives HasKnownFormat take_byte _ (λ format. if_only HasKnownFormat (nat_le 1 format && nat_le format 3) _ (λ is.
     then_gives HasKnownFormat take_64 _ (λ generation. if_only HasKnownFormat (nat_le 1 generation) _ (λ first.
     then_gives HasKnownFormat take_byte _ (λ parts. if_only HasKnownFormat (is_number_of_parts parts) _ (λ some.
     then_gives HasKnownFormat take_kind _ (λ kind.

@@ -15,6 +15,7 @@ use Rattle.salt_decisions.specs.declared.kept.Kept.{Kept}
 use Rattle.salt_disk.proofs.CallAfterCall.{cause_on, cause_none, keeps_on, same_shape}
 use Rattle.salt_disk.specs.Disks.{HasCause, KeepsAll, View}
 use Rattle.salt_model.specs.Kept.{Definition}
+use Rattle.salt_model.specs.Words.{and_then}
 use Rattle.salt_partition.proofs.Framed.{part_stands, partition_kept, sound_log}
 use Rattle.salt_partition.specs.Openings.{OpensAs, fault_of, has_pages}
 use Rattle.salt_partition.specs.Partitions.{IsPartition, spells_nulls}
@@ -29,13 +30,13 @@ use Rattle.salt_stands.specs.Partition.{is_format_under, is_sound_log, judge_par
 use Rattle.salt_stands.specs.PartitionLog.{PartitionLog}
 use Rattle.salt_stands.specs.Pieces.{PartStands, PartView, tables_at_part}
 use Rattle.salt_stands.specs.Stands.{logs_of}
-use Rattle.salt_stands.specs.Words.{if_sound, or_fault}
 use Rattle.salt_place.specs.declared.placement.Shape.{Shape}
 use Rattle.std.proofs.Common.{Bool, Err, IsTrue, List, None, Some, [], ap, arith, false, inl, inr, length, refl, slice_get, subst, sym, true, ℕ, ◌+◌, ◌++◌, ◌<◌, ◌≡◌, ◌≢◌, ◌⊎◌, ◌∙◌, ◌∷◌}
 use Rattle.std.proofs.Math.Path.{fun_ext}
 use Rattle.std.proofs.lemmas.Bool.Decides.{Decides-eqb}
 use Rattle.std.proofs.lemmas.Bool.{cases_eq}
 use Rattle.std.specs.List.{list_all}
+use Rattle.std.specs.Option.{ok_or}
 use Rattle.std.specs.Prelude.{IfSome, if◌then◌else◌, option_map, suc, zero, ◌&&◌, ◌==◌}
 use Rattle.std.specs.Bool.{then_some}
 
@@ -51,7 +52,7 @@ pub unsound : (c : Coordinator Definition) (p : ℕ) (logs : Logs) (devices : �
 unsound c p logs devices which log counts bad =
     let us = decided_for p c.log.told.decided in
     ap (judge_part reading c p (devices (pages_device p))) counts
-    ∙ ap (λ b. if_sound (λ (sound : PartitionLog). or_fault (pages_device p) (option_map (part_tables us sound) (rows_of_pages reading c p sound (devices (pages_device p))))) (or_fault (device_of (part_device p) which) (then_some b log))) bad
+    ∙ ap (λ b. and_then (ok_or (then_some b log) (device_of (part_device p) which)) (λ (sound : PartitionLog). ok_or (option_map (part_tables us sound) (rows_of_pages reading c p sound (devices (pages_device p)))) (pages_device p))) bad
 
 -- a fault that the partition finds by itself
 pub fails_as : (c : Coordinator Definition) (bytes : ℕ → List ℕ) (p : ℕ) (e : OpenErr) → PartFails bytes c.log.told.boot (decided_for p c.log.told.decided) p e → PartRefuses c bytes p e

@@ -7,6 +7,7 @@ use Rattle.salt_commit.proofs.Pageless.{no_names}
 use Rattle.salt_commit.proofs.Standing as standing
 use Rattle.salt_commit.proofs.Undecided.{decisions_kept}
 use Rattle.salt_commit.specs.Openings.{HasRoom, HasTables, IsFirstFault, IsPartFault, IsSchemaOf, IsSchemaWhere, LeavesPages, OpeningFails, OpensAll, OpensStore, PartsRefuse}
+use Rattle.salt_model.specs.Words.{and_then}
 use Rattle.salt_stands.specs.LogDevices.{IsCoordinatorLog, IsStoreLog}
 use Rattle.salt_commit.specs.Stores.{decided_by, reading}
 use Rattle.salt_commit.specs.declared.store.Store.{Store}
@@ -32,7 +33,7 @@ use Rattle.salt_stands.specs.Partition.{part_at, part_pair}
 use Rattle.salt_stands.specs.Pieces.{IsCoordinator, PartStands, listed, other_log, tables_at_part}
 use Rattle.salt_stands.specs.Stands as opening
 use Rattle.salt_stands.specs.Stands.{Opening, Stands, are_spent, is_same_kind, is_same_shape, logs_of, of_coordinator, of_parts, opening_of, parts_at}
-use Rattle.salt_stands.specs.Words.{each_from, if_sound, or_fault}
+use Rattle.salt_stands.specs.Words.{each_from}
 use Rattle.salt_values.specs.declared.cont.Cont.{Cont}
 use Rattle.salt_place.specs.declared.placement.PlaceKind.TheVariants.{Bands, Remainder}
 use Rattle.salt_place.specs.declared.placement.PlaceKind.{PlaceKind}
@@ -40,6 +41,7 @@ use Rattle.salt_place.specs.declared.placement.Shape.{Shape}
 use Rattle.std.proofs.Common.{Bool, Err, IsTrue, List, None, Ok, Option, Result, Some, [], ap, arith, false, inl, inr, refl, subst, sym, true, ℕ, ◌+◌, ◌<◌, ◌≡◌, ◌∙◌, ◌∷◌}
 use Rattle.std.proofs.lemmas.Bool.Decides.{Decides-eqb}
 use Rattle.std.specs.List.{list_all}
+use Rattle.std.specs.Option.{ok_or}
 use Rattle.std.specs.Prelude.{IfOk, if◌then◌else◌, not, option_and_then, option_map, suc, zero, ◌&&◌, ◌==◌}
 use Rattle.std.specs.Bool.{then_some}
 
@@ -91,7 +93,7 @@ of_log log c e = by (definitions_read reading (Some []) log.told.definitions) (m
     by (Some ds) (Some cs) is moves e' = with_sound ds cs (are_sound reading log ds) is moves refl e'
 
 pub judged_as : (which : WhichLog) (log : CoordinatorLog) (c : Coordinator Definition) → coordinator_of reading log ≡ Some c → judge_coordinator reading (Counts which log) ≡ Ok (Some c)
-judged_as which log c e = ap (λ o. or_fault (device_of 0 which) (option_map Some o)) e
+judged_as which log c e = ap (λ o. ok_or (option_map Some o) (device_of 0 which)) e
 
 -- WHAT AN OPENING ANSWERS
 
@@ -127,20 +129,20 @@ each_listed f g p zero h = refl
 each_listed f g p (suc n) h =
     let here : p + 0 ≡ p = omega arith in
     let on : (k : ℕ) → p + suc k ≡ suc p + k = λ k. omega arith in
-    ap (if_sound (λ x. if_sound (λ xs. Ok (x ∷ xs)) (each_from f (suc p) n))) (subst (λ q. f q ≡ Ok (g q)) here (h 0 (omega arith)))
-    ∙ ap (if_sound (λ xs. Ok (g p ∷ xs))) (each_listed f g (suc p) n (λ k low. subst (λ q. f q ≡ Ok (g q)) (on k) (h (suc k) (omega (arith, low)))))
+    ap (λ r. and_then r (λ x. and_then (each_from f (suc p) n) (λ xs. Ok (x ∷ xs)))) (subst (λ q. f q ≡ Ok (g q)) here (h 0 (omega arith)))
+    ∙ ap (λ r. and_then r (λ xs. Ok (g p ∷ xs))) (each_listed f g (suc p) n (λ k low. subst (λ q. f q ≡ Ok (g q)) (on k) (h (suc k) (omega (arith, low)))))
 
 first_err : {A : Type 0} (f : ℕ → Result A ℕ) (p n k dev : ℕ) → k < n → ((q : ℕ) → q < k → (x : A) × (f (p + q) ≡ Ok x)) → f (p + k) ≡ Err dev → each_from f p n ≡ Err dev
 first_err f p zero k dev low before is = absurd (omega (arith, low))
 first_err f p (suc n) zero dev low before is =
     let here : p + 0 ≡ p = omega arith in
-    ap (if_sound (λ x. if_sound (λ xs. Ok (x ∷ xs)) (each_from f (suc p) n))) (subst (λ q. f q ≡ Err dev) here is)
+    ap (λ r. and_then r (λ x. and_then (each_from f (suc p) n) (λ xs. Ok (x ∷ xs)))) (subst (λ q. f q ≡ Err dev) here is)
 first_err {A = A} f p (suc n) (suc k) dev low before is =
     let here : p + 0 ≡ p = omega arith in
     let on : (q : ℕ) → p + suc q ≡ suc p + q = λ q. omega arith in
     let first = before 0 (omega arith) in
-    ap (if_sound (λ x. if_sound (λ xs. Ok (x ∷ xs)) (each_from f (suc p) n))) (subst (λ q. f q ≡ Ok first.0) here first.1)
-    ∙ ap (if_sound (λ xs. Ok (first.0 ∷ xs))) (first_err f (suc p) n k dev (omega (arith, low))
+    ap (λ r. and_then r (λ x. and_then (each_from f (suc p) n) (λ xs. Ok (x ∷ xs)))) (subst (λ q. f q ≡ Ok first.0) here first.1)
+    ∙ ap (λ r. and_then r (λ xs. Ok (first.0 ∷ xs))) (first_err f (suc p) n k dev (omega (arith, low))
     (λ q lower. let b = before (suc q) (omega (arith, lower)) in (b.0, subst (λ j. f j ≡ Ok b.0) (on q) b.1)) (subst (λ j. f j ≡ Err dev) (on k) is))
 
 -- THE STORE

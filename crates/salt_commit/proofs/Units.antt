@@ -4,7 +4,7 @@ use Rattle.salt_commit.specs.Openings.{named_units}
 use Rattle.salt_decisions.specs.Kept.{IsKept}
 use Rattle.salt_decisions.specs.Said.{mask_of}
 use Rattle.salt_decisions.specs.declared.kept.Kept.{Kept}
-use Rattle.salt_stands.specs.Coordinator.{decided_for, names_part, unit_of}
+use Rattle.salt_stands.specs.Coordinator.{decided_for, unit_of}
 use Rattle.salt_stands.specs.CoordinatorLog.{CoordinatorLog}
 use Rattle.salt_stands.specs.Words.{has_bit}
 use Rattle.salt_values.specs.declared.id.Id.{Id}
@@ -33,7 +33,7 @@ named_decided p [] = refl
 named_decided p (d ∷ ds) = by (has_bit d.mask p) (named_decided p ds)
   where
     by : (b : Bool) → named_units p (map unit_of ds) (map mask_of ds) ≡ decided_for p ds
-        → (if b then d.unit ∷ named_units p (map unit_of ds) (map mask_of ds) else named_units p (map unit_of ds) (map mask_of ds)) ≡ map unit_of (if b then d ∷ filter (names_part p) ds else filter (names_part p) ds)
+        → (if b then d.unit ∷ named_units p (map unit_of ds) (map mask_of ds) else named_units p (map unit_of ds) (map mask_of ds)) ≡ map unit_of (if b then d ∷ filter (λ d. has_bit d.mask p) ds else filter (λ d. has_bit d.mask p) ds)
     by true h = ap (λ l. d.unit ∷ l) h
     by false h = h
 

@@ -1,7 +1,7 @@
 -- The nodes of a unit's shares.
 use Rattle.salt_commit.specs.Messages.{nodes_from, nodes_of}
 use Rattle.salt_commit.specs.Shares.{has_changes, share_at}
-use Rattle.salt_net.specs.Flags.{are_nodes, has_node, is_node}
+use Rattle.salt_net.specs.Flags.{are_nodes, has_node}
 use Rattle.salt_model.specs.Words.{is_empty}
 use Rattle.salt_place.specs.declared.placement.Shape.{Shape}
 use Rattle.salt_stands.specs.Pieces.{listed}
@@ -12,7 +12,7 @@ use Rattle.std.proofs.Common.{Bool, IsTrue, List, [], ap, arith, false, get_or, 
 use Rattle.std.proofs.lemmas.Bool.Decides.{nat_tests}
 use Rattle.std.proofs.lemmas.Bool.{eqb-true}
 use Rattle.std.proofs.lemmas.List.{length-take-le, take_more}
-use Rattle.std.specs.Prelude.{if◌then◌else◌, not, ◌&&◌, ◌==◌, ◌||◌}
+use Rattle.std.specs.Prelude.{if◌then◌else◌, nat_le, not, ◌&&◌, ◌==◌, ◌||◌}
 
 -- with one share more
 pub nodes_push : (p : ℕ) (ss : List (List Change)) (s : List Change) → nodes_from p (ss ++ s ∷ []) ≡ nodes_from p ss ++ (if has_changes s then suc (p + length ss) ∷ [] else [])
@@ -58,7 +58,7 @@ may_be_nodes p (s ∷ ss) few = by (has_changes s) (may_be_nodes (suc p) ss (ome
   where
     by : (b : Bool) → are_nodes (nodes_from (suc p) ss) ≡ true → are_nodes (if b then suc p ∷ nodes_from (suc p) ss else nodes_from (suc p) ss) ≡ true
     by true h =
-        let one : is_node (suc p) ≡ true = grind (arith, nat_tests, few) in
+        let one : (nat_le 1 (suc p) && nat_le (suc p) 8) ≡ true = grind (arith, nat_tests, few) in
         let rest = nodes_from (suc p) ss in
         ap (λ (b : Bool). b && (not (has_node (suc p) rest) && are_nodes rest)) one ∙ ap (λ (b : Bool). not b && are_nodes rest) (none_below (suc p) (suc p) ss (omega arith)) ∙ h
     by false h = h

@@ -1,6 +1,6 @@
 -- Programs within the limits have few parts, and few statements in each.
-use Rattle.salt_ast.specs.Limits.{height_passed, name_passed, field_passed, passed_in_list, statement_passed}
-use Rattle.salt_ast.specs.ProgramLimits.{block_passed, body_passed, next_passed, part_passed, program_exprs, program_limit, program_passed, retry_passed}
+use Rattle.salt_ast.specs.Limits.{height_passed, name_passed, passed_in_list, statement_passed}
+use Rattle.salt_ast.specs.ProgramLimits.{body_passed, next_passed, outside, part_passed, program_exprs, program_limit, program_passed}
 use Rattle.salt_ast.specs.declared.limit.LimitName.TheVariants as limit
 use Rattle.salt_ast.specs.declared.limit.LimitName.{LimitName}
 use Rattle.salt_ast.specs.declared.programs.Body.TheVariants.{Acid, Base}
@@ -12,7 +12,7 @@ use Rattle.salt_cont.specs.Catalogues.{AllAreFew}
 use Rattle.salt_cont.specs.Moves.{parts_named}
 use Rattle.salt_cont.specs.Rests.{AreFew}
 use Rattle.salt_program.specs.Refusals.{parts_in}
-use Rattle.salt_values.specs.declared.limits.TheConstants.{PARAMETERS_MOST, PARTS_MOST, STATEMENTS_MOST, VARIABLES_MOST}
+use Rattle.salt_values.specs.declared.limits.TheConstants.{PARAMETERS_MOST, PARTS_MOST, RETRY_MOST, STATEMENTS_MOST, VARIABLES_MOST}
 use Rattle.std.proofs.Common.{arith, get_or, suc, zero}
 use Rattle.std.specs.Option.{option_or}
 use Rattle.std.specs.Prelude.{List, None, Option, Some, [], length, option_and_then, refl, ℕ, ◌++◌, ◌<◌, ◌∷◌, ◌≡◌, ◌≤◌}
@@ -48,16 +48,16 @@ few-parts (Base parts) h = record {
   where
     small : (p : PartDef) → part_passed p ≡ None → length p.block ≤ STATEMENTS_MOST
     small p h = few STATEMENTS_MOST limit.Statements statement_passed p.block
-        (first (block_passed p.block) (option_or (option_and_then next_passed p.then) (option_or (option_and_then retry_passed p.retry) (option_and_then next_passed p.on_failure))) h)
+        (first (passed_in_list STATEMENTS_MOST limit.Statements statement_passed p.block) (option_or (option_and_then next_passed p.then) (option_or (option_and_then (outside 1 RETRY_MOST limit.Retry) p.retry) (option_and_then next_passed p.on_failure))) h)
 
 -- a program within the limits
 pub few-in-program : (p : ProgramDef) → program_limit p ≡ None → AreFew (parts_in p.body)
 unfolding program_limit
 few-in-program p h =
     few-parts p.body
-    (second (passed_in_list VARIABLES_MOST limit.Variables field_passed p.vars) (body_passed p.body)
-    (second (passed_in_list PARAMETERS_MOST limit.Parameters field_passed p.params) (option_or (passed_in_list VARIABLES_MOST limit.Variables field_passed p.vars) (body_passed p.body))
-    (second (name_passed p.name) (option_or (passed_in_list PARAMETERS_MOST limit.Parameters field_passed p.params) (option_or (passed_in_list VARIABLES_MOST limit.Variables field_passed p.vars) (body_passed p.body)))
+    (second (passed_in_list VARIABLES_MOST limit.Variables (λ f. name_passed f.name) p.vars) (body_passed p.body)
+    (second (passed_in_list PARAMETERS_MOST limit.Parameters (λ f. name_passed f.name) p.params) (option_or (passed_in_list VARIABLES_MOST limit.Variables (λ f. name_passed f.name) p.vars) (body_passed p.body))
+    (second (name_passed p.name) (option_or (passed_in_list PARAMETERS_MOST limit.Parameters (λ f. name_passed f.name) p.params) (option_or (passed_in_list VARIABLES_MOST limit.Variables (λ f. name_passed f.name) p.vars) (body_passed p.body)))
     (first (program_passed p) (height_passed (program_exprs p)) h))))
 
 pub limited : (catalogue : List ProgramDef) (p : ProgramDef) → AllAreFew catalogue → program_limit p ≡ None → AllAreFew (catalogue ++ p ∷ [])

@@ -3,7 +3,7 @@ use Rattle.salt_bytes.specs.declared.moves.Move.TheVariants.{Continue, Finish}
 use Rattle.salt_model.specs.Kept.{cont_in}
 use Rattle.salt_stands.proofs.Booleans.{all_weaker, left, right}
 use Rattle.salt_stands.proofs.OpenConts.{same_id}
-use Rattle.salt_stands.specs.OpenConts.{do_rise, end_of, go_to, is_later_than, is_not_of, make_move, replace_cont, without_cont}
+use Rattle.salt_stands.specs.OpenConts.{do_rise, go_to, is_later_than, is_not_of, make_move, replace_cont}
 use Rattle.salt_values.specs.Id.{is_same_id}
 use Rattle.salt_values.specs.declared.cont.Cont.{Cont}
 use Rattle.salt_values.specs.declared.id.Id.{Id}
@@ -11,7 +11,7 @@ use Rattle.std.proofs.Common.{ap, arith, subst, sym, ◌∙◌}
 use Rattle.std.proofs.lemmas.Bool.Decides.{nat_tests}
 use Rattle.std.proofs.lemmas.List.Quantifiers.{position-Some}
 use Rattle.std.specs.List.{filter, find, list_all, position, position_or_len, remove}
-use Rattle.std.specs.Prelude.{Bool, List, None, Option, Some, [], cond, false, get_or, if◌then◌else◌, length, nat_lt, not, refl, set, suc, true, zero, ℕ, ◌+◌, ◌++◌, ◌<◌, ◌==◌, ◌∷◌, ◌≡◌}
+use Rattle.std.specs.Prelude.{Bool, List, None, Option, Some, [], cond, false, get_or, if◌then◌else◌, length, nat_lt, not, option_map, refl, set, suc, true, zero, ℕ, ◌++◌, ◌+◌, ◌<◌, ◌==◌, ◌∷◌, ◌≡◌}
 use Rattle.std.specs.Bool.{then_some}
 
 abbrev is_of : Id → Cont → Bool
@@ -98,7 +98,7 @@ replaced c (d ∷ ds) zero h rise =
 replaced c (d ∷ ds) (suc at) h rise =
     ap (λ b. (if b then c else d) ∷ replace_cont c ds) h.0 ∙ ap (λ l. d ∷ l) (replaced c ds at h.1 (tail_rises d ds rise))
 
-taken_out : (b : Id) (cs : List Cont) (at : ℕ) → IsFirst b cs at → do_rise cs ≡ true → without_cont b cs ≡ remove cs at
+taken_out : (b : Id) (cs : List Cont) (at : ℕ) → IsFirst b cs at → do_rise cs ≡ true → filter (is_not_of b) cs ≡ remove cs at
 taken_out b [] at h rise = absurd h
 taken_out b (d ∷ ds) zero h rise =
     ap (λ t. cond (not t) (d ∷ filter (is_not_of b) ds) (filter (is_not_of b) ds)) h
@@ -124,13 +124,13 @@ goes_behind c cs ds none e = given_is _ (cs ++ c ∷ []) ds (ap (λ o. go_to c o
 pub ends_here : (b : Id) (cs ds : List Cont) (at : ℕ) (d : Cont) → position (λ (d : Cont). is_same_id b d.base) cs ≡ Some at → do_rise cs ≡ true → make_move cs (Finish b) ≡ Some ds → remove cs at ≡ ds
 ends_here b cs ds at d here rise e =
     let first = first_found b cs at d here in
-    sym (taken_out b cs at first rise) ∙ is (ap (λ o. end_of b o cs) (sym (found_first b cs at d first)) ∙ e)
+    sym (taken_out b cs at first rise) ∙ is (ap (λ o. option_map (λ d. filter (is_not_of b) cs) o) (sym (found_first b cs at d first)) ∙ e)
   where
-    is : Some (without_cont b cs) ≡ Some ds → without_cont b cs ≡ ds
+    is : Some (filter (is_not_of b) cs) ≡ Some ds → filter (is_not_of b) cs ≡ ds
     is e = cc
 
 pub ends_nowhere : (b : Id) (cs ds : List Cont) → position (λ (d : Cont). is_same_id b d.base) cs ≡ None → make_move cs (Finish b) ≡ Some ds → cs ≡ ds
-ends_nowhere b cs ds none e = absurd (never (ap (λ o. end_of b o cs) (sym (no_cont b cs none)) ∙ e))
+ends_nowhere b cs ds none e = absurd (never (ap (λ o. option_map (λ d. filter (is_not_of b) cs) o) (sym (no_cont b cs none)) ∙ e))
   where
     never : ◌≡◌ {A = Option (List Cont)} None (Some ds) → ⊥
     never e = cc

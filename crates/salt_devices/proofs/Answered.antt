@@ -5,6 +5,7 @@ use Rattle.salt_commit.proofs.Beginning.{blank_unnamed}
 use Rattle.salt_commit.proofs.Opening.{of_log, same_shape_is}
 use Rattle.salt_commit.specs.Openings.{LeavesPages}
 use Rattle.salt_commit.specs.Stores.{reading}
+use Rattle.salt_model.specs.Words.{and_then}
 use Rattle.salt_stands.specs.Fitting.{kept_in}
 use Rattle.salt_devices.specs.Leaving.{StandsFor, StandsStill}
 use Rattle.salt_promise.specs.Standing.{IsOlder}
@@ -18,7 +19,7 @@ use Rattle.salt_stands.specs.Partition.{judge_part, pages_device, part_at, part_
 use Rattle.salt_stands.specs.PartitionLog.{partition_generation, partition_in}
 use Rattle.salt_stands.specs.Stands as opening
 use Rattle.salt_stands.specs.Stands.{Opening, are_spent, found_with, is_same_kind, is_same_shape, stands_on, logs_of, nothing_found, of_coordinator, of_parts, opening_of, parts_at, with_parts}
-use Rattle.salt_stands.specs.Words.{each_from, if_sound, or_fault}
+use Rattle.salt_stands.specs.Words.{each_from}
 use Rattle.salt_storage.specs.Writing.{FindsNoMore}
 use Rattle.salt_storage.specs.OpenErr.TheVariants as open_err
 use Rattle.salt_storage.specs.OpenErr.TheVariants.{NotSalt, NumbersSpent, OtherShape}
@@ -28,6 +29,7 @@ use Rattle.salt_place.specs.declared.placement.PlaceKind.{PlaceKind}
 use Rattle.salt_place.specs.declared.placement.Shape.{Shape}
 use Rattle.std.proofs.Common.{Bool, Err, List, None, Ok, Option, Result, Some, ap, arith, false, inl, inr, refl, subst, sym, true, ℕ, ◌+◌, ◌<◌, ◌≡◌, ◌⊎◌, ◌∙◌, ◌∷◌}
 use Rattle.std.proofs.lemmas.Bool.Decides.{Decides-eqb}
+use Rattle.std.specs.Option.{ok_or}
 use Rattle.std.specs.Prelude.{if◌then◌else◌, not, option_map, suc, zero, ◌&&◌}
 
 -- THE ANSWER, by what the coordinator's log says
@@ -51,7 +53,7 @@ faulty bytes asked which is = ap (λ p. of_coordinator reading bytes asked (judg
 pub stands_for_nothing : (bytes : ℕ → List ℕ) (asked : Shape) (which : WhichLog) (log : CoordinatorLog) → coordinator_pair (logs_of bytes) ≡ Counts which log → coordinator_of reading log ≡ None
     → opening_of reading bytes asked ≡ opening.NotSalt (device_of 0 which)
 stands_for_nothing bytes asked which log counts none =
-    ap (λ p. of_coordinator reading bytes asked (judge_coordinator reading p)) counts ∙ ap (λ o. of_coordinator reading bytes asked (or_fault (device_of 0 which) (option_map Some o))) none
+    ap (λ p. of_coordinator reading bytes asked (judge_coordinator reading p)) counts ∙ ap (λ o. of_coordinator reading bytes asked (ok_or (option_map Some o) (device_of 0 which))) none
 
 -- WHAT STANDS: the devices are blank, or a log counts, and the partitions stand
 
@@ -74,16 +76,16 @@ pub judged_as : (bytes : ℕ → List ℕ) (asked : Shape) (found : opening.Foun
 judged_as bytes asked found e = by (coordinator_pair (logs_of bytes)) refl e
   where
     of_part : (which : WhichLog) (log : CoordinatorLog) → coordinator_pair (logs_of bytes) ≡ Counts which log → (c : Coordinator Definition) → coordinator_of reading log ≡ Some c
-        → (r : Result (List Tables) ℕ) → parts_at reading c (logs_of bytes) bytes ≡ r → if_sound (λ parts. Ok (found_with c parts)) r ≡ Ok found → IsCounted bytes found
+        → (r : Result (List Tables) ℕ) → parts_at reading c (logs_of bytes) bytes ≡ r → and_then r (λ parts. Ok (found_with c parts)) ≡ Ok found → IsCounted bytes found
     of_part which log counts c reads (Err dev) is e' = absurd (cc e')
     of_part which log counts c reads (Ok parts) is e' = record { which = which; log = log; counts = counts; c = c; reads = reads; parts = parts; stand = is; is = cc e' }
 
     of_log_read : (which : WhichLog) (log : CoordinatorLog) → coordinator_pair (logs_of bytes) ≡ Counts which log → (o : Option (Coordinator Definition)) → coordinator_of reading log ≡ o
-        → if_sound (with_parts reading (logs_of bytes) bytes asked) (or_fault (device_of 0 which) (option_map Some o)) ≡ Ok found → IsCounted bytes found
+        → and_then (ok_or (option_map Some o) (device_of 0 which)) (with_parts reading (logs_of bytes) bytes asked) ≡ Ok found → IsCounted bytes found
     of_log_read which log counts None is e' = absurd (cc e')
     of_log_read which log counts (Some c) is e' = of_part which log counts c is (parts_at reading c (logs_of bytes) bytes) refl e'
 
-    by : (p : Pair CoordinatorLog) → coordinator_pair (logs_of bytes) ≡ p → if_sound (with_parts reading (logs_of bytes) bytes asked) (judge_coordinator reading p) ≡ Ok found → IsNothing bytes asked found ⊎ IsCounted bytes found
+    by : (p : Pair CoordinatorLog) → coordinator_pair (logs_of bytes) ≡ p → and_then (judge_coordinator reading p) (with_parts reading (logs_of bytes) bytes asked) ≡ Ok found → IsNothing bytes asked found ⊎ IsCounted bytes found
     by BothBlank is e' = inl (record { blank = is; is = cc e' })
     by (Faulty which) is e' = absurd (cc e')
     by (Counts which log) is e' = inr (of_log_read which log is (coordinator_of reading log) refl e')
@@ -105,7 +107,7 @@ opened_as bytes asked found e = by (coordinator_pair (logs_of bytes)) refl e
         record { counted = record { which = which; log = log; counts = counts; c = c; reads = reads; parts = parts; stand = is; is = cc e' }; same = shape }
 
     of_log_read : (which : WhichLog) (log : CoordinatorLog) → coordinator_pair (logs_of bytes) ≡ Counts which log → (o : Option (Coordinator Definition)) → coordinator_of reading log ≡ o
-        → of_coordinator reading bytes asked (or_fault (device_of 0 which) (option_map Some o)) ≡ opening.Stands found → IsOpened bytes asked found
+        → of_coordinator reading bytes asked (ok_or (option_map Some o) (device_of 0 which)) ≡ opening.Stands found → IsOpened bytes asked found
     of_log_read which log counts None is e' = absurd (cc e')
     of_log_read which log counts (Some c) is e' =
         of_part which log counts c is (is_same_shape c.log.header.shape asked) refl (are_spent c.log.told.boot c.log.told.decisions) (parts_at reading c (logs_of bytes) bytes) refl e'
@@ -120,12 +122,12 @@ pub opened_stands : (bytes : ℕ → List ℕ) (asked : Shape) (found : opening.
 opened_stands bytes asked found e = by (opened_as bytes asked found e)
   where
     by : IsNothing bytes asked found ⊎ IsOpened bytes asked found → stands_on reading bytes asked ≡ Ok found
-    by (inl none) = ap (λ p. if_sound (with_parts reading (logs_of bytes) bytes asked) (judge_coordinator reading p)) none.blank ∙ ap Ok none.is
+    by (inl none) = ap (λ p. and_then (judge_coordinator reading p) (with_parts reading (logs_of bytes) bytes asked)) none.blank ∙ ap Ok none.is
     by (inr o) =
         let k = o.counted in
-        ap (λ p. if_sound (with_parts reading (logs_of bytes) bytes asked) (judge_coordinator reading p)) k.counts
-        ∙ ap (λ c. if_sound (with_parts reading (logs_of bytes) bytes asked) (or_fault (device_of 0 k.which) (option_map Some c))) k.reads
-        ∙ ap (if_sound (λ parts. Ok (found_with k.c parts))) k.stand ∙ ap Ok k.is
+        ap (λ p. and_then (judge_coordinator reading p) (with_parts reading (logs_of bytes) bytes asked)) k.counts
+        ∙ ap (λ c. and_then (ok_or (option_map Some c) (device_of 0 k.which)) (with_parts reading (logs_of bytes) bytes asked)) k.reads
+        ∙ ap (λ r. and_then r (λ parts. Ok (found_with k.c parts))) k.stand ∙ ap Ok k.is
 
 -- its format is that of the log
 pub counted_log : (bytes : ℕ → List ℕ) (found : opening.Found Definition) (k : IsCounted bytes found) → found.format ≡ k.log.header.format
@@ -152,7 +154,7 @@ new_opens image asked e = by (judged_as image asked (nothing_found asked) e)
         let boot : k.c.log.told.boot ≡ 0 = ap (λ (f : opening.Found Definition). f.kept.boot) k.is in
         let decisions : k.c.log.told.decisions ≡ 0 = ap (λ (f : opening.Found Definition). f.kept.decisions) k.is in
         ap (λ p. of_coordinator reading image asked (judge_coordinator reading p)) k.counts
-        ∙ ap (λ o. of_coordinator reading image asked (or_fault (device_of 0 k.which) (option_map Some o))) k.reads
+        ∙ ap (λ o. of_coordinator reading image asked (ok_or (option_map Some o) (device_of 0 k.which))) k.reads
         ∙ answered image asked k.c
         ∙ ap (λ b. asked_as k.c asked b (are_spent k.c.log.told.boot k.c.log.told.decisions) (parts_at reading k.c (logs_of image) image)) (ap (λ s. is_same_shape s asked) shape ∙ same_shape_true asked)
         ∙ ap (λ n. asked_as k.c asked true (are_spent n k.c.log.told.decisions) (parts_at reading k.c (logs_of image) image)) boot
@@ -178,7 +180,7 @@ judged_opens bytes asked found e has = by (judged_as bytes asked found e)
         begins : opening_of reading bytes asked ≡ asked_as k.c asked true (are_spent k.c.log.told.boot k.c.log.told.decisions) (parts_at reading k.c (logs_of bytes) bytes)
         begins =
             ap (λ p. of_coordinator reading bytes asked (judge_coordinator reading p)) k.counts
-            ∙ ap (λ o. of_coordinator reading bytes asked (or_fault (device_of 0 k.which) (option_map Some o))) k.reads
+            ∙ ap (λ o. of_coordinator reading bytes asked (ok_or (option_map Some o) (device_of 0 k.which))) k.reads
             ∙ answered bytes asked k.c
             ∙ ap (λ b. asked_as k.c asked b (are_spent k.c.log.told.boot k.c.log.told.decisions) (parts_at reading k.c (logs_of bytes) bytes)) (ap (λ s. is_same_shape s asked) shape ∙ same_shape_true asked)
 
@@ -218,8 +220,8 @@ each_same f g p zero h = refl
 each_same f g p (suc n) h =
     let here : p + 0 ≡ p = omega arith in
     let on : (k : ℕ) → p + suc k ≡ suc p + k = λ k. omega arith in
-    ap (if_sound (λ x. if_sound (λ xs. Ok (x ∷ xs)) (each_from f (suc p) n))) (subst (λ q. f q ≡ g q) here (h 0 (omega arith)))
-    ∙ ap (λ r. if_sound (λ x. if_sound (λ xs. Ok (x ∷ xs)) r) (g p)) (each_same f g (suc p) n (λ k low. subst (λ q. f q ≡ g q) (on k) (h (suc k) (omega (arith, low)))))
+    ap (λ r. and_then r (λ x. and_then (each_from f (suc p) n) (λ xs. Ok (x ∷ xs)))) (subst (λ q. f q ≡ g q) here (h 0 (omega arith)))
+    ∙ ap (λ r. and_then (g p) (λ x. and_then r (λ xs. Ok (x ∷ xs)))) (each_same f g (suc p) n (λ k low. subst (λ q. f q ≡ g q) (on k) (h (suc k) (omega (arith, low)))))
 
 module _ (shape : Shape) (bytes image : ℕ → List ℕ) (alike : AreAlike shape bytes image) where
   same_pair : coordinator_pair (logs_of image) ≡ coordinator_pair (logs_of bytes)
@@ -276,12 +278,12 @@ module _ (shape : Shape) (bytes image : ℕ → List ℕ) (alike : AreAlike shap
   same_judged found is e = by (judged_as image shape found e)
     where
       by : IsNothing image shape found ⊎ IsCounted image found → stands_on reading bytes shape ≡ Ok found
-      by (inl none) = ap (λ p. if_sound (with_parts reading (logs_of bytes) bytes shape) (judge_coordinator reading p)) (sym same_pair ∙ none.blank) ∙ ap Ok none.is
+      by (inl none) = ap (λ p. and_then (judge_coordinator reading p) (with_parts reading (logs_of bytes) bytes shape)) (sym same_pair ∙ none.blank) ∙ ap Ok none.is
       by (inr k) =
           let has : k.c.log.header.shape ≡ shape = ap (λ (f : opening.Found Definition). f.shape) k.is ∙ is in
-          ap (λ p. if_sound (with_parts reading (logs_of bytes) bytes shape) (judge_coordinator reading p)) (sym same_pair ∙ k.counts)
-          ∙ ap (λ c. if_sound (with_parts reading (logs_of bytes) bytes shape) (or_fault (device_of 0 k.which) (option_map Some c))) k.reads
-          ∙ ap (if_sound (λ parts. Ok (found_with k.c parts))) (sym (same_parts k.c has) ∙ k.stand) ∙ ap Ok k.is
+          ap (λ p. and_then (judge_coordinator reading p) (with_parts reading (logs_of bytes) bytes shape)) (sym same_pair ∙ k.counts)
+          ∙ ap (λ c. and_then (ok_or (option_map Some c) (device_of 0 k.which)) (with_parts reading (logs_of bytes) bytes shape)) k.reads
+          ∙ ap (λ r. and_then r (λ parts. Ok (found_with k.c parts))) (sym (same_parts k.c has) ∙ k.stand) ∙ ap Ok k.is
 
   same_older : (dev : ℕ) → IsOlder image dev → IsOlder bytes dev
   same_older dev o = record { which = o.which; log = o.log; counts = sym same_pair ∙ o.counts; older = o.older; device = o.device }
@@ -339,7 +341,7 @@ module _ (shape : Shape) (bytes image : ℕ → List ℕ) (made : IsMadeNew shap
   no_refusal open_err.Memory is = is
 
   judged_blank : stands_on reading bytes shape ≡ Ok (nothing_found shape)
-  judged_blank = ap (λ p. if_sound (with_parts reading (logs_of bytes) bytes shape) (judge_coordinator reading p)) made.blank
+  judged_blank = ap (λ p. and_then (judge_coordinator reading p) (with_parts reading (logs_of bytes) bytes shape)) made.blank
 
   new_finds : FindsNoMore (RefusedAs shape bytes) (StandsFor shape bytes) (RefusedAs shape image) (StandsFor shape image)
   new_finds = record {

@@ -10,10 +10,10 @@ use Rattle.salt_disk.specs.Disks.{SameShape, View}
 use Rattle.salt_model.specs.Kept.{Definition, Kept}
 use Rattle.salt_model.specs.Words.{Every}
 use Rattle.salt_stands.proofs.Booleans.{left, right}
-use Rattle.salt_stands.specs.Coordinator.{Coordinator, is_sound_cont, is_sound_decision, names_part, unit_of}
+use Rattle.salt_stands.specs.Coordinator.{Coordinator, is_sound_cont, is_sound_decision, unit_of}
 use Rattle.salt_stands.specs.OpenConts.{conts_of_move}
 use Rattle.salt_bytes.specs.Conts.{move_in}
-use Rattle.salt_stands.specs.Partition.{are_there, is_format_under, is_sound_change, is_sound_prepared, unit_prepared}
+use Rattle.salt_stands.specs.Partition.{are_there, is_format_under, is_sound_change, is_sound_prepared}
 use Rattle.salt_stands.specs.Pieces.{PartView, with_boot}
 use Rattle.salt_stands.specs.Stands.{are_spent}
 use Rattle.salt_stands.specs.Words.{has_bit}
@@ -35,22 +35,22 @@ not_spent boot decisions h = by (nat_le (2 ^ 63) boot) refl h
     by false is e = grind (arith, nat_tests)
 
 module _ (c : Coordinator Definition) where
-  prepared_before : (p : ℕ) (ps : List Prepared) → list_all (is_sound_prepared reading c p) ps ≡ true → Every (λ (u : Id). u.boot ≤ c.log.told.boot) (map unit_prepared ps)
+  prepared_before : (p : ℕ) (ps : List Prepared) → list_all (is_sound_prepared reading c p) ps ≡ true → Every (λ (u : Id). u.boot ≤ c.log.told.boot) (map (λ prepared. prepared.unit) ps)
   prepared_before p [] h = tt
   prepared_before p (x ∷ ps) h = (
     le_true x.unit.boot c.log.told.boot (left (nat_le x.unit.boot c.log.told.boot) (list_all (is_sound_change reading c p) x.changes) (left (is_sound_prepared reading c p x) (list_all (is_sound_prepared reading c p) ps) h)),
     prepared_before p ps (right (is_sound_prepared reading c p x) (list_all (is_sound_prepared reading c p) ps) h),
   )
 
-  decided_before : (p : ℕ) (ds : List Decision) → list_all (is_sound_decision reading c.definitions c.log.told c.log.header.format) ds ≡ true → Every (λ (u : Id). u.boot ≤ c.log.told.boot) (map unit_of (filter (names_part p) ds))
+  decided_before : (p : ℕ) (ds : List Decision) → list_all (is_sound_decision reading c.definitions c.log.told c.log.header.format) ds ≡ true → Every (λ (u : Id). u.boot ≤ c.log.told.boot) (map unit_of (filter (λ d. has_bit d.mask p) ds))
   decided_before p [] h = tt
   decided_before p (d ∷ ds) h =
       let sound = is_sound_decision reading c.definitions c.log.told c.log.header.format in
       by (has_bit d.mask p) (le_true d.unit.boot c.log.told.boot (left (nat_le d.unit.boot c.log.told.boot) (list_all (is_sound_cont reading c.definitions c.log.told) (conts_of_move (move_in c.log.header.format d.move))) (left (sound d) (list_all sound ds) h)))
       (decided_before p ds (right (sound d) (list_all sound ds) h))
     where
-      by : (b : Bool) → d.unit.boot ≤ c.log.told.boot → Every (λ (u : Id). u.boot ≤ c.log.told.boot) (map unit_of (filter (names_part p) ds))
-          → Every (λ (u : Id). u.boot ≤ c.log.told.boot) (map unit_of (if b then d ∷ filter (names_part p) ds else filter (names_part p) ds))
+      by : (b : Bool) → d.unit.boot ≤ c.log.told.boot → Every (λ (u : Id). u.boot ≤ c.log.told.boot) (map unit_of (filter (λ d. has_bit d.mask p) ds))
+          → Every (λ (u : Id). u.boot ≤ c.log.told.boot) (map unit_of (if b then d ∷ filter (λ d. has_bit d.mask p) ds else filter (λ d. has_bit d.mask p) ds))
       by true one more = (one, more)
       by false one more = more
 
@@ -60,7 +60,7 @@ module _ (c : Coordinator Definition) where
         let log = (v p).log in
         let prepared = list_all (is_sound_prepared reading c p) log.prepared in
         let there = are_there (decided_by c p) log in
-        none_of_boot u c.log.told.boot later (map unit_prepared log.prepared)
+        none_of_boot u c.log.told.boot later (map (λ prepared. prepared.unit) log.prepared)
         (prepared_before p log.prepared (right there prepared (right (is_format_under c.log.header.format log.header.format) (there && prepared) (s.part p low))));
     new = λ p low. none_of_boot u c.log.told.boot later (decided_by c p) (decided_before p c.log.told.decided s.coordinator.decided);
   }

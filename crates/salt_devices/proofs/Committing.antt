@@ -13,7 +13,9 @@ use Rattle.salt_codec.specs.Moves.{IsShort, IsShortMove}
 use Rattle.salt_commit.specs.Commits.{MayCommitUnit, fits_its_part}
 use Rattle.salt_commit.specs.Shares.{next_decision}
 use Rattle.salt_commit.specs.Stores.{reading}
-use Rattle.salt_stands.specs.Fitting.{are_of_columns, is_cont_of, is_key_of, is_row_of, passes_checks, programs_defined, tables_defined}
+use Rattle.salt_model.specs.Reaches.{in_row}
+use Rattle.salt_model.specs.Statements.{checked}
+use Rattle.salt_stands.specs.Fitting.{are_of_columns, is_cont_of, is_key_of, is_row_of, programs_defined, tables_defined}
 use Rattle.salt_devices.proofs.Limits.{arguments_length, at_every, columns_length, few_columns, few_params, few_vars, short_name}
 use Rattle.salt_devices.specs.Holding.{IsFresh, Keeps}
 use Rattle.salt_codec.specs.Entries.{CanBePut, MayStand}
@@ -39,7 +41,7 @@ use Rattle.salt_values.specs.declared.value.Value.{Value}
 use Rattle.std.proofs.Common.{Bool, List, None, Option, Some, [], ap, arith, false, length, refl, subst, sym, true, ℕ, ◌+◌, ◌++◌, ◌≡◌, ◌≤◌, ◌∙◌, ◌∷◌}
 use Rattle.std.proofs.lemmas.Bool.Decides.{nat_tests}
 use Rattle.std.specs.List.{filter, list_all}
-use Rattle.std.specs.Prelude.{eqb, if◌then◌else◌, nat_le, suc, ◌&&◌, ◌==◌, slice_get}
+use Rattle.std.specs.Prelude.{eqb, if◌then◌else◌, is_ok, nat_le, slice_get, suc, ◌&&◌, ◌==◌}
 use Rattle.std.specs.Bool.{then_some}
 
 -- THE CONTINUATION OF A MOVE is one of those that it leaves
@@ -131,7 +133,7 @@ put_row schema table row plain fits = by (slice_get schema table) refl fits
     by None is e = absurd cc
     by (Some d) is e =
         let p = at_every IsPlain schema table d plain is in
-        row_length d row p.key p.few (columns_length d.columns row (left (are_of_columns d.columns row) (passes_checks d row) e))
+        row_length d row p.key p.few (columns_length d.columns row (left (are_of_columns d.columns row) (is_ok (checked (in_row d row []) d.checks)) e))
 
 put_change : (schema : List TableDef) (c : Change) → Every IsPlain schema → FitsAt schema (changed_at c) c.row → CanBePut true c
 put_change schema c plain fits = by c.row fits

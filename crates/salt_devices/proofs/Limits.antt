@@ -1,5 +1,5 @@
 -- What is defined within the limits is short.
-use Rattle.salt_ast.specs.Limits.{above, field_passed, name_passed, passed_in_list, table_limit}
+use Rattle.salt_ast.specs.Limits.{above, name_passed, passed_in_list, table_limit}
 use Rattle.salt_ast.specs.ProgramJudgement.{are_arguments}
 use Rattle.salt_ast.specs.ProgramLimits.{program_limit}
 use Rattle.salt_ast.specs.declared.limit.LimitName.{LimitName}
@@ -49,15 +49,15 @@ columns_length (f ∷ fs) [] e = absurd cc
 
 pub few_columns : (d : TableDef) → table_limit d ≡ None → length d.columns ≤ 16
 unfolding table_limit
-few_columns d e = short_list 16 _ field_passed d.columns (or_first _ _ (or_second (name_passed d.name) _ (or_first _ _ e)))
+few_columns d e = short_list 16 _ (λ f. name_passed f.name) d.columns (or_first _ _ (or_second (name_passed d.name) _ (or_first _ _ e)))
 
 pub few_params : (p : ProgramDef) → program_limit p ≡ None → length p.params ≤ 16
 unfolding program_limit
-few_params p e = short_list 16 _ field_passed p.params (or_first _ _ (or_second (name_passed p.name) _ (or_first _ _ e)))
+few_params p e = short_list 16 _ (λ f. name_passed f.name) p.params (or_first _ _ (or_second (name_passed p.name) _ (or_first _ _ e)))
 
 pub few_vars : (p : ProgramDef) → program_limit p ≡ None → length p.vars ≤ 16
 unfolding program_limit
-few_vars p e = short_list 16 _ field_passed p.vars (or_first _ _ (or_second _ _ (or_second (name_passed p.name) _ (or_first _ _ e))))
+few_vars p e = short_list 16 _ (λ f. name_passed f.name) p.vars (or_first _ _ (or_second _ _ (or_second (name_passed p.name) _ (or_first _ _ e))))
 
 pub short_name : (p : ProgramDef) → program_limit p ≡ None → length p.name ≤ 32
 unfolding program_limit

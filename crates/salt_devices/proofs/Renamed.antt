@@ -19,7 +19,7 @@ use Rattle.salt_partition.specs.Partitions.{IsLastKept, IsPartition}
 use Rattle.salt_partition.specs.declared.partition.Partition.{Partition}
 use Rattle.salt_stands.proofs.Commits.{listed_same}
 use Rattle.salt_stands.specs.Commits.{each_tables, found_of, partition_count}
-use Rattle.salt_stands.specs.Coordinator.{Coordinator, decided_for, names_part, unit_of}
+use Rattle.salt_stands.specs.Coordinator.{Coordinator, decided_for, unit_of}
 use Rattle.salt_stands.specs.Partition.{changes_if, decided_changes, part_tables}
 use Rattle.salt_stands.specs.Pieces.{PartView, is_prepared_in}
 use Rattle.salt_stands.specs.Placed.{IsPlaced}
@@ -81,8 +81,8 @@ decided_for_renamed u p [] = refl
 decided_for_renamed u p (d ∷ ds) = by (has_bit d.mask p) (decided_for_renamed u p ds)
   where
     by : (b : Bool) → decided_for p (map (decision_renamed u) ds) ≡ map (renamed u) (decided_for p ds)
-        → map unit_of (if b then decision_renamed u d ∷ filter (names_part p) (map (decision_renamed u) ds) else filter (names_part p) (map (decision_renamed u) ds))
-        ≡ map (renamed u) (map unit_of (if b then d ∷ filter (names_part p) ds else filter (names_part p) ds))
+        → map unit_of (if b then decision_renamed u d ∷ filter (λ d. has_bit d.mask p) (map (decision_renamed u) ds) else filter (λ d. has_bit d.mask p) (map (decision_renamed u) ds))
+        ≡ map (renamed u) (map unit_of (if b then d ∷ filter (λ d. has_bit d.mask p) ds else filter (λ d. has_bit d.mask p) ds))
     by true h = ap (λ us. renamed u d.unit ∷ us) h
     by false h = h
 

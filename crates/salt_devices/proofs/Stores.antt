@@ -6,6 +6,7 @@ use Rattle.salt_commit.specs.Openings.{NamesPages}
 use Rattle.salt_commit.specs.Reads.{StandsInPlace}
 use Rattle.salt_commit.specs.Stores.{IsStore, StandsOnDevices, decided_by, next_text, reading}
 use Rattle.salt_commit.specs.declared.store.Store.{Store}
+use Rattle.salt_model.specs.Words.{and_then}
 use Rattle.salt_stands.specs.Fitting.{kept_in, tables_defined}
 use Rattle.salt_devices.specs.Holding.{AreLogsOf, IsFresh, IsHeld, IsNewTo}
 use Rattle.salt_devices.specs.Leaving.{IsEither, LeavesEither, StandsFor}
@@ -23,7 +24,6 @@ use Rattle.salt_stands.specs.Partition.{part_device, part_of_key, part_pair}
 use Rattle.salt_stands.specs.PartitionLog.{PartitionLog, partition_generation, partition_in}
 use Rattle.salt_stands.specs.Pieces.{PartView, is_prepared_in, with_definition}
 use Rattle.salt_stands.specs.Stands.{Found, stands_on, logs_of, nothing_found, with_parts}
-use Rattle.salt_stands.specs.Words.{if_sound}
 use Rattle.salt_values.specs.declared.id.Id.{Id}
 use Rattle.salt_place.specs.declared.placement.Shape.{Shape}
 use Rattle.std.proofs.Common.{IsTrue, List, Ok, Some, [], ap, arith, false, inl, sym, true, ℕ, ◌+◌, ◌<◌, ◌≡◌, ◌∙◌}
@@ -99,7 +99,7 @@ pub is_begun : (shape : Shape) (image : ℕ → List ℕ) → ((asked : Shape) �
 is_begun shape image each blank =
     let other : Shape = record shape { parts = shape.parts + 1 } in
     let j : IsJudged shape image other = each other in
-    let new : stands_on reading image other ≡ Ok (nothing_found other) = ap (λ p. if_sound (with_parts reading (logs_of image) image other) (judge_coordinator reading p)) blank in
+    let new : stands_on reading image other ≡ Ok (nothing_found other) = ap (λ p. and_then (judge_coordinator reading p) (with_parts reading (logs_of image) image other)) blank in
     let both : Ok j.found ≡ Ok (nothing_found other) = sym j.is ∙ new in
     let same : j.found ≡ nothing_found other = cc both in
     let shapes : shape ≡ other = sym j.has_shape ∙ ap (λ (f : Found Definition). f.shape) same in

@@ -1,6 +1,6 @@
 -- What is read without NULL is read the same with it.
 use Rattle.salt_bytes.specs.Numbers.{take_16}
-use Rattle.salt_bytes.specs.Page.{TableRow, if_zeros, rows_in_page, take_rows, take_table_row}
+use Rattle.salt_bytes.specs.Page.{TableRow, if_zeros, rows_in_page, take_table_row}
 use Rattle.salt_bytes.specs.Taking.{Take, give, go_on, only_if, take_byte, take_each, then_take}
 use Rattle.salt_bytes.specs.Values.{is_row_length, take_row, take_value, take_value_of}
 use Rattle.salt_checkpoint.specs.Sides.{side_bytes}
@@ -53,14 +53,14 @@ unfolding table_row
 table_row_wider = then_wider take_16 take_16 (λ table. then_take (take_row false) (λ row. give (table_row table row))) (λ table. then_take (take_row true) (λ row. give (table_row table row))) (itself take_16)
     (λ table. then_wider (take_row false) (take_row true) (λ row. give (table_row table row)) (λ row. give (table_row table row)) row_wider (λ row. itself (give (table_row table row))))
 
-rows_wider : Wider (take_rows false) (take_rows true)
+rows_wider : Wider (then_take take_16 (take_each (take_table_row false))) (then_take take_16 (take_each (take_table_row true)))
 rows_wider = then_wider take_16 take_16 (take_each (take_table_row false)) (take_each (take_table_row true)) (itself take_16) (λ n. each_wider (take_table_row false) (take_table_row true) table_row_wider n)
 
 pub page_wider : (nulls : Bool) (bytes : List ℕ) (rows : List TableRow) → rows_in_page nulls bytes ≡ Some rows → rows_in_page true bytes ≡ Some rows
 page_wider true bytes rows is = is
-page_wider false bytes rows is = by (take_rows false bytes) refl is
+page_wider false bytes rows is = by (then_take take_16 (take_each (take_table_row false)) bytes) refl is
   where
-    by : (o : Option (List TableRow × List ℕ)) → take_rows false bytes ≡ o → if_zeros o ≡ Some rows → if_zeros (take_rows true bytes) ≡ Some rows
+    by : (o : Option (List TableRow × List ℕ)) → then_take take_16 (take_each (take_table_row false)) bytes ≡ o → if_zeros o ≡ Some rows → if_zeros (then_take take_16 (take_each (take_table_row true)) bytes) ≡ Some rows
     by None e is = cc
     by (Some x) e is = ap if_zeros (rows_wider.wider bytes x e) ∙ is
 

@@ -15,7 +15,7 @@ use Rattle.law_states.specs.OpenUnits.{OpenUnit, UnitState, unit_named}
 use Rattle.law_states.specs.Told.{at_devices_in, does_in}
 use Rattle.law_states.specs.UnitFacts.{reach_under}
 use Rattle.salt_model.specs.Kept.{Kept, schema_of}
-use Rattle.salt_model.specs.Reaches.{first_value, key_reached, no_row, range_of, reach, reach_in, reached, table_for, table_from, table_named}
+use Rattle.salt_model.specs.Reaches.{first_value, key_reached, no_row, range_of, reach, reach_in, reached, table_for, table_from}
 use Rattle.salt_model.specs.Tables.{Entry, Tables, is_within, place_cmp, row_at}
 use Rattle.salt_model.specs.Words.{Every}
 use Rattle.salt_model.specs.declared.events.Cause.{Cause}
@@ -76,7 +76,7 @@ in-table t vars (Update name sets scan) r h = range-at t Write (range_of vars sc
 in-table t vars (Delete name scan) r h = range-at t Write (range_of vars scan.bound) r h
 in-table t vars (Ensure e) r h = absurd cc
 
-for-within : (schema : List TableDef) (name : Option (List ℕ)) (found : ℕ × TableDef) → option_and_then (λ n. table_named n schema) name ≡ Some found →
+for-within : (schema : List TableDef) (name : Option (List ℕ)) (found : ℕ × TableDef) → option_and_then (λ n. table_from 0 n schema) name ≡ Some found →
     found.0 < length schema
 for-within schema None found h = absurd cc
 for-within schema (Some name) found h = let a = from-within 0 name schema found h in omega arith

@@ -5,7 +5,7 @@ use Rattle.salt_ast.specs.declared.trees.TableDef.{TableDef}
 use Rattle.salt_eval.proofs.Tabled.{named-known, named-unknown}
 use Rattle.salt_eval.specs.Effects.{IsEffect, attempted, effect_at, effect_of, table_effect}
 use Rattle.salt_model.specs.Eval.{holds}
-use Rattle.salt_model.specs.Reaches.{no_row, reach, reach_in, table_for, table_in, table_named}
+use Rattle.salt_model.specs.Reaches.{no_row, reach, reach_in, table_for, table_from, table_in}
 use Rattle.salt_model.specs.Statements.{Done, answering, do_at, do_in, done, outcome_of}
 use Rattle.salt_model.specs.Tables.{Tables, rows_in}
 use Rattle.salt_model.specs.Words.{and_then}
@@ -71,8 +71,8 @@ module _ (vars : List Binding) (es : Tables) where
   at-some (Delete n s) name h d = refl
 
   module _ (schema : List TableDef) (st : Statement) (name : List ℕ) (names : table_in st ≡ Some name) where
-    at-table : (o : Option (ℕ × TableDef)) → table_named name schema ≡ o → attempted schema vars st es ≡ effect_at vars st o es
-    at-table o is = ap (λ n. effect_at vars st (option_and_then (λ name. table_named name schema) n) es) names ∙ ap (λ x. effect_at vars st x es) is
+    at-table : (o : Option (ℕ × TableDef)) → table_from 0 name schema ≡ o → attempted schema vars st es ≡ effect_at vars st o es
+    at-table o is = ap (λ n. effect_at vars st (option_and_then (λ name. table_from 0 name schema) n) es) names ∙ ap (λ x. effect_at vars st x es) is
 
     pub attempted-unknown : table_number schema name ≡ None → attempted schema vars st es ≡ Err cause.Missing
     attempted-unknown none = at-table None (named-unknown name schema none) ∙ at-none st name names

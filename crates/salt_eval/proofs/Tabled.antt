@@ -1,7 +1,7 @@
 -- The table that a statement names, by its number.
 use Rattle.salt_ast.specs.declared.trees.Statement.{Statement}
 use Rattle.salt_ast.specs.declared.trees.TableDef.{TableDef}
-use Rattle.salt_model.specs.Reaches.{reach, reach_in, table_from, table_in, table_named}
+use Rattle.salt_model.specs.Reaches.{reach, reach_in, table_from, table_in}
 use Rattle.salt_model.specs.declared.vars.Binding.{Binding}
 use Rattle.salt_schema.specs.Definitions.{is_named}
 use Rattle.salt_schema.specs.Schemas.{table_number}
@@ -37,20 +37,20 @@ data_at n name (d ∷ ds) t def h = by (same_bytes name d.name) (data_at (n + 1)
         let at : t ≡ n + 1 + m.0 = m.1 in
         (suc m.0, omega arith, m.2)
 
-pub number-named : (name : List ℕ) (schema : List TableDef) → option_map (λ (d : ℕ × TableDef). d.0) (table_named name schema) ≡ table_number schema name
+pub number-named : (name : List ℕ) (schema : List TableDef) → option_map (λ (d : ℕ × TableDef). d.0) (table_from 0 name schema) ≡ table_number schema name
 number-named name schema = numbered 0 name schema
 
-pub named-unknown : (name : List ℕ) (schema : List TableDef) → table_number schema name ≡ None → table_named name schema ≡ None
-named-unknown name schema h = by (table_named name schema) (number-named name schema ∙ h)
+pub named-unknown : (name : List ℕ) (schema : List TableDef) → table_number schema name ≡ None → table_from 0 name schema ≡ None
+named-unknown name schema h = by (table_from 0 name schema) (number-named name schema ∙ h)
   where
     by : (o : Option (ℕ × TableDef)) → option_map (λ (d : ℕ × TableDef). d.0) o ≡ None → o ≡ None
     by None h = refl
     by (Some d) h = absurd cc
 
-pub named-known : (name : List ℕ) (schema : List TableDef) (t : ℕ) (def : TableDef) → table_number schema name ≡ Some t → slice_get schema t ≡ Some def → table_named name schema ≡ Some (t, def)
-named-known name schema t def number at = by (table_named name schema) refl (number-named name schema ∙ number)
+pub named-known : (name : List ℕ) (schema : List TableDef) (t : ℕ) (def : TableDef) → table_number schema name ≡ Some t → slice_get schema t ≡ Some def → table_from 0 name schema ≡ Some (t, def)
+named-known name schema t def number at = by (table_from 0 name schema) refl (number-named name schema ∙ number)
   where
-    by : (o : Option (ℕ × TableDef)) → table_named name schema ≡ o → option_map (λ (d : ℕ × TableDef). d.0) o ≡ Some t → o ≡ Some (t, def)
+    by : (o : Option (ℕ × TableDef)) → table_from 0 name schema ≡ o → option_map (λ (d : ℕ × TableDef). d.0) o ≡ Some t → o ≡ Some (t, def)
     by None is h = absurd cc
     by (Some d) is h =
         let first : d.0 ≡ t = cc in
@@ -61,9 +61,9 @@ named-known name schema t def number at = by (table_named name schema) refl (num
         λ i. Some (first i, second i)
 
 pub number-found : (name : List ℕ) (schema : List TableDef) (t : ℕ) → table_number schema name ≡ Some t → slice_get schema t ≡ None → ⊥
-number-found name schema t number none = by (table_named name schema) refl (number-named name schema ∙ number)
+number-found name schema t number none = by (table_from 0 name schema) refl (number-named name schema ∙ number)
   where
-    by : (o : Option (ℕ × TableDef)) → table_named name schema ≡ o → option_map (λ (d : ℕ × TableDef). d.0) o ≡ Some t → ⊥
+    by : (o : Option (ℕ × TableDef)) → table_from 0 name schema ≡ o → option_map (λ (d : ℕ × TableDef). d.0) o ≡ Some t → ⊥
     by None is h = cc
     by (Some d) is h =
         let first : d.0 ≡ t = cc in
@@ -75,15 +75,15 @@ number-found name schema t number none = by (table_named name schema) refl (numb
 module _ (schema : List TableDef) (vars : List Binding) (st : Statement) where
   pub reach-none : table_in st ≡ None → None ≡ reach schema vars st
   unfolding reach
-  reach-none h = sym (ap (λ o. option_and_then (λ (d : ℕ × TableDef). reach_in d.0 vars st) (option_and_then (λ name. table_named name schema) o)) h)
+  reach-none h = sym (ap (λ o. option_and_then (λ (d : ℕ × TableDef). reach_in d.0 vars st) (option_and_then (λ name. table_from 0 name schema) o)) h)
 
   pub reach-unknown : (name : List ℕ) → table_in st ≡ Some name → table_number schema name ≡ None → None ≡ reach schema vars st
   unfolding reach
-  reach-unknown name h none = sym (ap (λ o. option_and_then (λ (d : ℕ × TableDef). reach_in d.0 vars st) (option_and_then (λ name. table_named name schema) o)) h ∙ ap (option_and_then (λ (d : ℕ × TableDef). reach_in d.0 vars st)) (named-unknown name schema none))
+  reach-unknown name h none = sym (ap (λ o. option_and_then (λ (d : ℕ × TableDef). reach_in d.0 vars st) (option_and_then (λ name. table_from 0 name schema) o)) h ∙ ap (option_and_then (λ (d : ℕ × TableDef). reach_in d.0 vars st)) (named-unknown name schema none))
 
   pub reach-known : (name : List ℕ) (t : ℕ) → table_in st ≡ Some name → table_number schema name ≡ Some t → reach_in t vars st ≡ reach schema vars st
   unfolding reach
-  reach-known name t h number = sym (ap (λ o. option_and_then (λ (d : ℕ × TableDef). reach_in d.0 vars st) (option_and_then (λ name. table_named name schema) o)) h ∙ by (table_named name schema) (number-named name schema ∙ number))
+  reach-known name t h number = sym (ap (λ o. option_and_then (λ (d : ℕ × TableDef). reach_in d.0 vars st) (option_and_then (λ name. table_from 0 name schema) o)) h ∙ by (table_from 0 name schema) (number-named name schema ∙ number))
     where
       by : (o : Option (ℕ × TableDef)) → option_map (λ (d : ℕ × TableDef). d.0) o ≡ Some t → option_and_then (λ (d : ℕ × TableDef). reach_in d.0 vars st) o ≡ reach_in t vars st
       by None h = absurd cc

@@ -1,7 +1,7 @@
 -- What ACID units see of BASE programs: chains of readers, and whole programs.
 use Rattle.salt_model.specs.After.{reach_now}
 use Rattle.salt_model.specs.Locks.{Taken, taken_in, touches}
-use Rattle.salt_model.specs.Trace.{Trace, from, over_events, ◌asks◌, ◌says◌, ◌turns◌}
+use Rattle.salt_model.specs.Trace.{Trace, over_events, ◌says◌}
 use Rattle.salt_model.specs.Programs.{released_in}
 use Rattle.salt_model.specs.Units.{Over, Standing, is_of_program, is_open_standing, program_of, standing}
 use Rattle.salt_model.specs.Everywhere.{Each}
@@ -23,14 +23,10 @@ abbrev pub read_by : Id → Trace → List Id
 read_by u = over_events (λ k. []) (λ trace e us. elim e
     [ Did v st answer ↦ (if is_same_id u v then writers_in trace (reach_now v trace st) ++ us else us) | _ ↦ us ])
 
--- u is linked to v: it reads from v, or they are subtransactions of one program
-abbrev pub is_linked : Trace → Id → Id → Bool
-is_linked trace u v = has_id v (read_by u trace) || option_map_or (λ b. is_of_program b trace v) (program_of u trace) false
-
--- a chain from u: each unit is linked to the next
+-- a chain from u: each unit reads from the next, or they are subtransactions of one program
 abbrev pub IsChain : Trace → Id → List Id → Type 0
 IsChain trace u [] = ⊤
-IsChain trace u (v ∷ vs) = IsTrue (is_linked trace u v) × IsChain trace v vs
+IsChain trace u (v ∷ vs) = IsTrue (has_id v (read_by u trace) || option_map_or (λ b. is_of_program b trace v) (program_of u trace) false) × IsChain trace v vs
 
 abbrev pub is_program_released : Trace → Option Id → Bool
 is_program_released trace o = option_map_or (λ b. has_id b (released_in trace)) o true

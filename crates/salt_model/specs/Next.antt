@@ -1,6 +1,6 @@
 -- The next event of the segment in which the trace ends. None: the segment is complete, or `go all` turns to its next program,
 -- or the run is down and is to be opened.
-use Rattle.salt_model.specs.Openings.{after_opened, opening_event}
+use Rattle.salt_model.specs.Openings.{after_opened, cuts_or_drains, follow_opening, to_cut}
 use Rattle.salt_model.specs.Phases.{Fallen, Opening, Phase, Serving, phase}
 use Rattle.salt_model.specs.Refusals.{refusal}
 use Rattle.salt_model.specs.Trace.{Trace, from, line_asked, ◌asks◌, ◌says◌, ◌turns◌}
@@ -20,7 +20,7 @@ serving_event trace e = option_or (follow trace e) (settle trace)
 
 abbrev pub said_event : Phase → Trace → Event → Option Event
 said_event Serving trace e = serving_event trace e
-said_event Opening trace e = opening_event trace e
+said_event Opening trace e = option_or (follow_opening trace e) (cuts_or_drains trace (to_cut trace))
 said_event Fallen trace e = None
 
 -- the number of a decision: of a definition, of a committed unit, of a branch

@@ -50,6 +50,3 @@ stands_now trace n pending = option_and_then (λ decision. then_some (n == next_
 -- directly after the Opened
 abbrev pub after_opened : Trace → ℕ → Option Event → Option Event
 after_opened trace n pending = option_or (stands_now trace n pending) (cuts_or_drains trace (to_cut trace))
-
-abbrev pub opening_event : Trace → Event → Option Event
-opening_event trace e = option_or (follow_opening trace e) (cuts_or_drains trace (to_cut trace))

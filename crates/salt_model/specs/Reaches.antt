@@ -26,9 +26,6 @@ abbrev pub table_from : ℕ → List ℕ → List TableDef → Option (ℕ × Ta
 table_from n name [] = None
 table_from n name (d ∷ ds) = if same_bytes name d.name then Some (n, d) else table_from (n + 1) name ds
 
-abbrev pub table_named : List ℕ → List TableDef → Option (ℕ × TableDef)
-table_named name schema = table_from 0 name schema
-
 abbrev pub table_in : Statement → Option (List ℕ)
 table_in (Insert t es) = Some t
 table_in (Select w t scan) = Some t
@@ -73,7 +70,7 @@ reach_in t vars (Delete name scan) = reached t Write (range_of vars scan.bound)
 reach_in t vars (Ensure e) = None
 
 abbrev pub table_for : List TableDef → Statement → Option (ℕ × TableDef)
-table_for schema st = option_and_then (λ name. table_named name schema) (table_in st)
+table_for schema st = option_and_then (λ name. table_from 0 name schema) (table_in st)
 
 -- a statement reaches one range of one table, or nothing
 unfoldable pub reach : List TableDef → List Binding → Statement → Option Reach

@@ -10,7 +10,7 @@ use Rattle.salt_ast.specs.declared.trees.TableDef.{TableDef}
 use Rattle.salt_ast.specs.declared.trees.What.TheVariants.{All, Columns, Count, Max, Min, Sum}
 use Rattle.salt_ast.specs.declared.trees.What.{What}
 use Rattle.salt_model.specs.Eval.{Visible, holds, is_int64, is_no, named_values, passes, truth_of, value_named, value_of, values_of}
-use Rattle.salt_model.specs.Tables.{Edits, Entry, Tables, no_edits, place, put_changes, rows_in, with_changes}
+use Rattle.salt_model.specs.Tables.{Edits, Entry, Tables, place, put_changes, rows_in, with_changes}
 use Rattle.salt_model.specs.Words.{and_then}
 use Rattle.salt_model.specs.declared.events.Answer.TheVariants.{Cell, Count, Failed, Rows, Stored}
 use Rattle.salt_model.specs.declared.events.Answer.{Answer}
@@ -181,7 +181,7 @@ run_on schema [] r = r
 run_on schema (st ∷ sts) r = if has_failed (doing schema r st).answer then with_done schema r st else run_on schema sts (with_done schema r st)
 
 abbrev pub run_from : Tables → List Binding → UnitRun
-run_from tables vars = record { answers = []; tables = tables; vars = vars; changes = no_edits; reaches = [] }
+run_from tables vars = record { answers = []; tables = tables; vars = vars; changes = record { list = []; sorted = tt }; reaches = [] }
 
 abbrev pub serial : List TableDef → Tables → List Binding → List Statement → UnitRun
 serial schema tables vars sts = run_on schema sts (run_from tables vars)

@@ -72,9 +72,6 @@ pub record Edits : Type 0 where
   pub list : List (Place × Option (List Value))
   pub sorted : T (is_sorted place_cmp list)
 
-abbrev pub no_edits : Edits
-no_edits = record { list = []; sorted = tt }
-
 abbrev pub put_change : Change → Edits → Edits
 put_change c ds = record {
   list = put place_cmp (changed_at c) c.row ds.list;

@@ -74,14 +74,11 @@ kind_called trace s n args (Base parts) = First s (fresh_base trace) n args
 abbrev pub begins : Trace → UnitKind → Event
 begins trace kind = Began (fresh_unit trace) kind
 
-abbrev pub calls : Trace → ℕ → List ℕ → List Value → Option Event
-calls trace s n args = option_map (λ p. begins trace (kind_called trace s n args p.body)) (kept_program n (kept trace))
-
 abbrev pub act_event : Trace → ℕ → Act → Option Id → Option Event
 act_event trace s Begin u = Some (begins trace (Acid s))
 act_event trace s (Do st) None = Some (begins trace (Acid s))
 act_event trace s (Do st) (Some u) = turn trace u
-act_event trace s (Call n args) u = calls trace s n args
+act_event trace s (Call n args) u = option_map (λ p. begins trace (kind_called trace s n args p.body)) (kept_program n (kept trace))
 act_event trace s Step u = option_and_then (turn trace) u
 act_event trace s Commit u = option_map (commits trace) u
 act_event trace s Rollback u = option_map (λ v. Ended v RolledBack) u
@@ -175,8 +172,7 @@ still_to_go trace = []
 
 -- one that has finished, or waits, when its turn comes is left out
 abbrev pub can_go : Trace → Id → Bool
-can_go trace b =
-    is_some (cont_of b (kept trace)) && (elim (program_unit b trace) [ None ↦ true | Some u ↦ not (is_waiting trace u) ])
+can_go trace b = is_some (cont_of b (kept trace)) && (elim (program_unit b trace) [ None ↦ true | Some u ↦ not (is_waiting trace u) ])
 
 abbrev pub next_to_go : Trace → Option Id
 next_to_go trace = find (can_go trace) (still_to_go trace)

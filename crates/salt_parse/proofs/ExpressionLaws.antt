@@ -3,7 +3,7 @@ use Rattle.std.proofs.Common.{◌≡◌, ℕ, zero, suc, ◌<◌, ◌≤◌, Boo
 use Rattle.std.proofs.Common.{subst, ◌∙◌, append_assoc, arith, length-append}
 use Rattle.std.proofs.lemmas.Bool.{eq-eqb, eqb-true}
 use Rattle.std.proofs.lemmas.List.{append-nil}
-use Rattle.salt_ast.specs.Grammar.{Atom, Comparison, Conjunction, Expression, Left, Negation, Nots, Once, Product, Sum, Within, alone, colon, literal}
+use Rattle.salt_ast.specs.Grammar.{Atom, Conjunction, Expression, Left, Nots, Once, Sum, Within, alone, colon, literal}
 use Rattle.salt_ast.specs.Grammar.{is_not_null, is_null, minus_int, more, named, not, one, pair, paren, plain, plus_int}
 use Rattle.salt_ast.specs.Operators.{operator, precedence}
 use Rattle.salt_ast.specs.Trees.{negation, null_test, operation}
@@ -430,53 +430,53 @@ nots_begins : (k : Keyword) (G : Symbols → Expr → Type 0) → is_same (key w
 nots_begins k G n b {ts} {e} (plain g) = b ts e g
 nots_begins k G n b (not d) = n
 
-comparison_begins : (k : Keyword) (Inner : Symbols → Expr → Type 0) (ts : Symbols) (e : Expr) → Comparison Inner ts e → Begins k ts
+comparison_begins : (k : Keyword) (Inner : Symbols → Expr → Type 0) (ts : Symbols) (e : Expr) → Once 3 (Sum Inner) ts e → Begins k ts
 comparison_begins k Inner ts e d = once_begins k 3 (Sum Inner)
-    (λ ts e d. left_begins k 4 (Product Inner) (λ ts e d. left_begins k 5 (Atom Inner) (λ ts e d. atom_begins k d) d) d) d
+    (λ ts e d. left_begins k 4 (Left 5 (Atom Inner)) (λ ts e d. left_begins k 5 (Atom Inner) (λ ts e d. atom_begins k d) d) d) d
 
 pub expression_begins : (k : Keyword) → is_same (key word.Not) (key k) ≡ false → (Inner : Symbols → Expr → Type 0) (ts : Symbols) (e : Expr) →
     Expression Inner ts e → Begins k ts
 expression_begins k n Inner ts e d = left_begins k 1 (Conjunction Inner)
-    (λ ts e d. left_begins k 2 (Negation Inner) (λ ts e d. nots_begins k (Comparison Inner) n (comparison_begins k Inner) d) d) d
+    (λ ts e d. left_begins k 2 (Nots (Once 3 (Sum Inner))) (λ ts e d. nots_begins k (Once 3 (Sum Inner)) n (comparison_begins k Inner) d) d) d
 
 -- ---- the levels together
 
 module _ (Inner : Symbols → Expr → Type 0) (read : TreeReader Expr) (s : Sound Inner read) where
-  product_sound : Sound (Product Inner) (product_of read)
+  product_sound : Sound (Left 5 (Atom Inner)) (product_of read)
   product_sound = left_sound 5 (Atom Inner) (atom_of read) (atom_sound Inner read s)
 
   pub sum_sound : Sound (Sum Inner) (sum_of read)
-  sum_sound = left_sound 4 (Product Inner) (product_of read) product_sound
+  sum_sound = left_sound 4 (Left 5 (Atom Inner)) (product_of read) product_sound
 
-  comparison_sound : Sound (Comparison Inner) (comparison_of read)
+  comparison_sound : Sound (Once 3 (Sum Inner)) (comparison_of read)
   comparison_sound = once_sound 3 (Sum Inner) (sum_of read) sum_sound
 
-  negation_sound : Sound (Negation Inner) (negation_of read)
-  negation_sound = nots_sound (Comparison Inner) (comparison_of read) comparison_sound
+  negation_sound : Sound (Nots (Once 3 (Sum Inner))) (negation_of read)
+  negation_sound = nots_sound (Once 3 (Sum Inner)) (comparison_of read) comparison_sound
 
   pub conjunction_sound : Sound (Conjunction Inner) (conjunction_of read)
-  conjunction_sound = left_sound 2 (Negation Inner) (negation_of read) negation_sound
+  conjunction_sound = left_sound 2 (Nots (Once 3 (Sum Inner))) (negation_of read) negation_sound
 
   pub expression_sound : Sound (Expression Inner) (expression_of read)
   expression_sound = left_sound 1 (Conjunction Inner) (conjunction_of read) conjunction_sound
 
   module _ (c : Complete 1 Inner read) where
-    product_complete : Complete 5 (Product Inner) (product_of read)
+    product_complete : Complete 5 (Left 5 (Atom Inner)) (product_of read)
     product_complete = left_complete 5 (Atom Inner) (atom_of read) (atom_sound Inner read s) (atom_complete Inner read 6 c)
 
     pub sum_complete : Complete 4 (Sum Inner) (sum_of read)
-    sum_complete = left_complete 4 (Product Inner) (product_of read) product_sound product_complete
+    sum_complete = left_complete 4 (Left 5 (Atom Inner)) (product_of read) product_sound product_complete
 
-    comparison_complete : Complete 3 (Comparison Inner) (comparison_of read)
+    comparison_complete : Complete 3 (Once 3 (Sum Inner)) (comparison_of read)
     comparison_complete = once_complete (Sum Inner) (sum_of read) sum_complete
 
-    negation_complete : Complete 3 (Negation Inner) (negation_of read)
-    negation_complete = nots_complete (Comparison Inner) (comparison_of read) 3
+    negation_complete : Complete 3 (Nots (Once 3 (Sum Inner))) (negation_of read)
+    negation_complete = nots_complete (Once 3 (Sum Inner)) (comparison_of read) 3
         (λ ts rest e d. Begins-nots (comparison_of read) (ts ++ rest) (Begins-append word.Not ts rest (comparison_begins word.Not Inner ts e d)))
         comparison_complete
 
     pub conjunction_complete : Complete 2 (Conjunction Inner) (conjunction_of read)
-    conjunction_complete = left_complete 2 (Negation Inner) (negation_of read) negation_sound negation_complete
+    conjunction_complete = left_complete 2 (Nots (Once 3 (Sum Inner))) (negation_of read) negation_sound negation_complete
 
     pub expression_complete : Complete 1 (Expression Inner) (expression_of read)
     expression_complete = left_complete 1 (Conjunction Inner) (conjunction_of read) conjunction_sound conjunction_complete

@@ -1,12 +1,13 @@
 -- Reading programs with what they pass finds what reading alone finds, and notes what they pass.
+use Rattle.salt_values.specs.declared.limits.TheConstants.{RETRY_MOST}
 use Rattle.std.proofs.Common.{◌≡◌, ℕ, Bool, true, false, cond, ◌||◌, ltb, List, [], ◌∷◌, ◌++◌, map, Option, Some, None, refl, sym, ap, ◌∙◌}
 use Rattle.std.specs.List.{list_any}
 use Rattle.std.specs.Prelude.{flat_map, option_and_then}
 use Rattle.std.specs.Bool.{then_some}
 use Rattle.std.specs.Option.{option_or}
-use Rattle.salt_ast.specs.Limits.{field_passed, is_high, passed_in_list}
+use Rattle.salt_ast.specs.Limits.{is_high, name_passed, passed_in_list}
 use Rattle.salt_ast.specs.Paths.{body_statements, part_block, statements_in}
-use Rattle.salt_ast.specs.ProgramLimits.{body_passed, next_passed, number_passed, part_passed, program_exprs, program_passed, retry_passed}
+use Rattle.salt_ast.specs.ProgramLimits.{body_passed, next_passed, number_passed, outside, part_passed, program_exprs, program_passed}
 use Rattle.salt_ast.specs.Trees.{statement_exprs}
 use Rattle.salt_ast.specs.declared.limit.LimitName.{LimitName}
 use Rattle.salt_ast.specs.declared.limit.LimitName.TheVariants as limit
@@ -43,7 +44,7 @@ use Rattle.salt_tokens.specs.declared.sign.Sign.TheVariants as mark
 -- ---- what is passed
 
 abbrev fields_marks : ℕ → LimitName → Marks (List Field)
-fields_marks most l = record { passed = passed_in_list most l field_passed; high = λ fs. false }
+fields_marks most l = record { passed = passed_in_list most l (λ f. name_passed f.name); high = λ fs. false }
 
 abbrev block_marks : Marks (List Statement)
 block_marks = counted_list 64 limit.Statements statement_marks
@@ -52,7 +53,7 @@ abbrev number_marks : Marks ℕ
 number_marks = record { passed = number_passed; high = λ k. false }
 
 abbrev retry_marks : Marks ℕ
-retry_marks = record { passed = retry_passed; high = λ k. false }
+retry_marks = record { passed = (outside 1 RETRY_MOST limit.Retry); high = λ k. false }
 
 abbrev next_marks : Marks Next
 next_marks = record { passed = next_passed; high = λ n. false }
@@ -61,7 +62,7 @@ abbrev commit_marks : Marks (Option Next)
 commit_marks = record { passed = option_and_then next_passed; high = λ n. false }
 
 abbrev failure_marks : Marks (Option ℕ × Option Next)
-failure_marks = record { passed = λ x. option_or (option_and_then retry_passed x.0) (option_and_then next_passed x.1); high = λ x. false }
+failure_marks = record { passed = λ x. option_or (option_and_then (outside 1 RETRY_MOST limit.Retry) x.0) (option_and_then next_passed x.1); high = λ x. false }
 
 abbrev part_marks : Marks PartDef
 part_marks = record { passed = part_passed; high = λ p. list_any statement_marks.high p.block }
@@ -104,7 +105,7 @@ base_high (p ∷ ps) = ap (λ (b : Bool). part_marks.high p || b) (base_high ps)
 fields_agree : (most : ℕ) (l : LimitName) → AgreesAll (fields_marks most l) AreKept (fields_within most l) listed_fields_of
 fields_agree most l f ts p =
     agrees_named (counted_list most l field_marks) (fields_marks most l) f (fields_within most l f ts) (listed_fields_of ts)
-    (λ a. ap (λ (b : Bool). note f (passed_in_list most l field_passed a) b) (none_high a))
+    (λ a. ap (λ (b : Bool). note f (passed_in_list most l (λ f. name_passed f.name) a) b) (none_high a))
     (counted_items_agree (sign mark.Comma) most l field_marks field_at field_of field_agrees f ts p)
 
 parameters_agree : AgreesAll (fields_marks 16 limit.Parameters) AreKept parameters_at parameters_of
@@ -128,8 +129,8 @@ number_agrees f (name n ∷ ts) p = tt
 number_agrees f (text t ∷ ts) p = tt
 number_agrees f (sign s ∷ ts) p = tt
 
-retry_is : (f : Flags) (k : ℕ) → clear (note f (retry_passed k) false) ≡ true → kept_retry k ≡ k
-retry_is f k c = go (ltb k 1 || ltb 9 k) (clear_passes f (retry_passed k) false c)
+retry_is : (f : Flags) (k : ℕ) → clear (note f (outside 1 RETRY_MOST limit.Retry k) false) ≡ true → kept_retry k ≡ k
+retry_is f k c = go (ltb k 1 || ltb 9 k) (clear_passes f (outside 1 RETRY_MOST limit.Retry k) false c)
   where
     go : (b : Bool) → then_some b limit.Retry ≡ None → cond b 0 k ≡ k
     go true h = absurd cc

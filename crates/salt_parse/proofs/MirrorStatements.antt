@@ -1,7 +1,7 @@
 -- The same of statements and tables.
 use Rattle.std.proofs.Common.{◌≡◌, ℕ, Bool, true, false, cond, ◌||◌, List, [], ◌∷◌, ◌++◌, length, map, Option, Some, None, refl, sym, ap, subst, ◌∙◌}
 use Rattle.std.specs.List.{list_any}
-use Rattle.salt_ast.specs.Limits.{expr_passed, field_passed, is_high, name_passed, passed_in_list, scan_passed, set_passed, statement_passed}
+use Rattle.salt_ast.specs.Limits.{expr_passed, is_high, name_passed, passed_in_list, scan_passed, set_passed, statement_passed}
 use Rattle.salt_ast.specs.Limits.{table_passed, what_passed}
 use Rattle.salt_ast.specs.Trees.{null, scan_exprs, statement_exprs}
 use Rattle.salt_ast.specs.Words.{first_in}
@@ -88,10 +88,10 @@ abbrev pub statement_marks : Marks Statement
 statement_marks = record { passed = statement_passed; high = λ s. list_any is_high (statement_exprs s) }
 
 abbrev pub field_marks : Marks Field
-field_marks = record { passed = field_passed; high = λ c. false }
+field_marks = record { passed = (λ f. name_passed f.name); high = λ c. false }
 
 abbrev fields_marks : Marks (List Field)
-fields_marks = record { passed = passed_in_list 16 limit.Columns field_passed; high = λ cs. false }
+fields_marks = record { passed = passed_in_list 16 limit.Columns (λ f. name_passed f.name); high = λ cs. false }
 
 abbrev checks_marks : Marks (List Expr)
 checks_marks = record { passed = passed_in_list 16 limit.Checks expr_passed; high = list_any is_high }
@@ -628,9 +628,9 @@ further_marks = from_marks (counted_marks 16 limit.Columns field_marks) 1
 fields_note : (f : Flags) (a : Field) (b : List Field) → noted further_marks (noted field_marks f a) b ≡ noted fields_marks f (a ∷ b)
 fields_note f a b =
     let g = noted field_marks f a in
-    counted_note 16 limit.Columns field_marks 1 15 refl g b ∙ note_note f (field_passed a) (passed_in_list 15 limit.Columns field_passed b) false
+    counted_note 16 limit.Columns field_marks 1 15 refl g b ∙ note_note f (name_passed a.name) (passed_in_list 15 limit.Columns (λ f. name_passed f.name) b) false
     (list_any field_marks.high b)
-    ∙ (λ t. note f (option_or (field_passed a) (passed_in_list 15 limit.Columns field_passed b)) (none_high b t))
+    ∙ (λ t. note f (option_or (name_passed a.name) (passed_in_list 15 limit.Columns (λ f. name_passed f.name) b)) (none_high b t))
 
 fields_agrees : AgreesAll fields_marks AreKept fields_at fields_of
 fields_agrees f ts p =
@@ -701,7 +701,7 @@ module _ (read : Reader BuiltTree) (find : TreeReader Expr) (c : Mirrors read fi
       (λ u4 p4.
       done table_marks f (record { name = x0; columns = x2; checks = x3 }) (record { name = a0; columns = a2; checks = a3 })
       (noted checks_marks (noted fields_marks (noted name_marks f a0) a2) a3) u4
-      (note_three f (name_passed a0) (passed_in_list 16 limit.Columns field_passed a2) (passed_in_list 16 limit.Checks expr_passed a3) false false
+      (note_three f (name_passed a0) (passed_in_list 16 limit.Columns (λ f. name_passed f.name) a2) (passed_in_list 16 limit.Checks expr_passed a3) false false
       (list_any is_high a3)) (λ c3. (let c2 : clear (noted fields_marks (noted name_marks f a0) a2) ≡ true = clear_before
       (noted fields_marks (noted name_marks f a0) a2) (checks_marks.passed a3) (checks_marks.high a3) c3 in let c1 : clear
       (noted name_marks f a0) ≡ true = clear_before (noted name_marks f a0) (fields_marks.passed a2)

@@ -1,5 +1,5 @@
 -- Reading programs from left to right, with what they pass.
-use Rattle.salt_ast.specs.ProgramLimits.{number_passed, retry_passed}
+use Rattle.salt_ast.specs.ProgramLimits.{number_passed, outside}
 use Rattle.salt_ast.specs.declared.limit.LimitName.{LimitName}
 use Rattle.salt_ast.specs.declared.limit.LimitName.TheVariants as limit
 use Rattle.salt_ast.specs.declared.programs.Body.{Body}
@@ -53,7 +53,7 @@ abbrev pub kept_retry : ℕ → ℕ
 kept_retry k = if nat_lt k 1 || nat_lt RETRY_MOST k then 0 else k
 
 abbrev pub retry_at : Reader ℕ
-retry_at f (int k ∷ ts) = Some (kept_retry k, note f (retry_passed k) false, ts)
+retry_at f (int k ∷ ts) = Some (kept_retry k, note f (outside 1 RETRY_MOST limit.Retry k) false, ts)
 retry_at f _ = None
 
 -- where the program goes on behind a commit, if this is said

@@ -1,7 +1,7 @@
 -- What the header of a log says that was read.
 use Rattle.salt_bytes.proofs.Only.{given_only, if_only, took}
 use Rattle.salt_bytes.specs.Coordinator.{take_word}
-use Rattle.salt_bytes.specs.Formats.{has_nulls, is_partition_format}
+use Rattle.salt_bytes.specs.Formats.{has_nulls}
 use Rattle.salt_bytes.specs.Numbers.{take_32, take_64}
 use Rattle.salt_bytes.specs.Partition.{PartitionHeader, Prepared, is_side, partition_header_in, take_partition_header}
 use Rattle.salt_bytes.specs.Spellable.{Every}
@@ -15,7 +15,7 @@ use Rattle.std.proofs.Common.{Bool, List, None, Option, Some, [], arith, codes, 
 use Rattle.std.proofs.lemmas.Bool.Decides.{Decides-eqb, nat_tests}
 use Rattle.std.specs.List.{list_all}
 use Rattle.std.specs.Bool.{then_some}
-use Rattle.std.specs.Prelude.{IfSome, nat_le, option_and_then, option_map, ◌==◌, ◌≤◌}
+use Rattle.std.specs.Prelude.{IfSome, nat_le, option_and_then, option_map, ◌&&◌, ◌==◌, ◌≤◌}
 
 pub record IsReadHeader (h : PartitionHeader) : Type 0 where
   pub first : nat_le 1 h.generation ≡ true
@@ -32,7 +32,7 @@ abbrev behind_generation : (format generation : ℕ) → Take PartitionHeader
 behind_generation format generation = only_if (nat_le 1 generation) (then_take take_byte (behind_part format generation))
 
 abbrev behind_format : ℕ → Take PartitionHeader
-behind_format format = only_if (is_partition_format format) (then_take take_64 (behind_generation format))
+behind_format format = only_if (nat_le 1 format && nat_le format 2) (then_take take_64 (behind_generation format))
 
 abbrev behind_word : List ℕ → Take PartitionHeader
 behind_word word = then_take take_byte behind_format
@@ -41,7 +41,7 @@ taken : (bytes rest : List ℕ) (h : PartitionHeader) → take_partition_header 
 taken bytes rest h e =
     let word = took behind_word (take_word (codes "SALTP") bytes) (h, rest) e in
     let format = took behind_format (take_byte word.rest) (h, rest) word.goes in
-    let known = if_only (is_partition_format format.x) (then_take take_64 (behind_generation format.x)) format.rest (h, rest) format.goes in
+    let known = if_only (nat_le 1 format.x && nat_le format.x 2) (then_take take_64 (behind_generation format.x)) format.rest (h, rest) format.goes in
     let generation = took (behind_generation format.x) (take_64 format.rest) (h, rest) known.1 in
     let first = if_only (nat_le 1 generation.x) (then_take take_byte (behind_part format.x generation.x)) generation.rest (h, rest) generation.goes in
     let part = took (behind_part format.x generation.x) (take_byte generation.rest) (h, rest) first.1 in

@@ -3,7 +3,6 @@ use Rattle.salt_codec.specs.declared.prepared.PreparedUnit.{PreparedUnit}
 use Rattle.law_story.proofs.Ids.{is_same_id-sym}
 use Rattle.salt_values.specs.Id.{has_id}
 use Rattle.salt_partition.specs.Contents.{units_of}
-use Rattle.salt_stands.specs.Partition.{unit_prepared}
 use Rattle.salt_stands.specs.Pieces.{is_prepared_in}
 use Rattle.salt_values.specs.Id.{is_same_id}
 use Rattle.salt_values.specs.Order.{id_cmp}
@@ -49,11 +48,11 @@ put_next name q names old new puts same =
     by false true = refl
     by false false = refl
 
-units_next : (units : List PreparedUnit) (x : PreparedUnit) → map unit_prepared (units_of (units ++ x ∷ [])) ≡ map unit_prepared (units_of units) ++ x.unit ∷ []
+units_next : (units : List PreparedUnit) (x : PreparedUnit) → map (λ prepared. prepared.unit) (units_of (units ++ x ∷ [])) ≡ map (λ prepared. prepared.unit) (units_of units) ++ x.unit ∷ []
 units_next [] x = refl
 units_next (y ∷ units) x = ap (λ l. y.unit ∷ l) (units_next units x)
 
 pub prepared_next : (units : List PreparedUnit) (x : PreparedUnit) (q : Id) (old new : BTreeSet Id)
     → ((q : Id) → list_any (is_at (id_cmp q)) new.keys ≡ cond (is_eq (id_cmp x.unit q)) true (list_any (is_at (id_cmp q)) old.keys))
     → has_id q old.keys ≡ is_prepared_in q (units_of units) → has_id q new.keys ≡ is_prepared_in q (units_of (units ++ x ∷ []))
-prepared_next units x q old new puts same = put_next x.unit q (map unit_prepared (units_of units)) old new puts same ∙ ap (has_id q) (sym (units_next units x))
+prepared_next units x q old new puts same = put_next x.unit q (map (λ prepared. prepared.unit) (units_of units)) old new puts same ∙ ap (has_id q) (sym (units_next units x))

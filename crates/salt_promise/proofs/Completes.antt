@@ -8,7 +8,7 @@ use Rattle.salt_model.specs.Trace.{Trace, Tree, lines_asked}
 use Rattle.salt_promise.proofs.OneAnswer.{one_answer}
 use Rattle.salt_promise.specs.Completing.{AsksFirst, IsWithin, MayTell, MeetsNothing}
 use Rattle.salt_promise.specs.Counting.{Downs, FailsOnly, RiseTo}
-use Rattle.salt_promise.specs.Doing.{AreLinesIn, AreLoadLines, Does}
+use Rattle.salt_promise.specs.Doing.{AreLinesOf, AreLoadLines, Does}
 use Rattle.salt_promise.specs.Given.{Run, shape_of}
 use Rattle.salt_promise.specs.declared.command.Command.TheVariants.{Load, Script}
 use Rattle.salt_promise.specs.declared.command.Command.{Command}
@@ -19,7 +19,7 @@ use Rattle.salt_promise.specs.Ways.{FirstLines, LinesWithin, way_of}
 use Rattle.salt_promise.specs.Workload.{load_lines}
 use Rattle.salt_stands.specs.Stands.{Opening, Stands}
 use Rattle.std.proofs.Common.{ap, arith, inl, inr, subst, sym}
-use Rattle.std.specs.Prelude.{IsTrue, List, None, Option, Some, [], map, refl, ℕ, ◌∷◌, ◌≡◌, ◌≤◌, ◌⊎◌}
+use Rattle.std.specs.Prelude.{IfSome, IsTrue, List, None, Option, Some, [], map, refl, ℕ, ◌∷◌, ◌≡◌, ◌≤◌, ◌⊎◌}
 
 -- FAULTS
 
@@ -38,9 +38,9 @@ rose (e ∷ es) first last h = rose-from first h.0 last (later e first h.0 h.1) 
 -- A SCRIPT within its size is not too long
 
 not-too-long : (r : Run) (command : Command) (trace : Trace) → r.status ≡ ScriptTooLong → Does command r trace → IsWithin command r.before.source.bytes → ⊥
-not-too-long r (Script shape early over_net) trace e d w = go r.before.source.bytes w (subst (λ s. AreLinesIn (way_of s).lines r.before.source.bytes r.after.source.bytes d.texts) e d.lines)
+not-too-long r (Script shape early over_net) trace e d w = go r.before.source.bytes w (subst (λ s. IfSome r.before.source.bytes (λ bytes. AreLinesOf (way_of s).lines bytes r.after.source.bytes d.texts)) e d.lines)
   where
-    go : (o : Option (List ℕ)) → IsWithin (Script shape early over_net) o → AreLinesIn LinesWithin o r.after.source.bytes d.texts → ⊥
+    go : (o : Option (List ℕ)) → IsWithin (Script shape early over_net) o → IfSome o (λ bytes. AreLinesOf LinesWithin bytes r.after.source.bytes d.texts) → ⊥
     go None h g = h
     go (Some script) h g = let over = g.1 in omega arith
 not-too-long r (Load calls) trace e d w = subst (λ s. AreLoadLines (way_of s).lines (map Tree (load_lines calls)) (lines_asked trace)) e d.lines
@@ -48,9 +48,9 @@ not-too-long r (Load calls) trace e d w = subst (λ s. AreLoadLines (way_of s).l
 -- FIRST LINES of the command
 
 first-lines : (r : Run) (command : Command) (trace : Trace) → (way_of r.status).lines ≡ FirstLines → Does command r trace → AsksFirst command r.before.source.bytes trace
-first-lines r (Script shape early over_net) trace e d = (d.texts, d.asked, go r.before.source.bytes (subst (λ x. AreLinesIn x r.before.source.bytes r.after.source.bytes d.texts) e d.lines))
+first-lines r (Script shape early over_net) trace e d = (d.texts, d.asked, go r.before.source.bytes (subst (λ x. IfSome r.before.source.bytes (λ bytes. AreLinesOf x bytes r.after.source.bytes d.texts)) e d.lines))
   where
-    go : (o : Option (List ℕ)) → AreLinesIn FirstLines o r.after.source.bytes d.texts → AreLinesIn FirstLines o None d.texts
+    go : (o : Option (List ℕ)) → IfSome o (λ bytes. AreLinesOf FirstLines bytes r.after.source.bytes d.texts) → IfSome o (λ bytes. AreLinesOf FirstLines bytes None d.texts)
     go None h = tt
     go (Some script) h = h
 first-lines r (Load calls) trace e d = subst (λ x. AreLoadLines x (map Tree (load_lines calls)) (lines_asked trace)) e d.lines

@@ -4,7 +4,7 @@ use Rattle.salt_bytes.specs.Log.{entries_in, entries_up_to, framed, split_payloa
 use Rattle.salt_stands.specs.Fitting.{definitions_reading}
 use Rattle.salt_model.specs.Kept.{Definition, Kept}
 use Rattle.salt_model.specs.Tables.{Tables, no_rows, with_changes}
-use Rattle.salt_model.specs.Words.{is_empty}
+use Rattle.salt_model.specs.Words.{and_then, is_empty}
 use Rattle.salt_stands.specs.Coordinator.{Coordinator, coordinator_at, judge_coordinator}
 use Rattle.salt_stands.specs.CoordinatorLog.{CoordinatorLog, Told, coordinator_generation, coordinator_in}
 use Rattle.salt_stands.specs.FirstOpening.{first_part_header}
@@ -16,7 +16,6 @@ use Rattle.salt_stands.specs.Reading.{Reading}
 use Rattle.salt_stands.specs.Tables.{joined}
 use Rattle.salt_promise.specs.Standing.{IsReader, NamesPages, StandFor}
 use Rattle.salt_promise.specs.Worked.{blank, header_at, on, one_part, opened}
-use Rattle.salt_stands.specs.Words.{if_sound}
 use Rattle.std.proofs.Common.{ap, arith, inl, inr, subst, sym, ◌∙◌}
 use Rattle.std.specs.Prelude.{List, None, Ok, Option, Result, Some, [], false, refl, suc, true, zero, ℕ, ◌<◌, ◌∷◌, ◌≡◌}
 
@@ -79,7 +78,7 @@ module _ (read : List ℕ → Option Definition) (reads : IsReader read) (bytes 
   }
 
   abbrev with_part : Result Tables ℕ → Result (Found Definition) ℕ
-  with_part t = if_sound (λ parts. Ok (found_with c parts)) (if_sound (λ x. if_sound (λ xs. Ok (x ∷ xs)) (Ok [])) t)
+  with_part t = and_then (and_then t (λ x. and_then (Ok []) (λ xs. Ok (x ∷ xs)))) (λ parts. Ok (found_with c parts))
 
   whole : with_part (Ok no_rows) ≡ Ok found
   unfolding joined
@@ -87,7 +86,7 @@ module _ (read : List ℕ → Option Definition) (reads : IsReader read) (bytes 
 
   stands : stands_on reading image one_part ≡ Ok found
   stands =
-      ap (if_sound (with_parts reading (logs_of image) image one_part)) (coordinator ∙ new.coordinator)
+      ap (λ r. and_then r (with_parts reading (logs_of image) image one_part)) (coordinator ∙ new.coordinator)
       ∙ ap with_part (partition ∙ new.part)
       ∙ whole
 

@@ -35,12 +35,12 @@ use Rattle.salt_stands.specs.CoordinatorLog.{Told}
 use Rattle.salt_stands.specs.Fitting.{definitions_reading, is_refused}
 use Rattle.salt_stands.specs.LogDevices.{IsStoreLog}
 use Rattle.salt_stands.specs.Stands.{logs_of}
-use Rattle.salt_stands.specs.Words.{or_fault}
 use Rattle.salt_tokens.specs.Pieces.{Lexes, Piece, blank, ended, token}
 use Rattle.salt_tokens.specs.Spelling.{keyword_of, sign_of}
 use Rattle.salt_tokens.specs.declared.sign.Sign.TheVariants as mark
 use Rattle.salt_tokens.specs.declared.token.TokenKind.TheVariants as kind
 use Rattle.std.proofs.Common.{ap, arith, inl, inr, sym, ◌∙◌}
+use Rattle.std.specs.Option.{ok_or}
 use Rattle.std.specs.Prelude.{List, None, Ok, Option, Result, Some, [], codes, false, not, option_map, refl, true, ℕ, ◌++◌, ◌∷◌, ◌≡◌, option_and_then}
 use Rattle.std.specs.Bool.{then_some}
 
@@ -110,9 +110,7 @@ module _ (read : List ℕ → Option Definition) (reads : IsReader read) where
   -- what the log makes of what is read of the text
   abbrev judged : (boot : ℕ) → Option Definition → Result (Option (Coordinator Definition)) ℕ
   judged boot read_as =
-      or_fault 0 (option_map Some (
-      option_and_then (λ ds. then_some (are_sound (definitions_reading read) (coordinator_told (told_at boot) []).log ds) (coordinator_told (told_at boot) ds))
-      (option_and_then (λ d. then_some (not (is_refused [] d)) (d ∷ [])) read_as)))
+      (ok_or (option_map Some (option_and_then (λ ds. then_some (are_sound (definitions_reading read) (coordinator_told (told_at boot) []).log ds) (coordinator_told (told_at boot) ds)) (option_and_then (λ d. then_some (not (is_refused [] d)) (d ∷ [])) read_as))) 0)
 
   defines : (boot : ℕ) → judged boot (Some (OfTable table)) ≡ Ok (Some (coordinator_told (told_at boot) definitions))
   unfolding computing

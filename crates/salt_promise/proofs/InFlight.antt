@@ -23,7 +23,7 @@ use Rattle.salt_model.specs.declared.events.UnitKind.TheVariants.{Acid}
 use Rattle.salt_model.specs.declared.events.Why.TheVariants.{Stopped}
 use Rattle.salt_promise.proofs.Devices.{IsNew, beside-logs, kept_told, new-stands, opened-new, opened_told}
 use Rattle.salt_promise.proofs.OneLine.{opens, served, served-complete, start}
-use Rattle.salt_promise.specs.Doing.{AreLinesIn, IsWritten, story_before_line, text_under}
+use Rattle.salt_promise.specs.Doing.{AreLinesOf, IsWritten, story_before_line, text_under}
 use Rattle.salt_promise.specs.Ending.{Flies, IsLeftBehind, StandsBehind}
 use Rattle.salt_promise.specs.Given.{Run, World}
 use Rattle.salt_promise.specs.Promises.{Promises}
@@ -41,7 +41,7 @@ use Rattle.salt_tokens.specs.declared.sign.Sign.TheVariants as mark
 use Rattle.salt_tokens.specs.declared.token.TokenKind.TheVariants as kind
 use Rattle.salt_values.specs.declared.id.Id.{Id}
 use Rattle.std.proofs.Common.{None, arith, false, inl, inr, ◌∙◌}
-use Rattle.std.specs.Prelude.{List, Option, Some, [], codes, refl, suc, zero, ℕ, ⊤, ◌++◌, ◌<◌, ◌∷◌, ◌≡◌, ◌⊎◌}
+use Rattle.std.specs.Prelude.{IfSome, List, Option, Some, [], codes, refl, suc, zero, ℕ, ⊤, ◌++◌, ◌<◌, ◌∷◌, ◌≡◌, ◌⊎◌}
 
 -- THE SCRIPT: a session begins a unit, and commits it
 
@@ -165,7 +165,7 @@ flies : Flies Told trace in_flight.flight
 unfolding computing
 flies = refl
 
-lines : AreLinesIn FirstLines (Some script) (Some []) (begins ∷ commits ∷ [])
+lines : (IfSome (Some script) (λ bytes. AreLinesOf FirstLines bytes (Some []) (begins ∷ commits ∷ [])))
 lines = record { got = script; front = ([], refl); within = omega arith; lines = refl; first = ([], refl) }
 
 written : IsWritten Whole (Some []) (text_under trace (story_before_line trace)) (text_under trace (story_of trace)) (Some printed)

@@ -1,6 +1,7 @@
 -- Whatever reads definitions, devices stand for one thing and open in one way.
 use Rattle.salt_bytes.specs.Coordinator.{NumberedText}
 use Rattle.salt_bytes.specs.Generations.{BothBlank, Counts, Faulty, Pair, WhichLog}
+use Rattle.salt_model.specs.Words.{and_then}
 use Rattle.salt_stands.specs.Fitting.{definitions_reading, kept_in}
 use Rattle.salt_model.specs.Kept.{Definition, Kept}
 use Rattle.salt_promise.specs.Standing.{AnswersTo, IsOlder, IsReader, NamesPages, StandFor}
@@ -11,10 +12,10 @@ use Rattle.salt_model.specs.Tables.{Tables}
 use Rattle.salt_stands.specs.Reading.{Reading}
 use Rattle.salt_stands.specs.Stands as opening
 use Rattle.salt_stands.specs.Stands.{Found, Opening, Stands, are_spent, found_with, is_same_shape, stands_on, logs_of, of_coordinator, of_parts, opening_of, parts_at, with_parts}
-use Rattle.salt_stands.specs.Words.{if_sound, or_fault}
 use Rattle.salt_values.specs.declared.cont.Cont.{Cont}
 use Rattle.salt_place.specs.declared.placement.Shape.{Shape}
 use Rattle.std.proofs.Common.{ap, arith, inl, inr, sym, ◌∙◌}
+use Rattle.std.specs.Option.{ok_or}
 use Rattle.std.specs.Prelude.{Bool, Err, List, None, Ok, Option, Result, Some, [], false, if◌then◌else◌, not, option_map, refl, true, ℕ, ◌++◌, ◌∷◌, ◌≡◌, ◌⊎◌, option_and_then}
 use Rattle.std.specs.Bool.{then_some}
 
@@ -45,13 +46,13 @@ module _ (a b : List ℕ → Option Definition) (same : (text : List ℕ) → a 
   same_judged : (p : Pair CoordinatorLog) → judge_coordinator (definitions_reading a) p ≡ judge_coordinator (definitions_reading b) p
   same_judged BothBlank = refl
   same_judged (Faulty which) = refl
-  same_judged (Counts which log) = ap (λ o. or_fault (device_of 0 which) (option_map Some o)) (same_coordinator log)
+  same_judged (Counts which log) = ap (λ o. ok_or (option_map Some o) (device_of 0 which)) (same_coordinator log)
 
   same_opening : (shape : Shape) (bytes : ℕ → List ℕ) → opening_of (definitions_reading a) bytes shape ≡ opening_of (definitions_reading b) bytes shape
   same_opening shape bytes = ap (of_coordinator (definitions_reading a) bytes shape) (same_judged (coordinator_pair (logs_of bytes)))
 
   same_standing : (shape : Shape) (bytes : ℕ → List ℕ) → stands_on (definitions_reading a) bytes shape ≡ stands_on (definitions_reading b) bytes shape
-  same_standing shape bytes = ap (if_sound (with_parts (definitions_reading a) (logs_of bytes) bytes shape)) (same_judged (coordinator_pair (logs_of bytes)))
+  same_standing shape bytes = ap (λ r. and_then r (with_parts (definitions_reading a) (logs_of bytes) bytes shape)) (same_judged (coordinator_pair (logs_of bytes)))
 
   -- and name the same pages
   same_pages : (shape : Shape) (bytes : ℕ → List ℕ) (dev : ℕ) → NamesPages a shape bytes dev → NamesPages b shape bytes dev
@@ -106,7 +107,7 @@ module _ (read : List ℕ → Option Definition) where
             let same : found_with c ts ≡ found = cc in
             ap (λ (f : Found Definition). f.format) (sym same) ∙ ap (λ (l : CoordinatorLog). l.header.format) is
 
-        by : (o : Option (Coordinator Definition)) → coordinator_of reading log ≡ o → of_coordinator reading bytes shape (or_fault (device_of 0 which) (option_map Some o)) ≡ Stands found → found.format ≡ log.header.format
+        by : (o : Option (Coordinator Definition)) → coordinator_of reading log ≡ o → of_coordinator reading bytes shape (ok_or (option_map Some o) (device_of 0 which)) ≡ Stands found → found.format ≡ log.header.format
         by None is h = absurd cc
         by (Some c) is h =
             parts c (log-of log c is) (is_same_shape c.log.header.shape shape) (are_spent c.log.told.boot c.log.told.decisions) (parts_at reading c (logs_of bytes) bytes) h

@@ -14,7 +14,7 @@ use Rattle.salt_model.specs.declared.events.Event.TheVariants.{Opened, Ready, Re
 use Rattle.salt_model.specs.declared.events.Refusal.TheVariants.{Byte}
 use Rattle.salt_promise.proofs.Devices.{beside-logs, blank-unnamed, kept_told, new-stands, opened-new, opened_told}
 use Rattle.salt_promise.specs.Worked.{after, blank, one_line, one_part, opened, printed, script}
-use Rattle.salt_promise.specs.Doing.{AreLinesIn, IsWritten, story_before_line, text_under}
+use Rattle.salt_promise.specs.Doing.{AreLinesOf, IsWritten, story_before_line, text_under}
 use Rattle.salt_promise.specs.Ending.{StandsBehind}
 use Rattle.salt_promise.specs.Promises.{Promises}
 use Rattle.salt_promise.specs.Runs.{Runs, runs_as}
@@ -23,7 +23,7 @@ use Rattle.salt_promise.specs.Ways.{AllLines, Whole}
 use Rattle.salt_stands.specs.Stands.{nothing_found}
 use Rattle.salt_bytes.specs.Log.{entries_in}
 use Rattle.std.proofs.Common.{arith, inl, inr, ◌∙◌}
-use Rattle.std.specs.Prelude.{List, Option, Some, [], false, refl, true, ℕ, ◌∷◌}
+use Rattle.std.specs.Prelude.{IfSome, List, Option, Some, [], false, refl, true, ℕ, ◌∷◌}
 
 abbrev pub start : Start
 start = record { kept = nothing_kept; can_stop = true; early = false; over_net = false }
@@ -53,7 +53,7 @@ played = ((((tt, (omega arith, omega arith, inl refl)), refl), served-complete),
 asked : AskInOrder ((200 ∷ []) ∷ []) (trace_words.lines_asked trace)
 asked = (has_other_byte (omega arith) refl refl, tt)
 
-lines : AreLinesIn AllLines (Some script) (Some []) ((200 ∷ []) ∷ [])
+lines : (IfSome (Some script) (λ bytes. AreLinesOf AllLines bytes (Some []) ((200 ∷ []) ∷ [])))
 lines = (refl, omega arith, refl)
 
 written : IsWritten Whole (Some []) (text_under trace (story_before_line trace)) (text_under trace (trace_words.story_of trace)) (Some printed)

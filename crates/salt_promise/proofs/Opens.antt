@@ -1,4 +1,5 @@
 -- What stands, and whose numbers are not spent, opens.
+use Rattle.salt_model.specs.Words.{and_then}
 use Rattle.salt_stands.specs.Fitting.{definitions_reading}
 use Rattle.salt_model.specs.Kept.{Definition, Kept}
 use Rattle.salt_promise.specs.Standing.{OpenAs, StandFor}
@@ -7,7 +8,6 @@ use Rattle.salt_model.specs.Tables.{Tables}
 use Rattle.salt_stands.specs.Reading.{Reading}
 use Rattle.salt_stands.specs.Stands as opening
 use Rattle.salt_stands.specs.Stands.{Found, Opening, Stands, are_spent, found_with, is_same_kind, is_same_shape, logs_of, of_coordinator, of_parts, parts_at, with_parts}
-use Rattle.salt_stands.specs.Words.{if_sound}
 use Rattle.salt_place.specs.declared.placement.PlaceKind.TheVariants.{Bands, Remainder}
 use Rattle.salt_place.specs.declared.placement.PlaceKind.{PlaceKind}
 use Rattle.salt_place.specs.declared.placement.Shape.{Shape}
@@ -42,7 +42,7 @@ module _ (read : List ℕ → Option Definition) (bytes : ℕ → List ℕ) (sha
   abbrev reading : Reading Definition
   reading = definitions_reading read
 
-  parts : (c : Coordinator Definition) (p : Result (List Tables) ℕ) → if_sound (λ ts. Ok (found_with c ts)) p ≡ Ok found
+  parts : (c : Coordinator Definition) (p : Result (List Tables) ℕ) → and_then p (λ ts. Ok (found_with c ts)) ≡ Ok found
       → (if not (is_same_shape c.log.header.shape shape) then opening.OtherShape c.log.header.shape shape else
       if are_spent c.log.told.boot c.log.told.decisions then opening.NumbersSpent c.log.told.boot c.log.told.decisions else
       of_parts c p) ≡ Stands found
@@ -55,7 +55,7 @@ module _ (read : List ℕ → Option Definition) (bytes : ℕ → List ℕ) (sha
       (ap (λ x. are_spent x.kept.boot x.kept.decisions) f ∙ unspent)
       ∙ ap Stands f
 
-  coordinator : (x : Result (Option (Coordinator Definition)) ℕ) → if_sound (with_parts reading (logs_of bytes) bytes shape) x ≡ Ok found
+  coordinator : (x : Result (Option (Coordinator Definition)) ℕ) → and_then x (with_parts reading (logs_of bytes) bytes shape) ≡ Ok found
       → of_coordinator reading bytes shape x ≡ Stands found
   coordinator (Err dev) h = absurd cc
   coordinator (Ok None) h = ap Stands (ok-one h)

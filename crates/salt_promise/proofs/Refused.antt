@@ -1,6 +1,7 @@
 -- Two more runs that are as promised: the first device of the partition is full; and numbers are spent.
 use Rattle.salt_bytes.specs.Generations.{content_of, pair_of}
 use Rattle.salt_bytes.specs.Log.{entries_in, entries_up_to, framed, split_payload}
+use Rattle.salt_model.specs.Words.{and_then}
 use Rattle.salt_stands.specs.Fitting.{definitions_reading}
 use Rattle.salt_disk.specs.Disks.{AreUnchanged, IsImage, View}
 use Rattle.salt_model.specs.Kept.{Definition, WellKept, nothing_kept}
@@ -21,7 +22,6 @@ use Rattle.salt_stands.specs.Coordinator.{coordinator_at, judge_coordinator}
 use Rattle.salt_stands.specs.CoordinatorLog.{coordinator_generation, coordinator_in}
 use Rattle.salt_stands.specs.Stands as opening
 use Rattle.salt_stands.specs.Stands.{logs_of, nothing_found, opening_of, with_parts}
-use Rattle.salt_stands.specs.Words.{if_sound}
 use Rattle.std.proofs.Common.{ap, arith, inl, inr, subst, ◌∙◌}
 use Rattle.std.specs.Prelude.{List, None, Ok, Option, Some, [], false, refl, suc, true, zero, ℕ, ◌^◌, ◌∷◌, ◌≡◌}
 
@@ -83,7 +83,7 @@ module _ (read : List ℕ → Option Definition) (reads : IsReader read) where
       read = read;
       reads = reads;
       found = nothing_found one_part;
-      is = ap (if_sound (with_parts (definitions_reading read) (logs_of image) image one_part)) (image-blank image is);
+      is = ap (λ r. and_then r (with_parts (definitions_reading read) (logs_of image) image one_part)) (image-blank image is);
       has_shape = refl;
       newest = refl;
       no_pages = unnamed read image (image-blank image is);

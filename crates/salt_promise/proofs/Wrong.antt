@@ -37,7 +37,7 @@ use Rattle.salt_promise.specs.Worked.{after, ample, begun, blank, header_at, hol
 use Rattle.salt_model.specs.Arming.{armed_behind, armed_by_lines}
 use Rattle.salt_promise.specs.Counting.{AreArmed, Stops}
 use Rattle.salt_promise.specs.Ending.{IsLeftBehind, StandsBehind}
-use Rattle.salt_promise.specs.Filling.{IsFullBehind, NewPairFills, NextFills, coordinator_format, partition_format}
+use Rattle.salt_promise.specs.Filling.{IsFullBehind, NewPairFills, NextFills}
 use Rattle.salt_promise.specs.Given.{Run}
 use Rattle.salt_promise.specs.declared.command.Command.TheVariants.{Load, Script}
 use Rattle.salt_promise.specs.declared.command.Command.{Command}
@@ -256,10 +256,10 @@ full-of-closed = at-first closed never
     coordinator header (inl h) = let e : 0 ≡ 1 = h.1 in omega arith
     coordinator header (inr h) = let e = h.0 in omega arith
 
-    first : ((p : ℕ) × (p < 1) × NewPairFills (full_run closed).after.devices (part_device p) (spell_partition_header (first_part_header partition_format p)) 1)
-        ⊎ NewPairFills (full_run closed).after.devices 0 (spell_header (first_header one_part coordinator_format)) 1 → ⊥
-    first (inl h) = part h.0 (spell_partition_header (first_part_header partition_format h.0)) h.2
-    first (inr h) = coordinator (spell_header (first_header one_part coordinator_format)) h
+    first : ((p : ℕ) × (p < 1) × NewPairFills (full_run closed).after.devices (part_device p) (spell_partition_header (first_part_header 2 p)) 1)
+        ⊎ NewPairFills (full_run closed).after.devices 0 (spell_header (first_header one_part 3)) 1 → ⊥
+    first (inl h) = part h.0 (spell_partition_header (first_part_header 2 h.0)) h.2
+    first (inr h) = coordinator (spell_header (first_header one_part 3)) h
 
     never : NextFills (full_run closed).after.devices one_part from_nothing Fallen None 1 → ⊥
     never (inl f) = first f.fills

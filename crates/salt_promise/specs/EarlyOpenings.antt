@@ -10,21 +10,18 @@ use Rattle.salt_values.specs.Id.{has_id, without}
 use Rattle.salt_values.specs.declared.id.Id.{Id}
 use Rattle.std.specs.List.{list_all}
 use Rattle.std.specs.Option.{option_map_or}
-use Rattle.std.specs.Prelude.{Bool, IsTrue, List, None, Some, [], false, not, ⊤, ◌≡◌}
+use Rattle.std.specs.Prelude.{IsTrue, List, None, Some, [], false, not, ⊤, ◌≡◌}
 
 -- HELD BACK are the programs that the last early opening names, until a Released names them, or a Ready comes.
 
 abbrev pub held_back : Trace → List Id
 held_back = over_events (λ k. []) (λ trace e held. elim e [ Early bs ↦ bs | Released bs ↦ without bs held | Ready ↦ [] | _ ↦ held ])
 
-abbrev pub is_part_held_back : Trace → Id → Bool
-is_part_held_back trace u = option_map_or (λ b. has_id b (held_back trace)) (program_of u trace) false
-
 -- at a Did of an ACID unit, no chain from it comes to a subtransaction of a program that is held back
 abbrev pub HidesHeldBack : Trace → Event → Type 0
 HidesHeldBack trace (Did a st answer) =
     IsTrue (is_acid trace a) → (chain : List Id) → IsChain (trace says Did a st answer) a chain →
-    IsTrue (list_all (λ u. not (is_part_held_back trace u)) chain)
+    IsTrue (list_all (λ u. not (option_map_or (λ b. has_id b (held_back trace)) (program_of u trace) false)) chain)
 HidesHeldBack trace e = ⊤
 
 -- TURNS: a line that does something gives one to the least of the named programs that is unfinished and does not wait.

@@ -29,13 +29,6 @@ use Rattle.salt_values.specs.declared.id.Id.{Id}
 use Rattle.salt_place.specs.declared.placement.Shape.{Shape}
 use Rattle.std.specs.Prelude.{List, Option, Some, [], false, length, not, ℕ, ◌+◌, ◌<◌, ◌≡◌, ◌⊎◌}
 
--- the format of the coordinator's entries, and that of a new partition's log
-abbrev pub coordinator_format : ℕ
-coordinator_format = 3
-
-abbrev pub partition_format : ℕ
-partition_format = 2
-
 -- WRITES THAT WOULD PASS A LIMIT
 
 -- an entry with this payload, behind those of the device: its gate, its length, itself, and the next closed gate
@@ -51,11 +44,11 @@ NewPairFills d a header dev =
 
 -- WHAT IS WRITTEN
 
--- a first opening, of blank coordinator devices: a pair for each partition, and then the coordinator's
+-- a first opening, of blank coordinator devices: a pair for each partition, under format 2, and then the coordinator's, under format 3
 pub record FirstFills (d : View) (shape : Shape) (dev : ℕ) : Type 0 where
   pub blank : coordinator_pair (logs_of d.bytes) ≡ BothBlank
-  pub fills : ((p : ℕ) × (p < shape.parts) × NewPairFills d (part_device p) (spell_partition_header (first_part_header partition_format p)) dev)
-      ⊎ NewPairFills d 0 (spell_header (first_header shape coordinator_format)) dev
+  pub fills : ((p : ℕ) × (p < shape.parts) × NewPairFills d (part_device p) (spell_partition_header (first_part_header 2 p)) dev)
+      ⊎ NewPairFills d 0 (spell_header (first_header shape 3)) dev
 
 -- an entry in the coordinator's log that counts
 pub record EntryFills (d : View) (entry : CoordinatorLog → CoordinatorEntry) (dev : ℕ) : Type 0 where
@@ -76,10 +69,6 @@ pub record ShareFills (d : View) (shape : Shape) (u : Id) (changes : List Change
   pub changed : is_empty (changes_at shape p changes) ≡ false
   pub over : IsTooLong d dev (spell_prepared (record { unit = u; changes = changes_at shape p changes }))
 
--- a decision that comes next in the log, with the bits of the partitions that it changes
-abbrev pub decision_entry : Id → (mask : ℕ) → Move → CoordinatorLog → CoordinatorEntry
-decision_entry u mask move log = Decides (record { number = log.told.decisions + 1; unit = u; mask = mask; move = spell_move coordinator_format move })
-
 -- a unit's decision, with the bits of the partitions that it changes, and with its program's move: from the continuations that are open
 -- before it to those that are open behind it
 pub record DecisionFills (d : View) (shape : Shape) (trace : Trace) (e : Event) (u : Id) (changes : List Change) (dev : ℕ) : Type 0 where
@@ -87,7 +76,7 @@ pub record DecisionFills (d : View) (shape : Shape) (trace : Trace) (e : Event) 
   pub bits : (p : ℕ) → p < shape.parts → has_bit mask p ≡ not (is_empty (changes_at shape p changes))
   pub move : Move
   pub moves : make_move (kept trace).conts move ≡ Some (kept (trace says e)).conts
-  pub fills : EntryFills d (decision_entry u mask move) dev
+  pub fills : EntryFills d (λ log. Decides (record { number = log.told.decisions + 1; unit = u; mask = mask; move = spell_move 3 move })) dev
 
 -- WHAT COMES NEXT
 

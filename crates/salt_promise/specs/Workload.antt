@@ -1,10 +1,11 @@
 -- The lines of a workload: a table of a hundred accounts, and n transfers between them, with turns and sums on the way.
-use Rattle.salt_ast.specs.Sample.{acct, all_rows, bal, field, id}
+use Rattle.salt_ast.specs.Sample.{acct, bal, field, scan}
 use Rattle.salt_ast.specs.Sample.{transfer as transfer_def}
 use Rattle.salt_ast.specs.Trees.{number, operation}
 use Rattle.salt_ast.specs.declared.lines.Act.TheVariants as act
 use Rattle.salt_ast.specs.declared.lines.Line.{Line}
 use Rattle.salt_ast.specs.declared.lines.Line.TheVariants as line
+use Rattle.salt_ast.specs.declared.trees.Bound.TheVariants as bound
 use Rattle.salt_ast.specs.declared.trees.ColType.TheVariants as kind
 use Rattle.salt_ast.specs.declared.trees.Expr.{Column}
 use Rattle.salt_ast.specs.declared.trees.Op.TheVariants as op
@@ -15,22 +16,15 @@ use Rattle.salt_values.specs.declared.limits.TheConstants.{SESSION_MOST}
 use Rattle.salt_values.specs.declared.value.Value.{Value}
 use Rattle.salt_values.specs.declared.value.Value.TheVariants as value
 use Rattle.std.specs.List.{flat_map, range_with_len}
-use Rattle.std.specs.Prelude.{List, [], codes, cond, eqb, map, pos, ℕ, ◌%◌, ◌*◌, ◌+◌, ◌++◌, ◌∷◌}
+use Rattle.std.specs.Prelude.{List, None, [], codes, cond, eqb, map, pos, ℕ, ◌%◌, ◌*◌, ◌++◌, ◌+◌, ◌∷◌}
 
 -- a balance does not fall below 0
 abbrev pub account_def : TableDef
 account_def = record {
   name = acct;
-  columns = field id kind.Int ∷ field bal kind.Int ∷ [];
+  columns = field (codes "id") kind.Int ∷ field bal kind.Int ∷ [];
   checks = operation op.AtLeast (Column bal) (number (pos 0)) ∷ [];
 }
-
-abbrev pub account_table : Line
-account_table = line.Table account_def
-
--- what is taken from one account in the first part is brought to another in the second, or else brought back in the third
-abbrev pub transfer_program : Line
-transfer_program = line.Program transfer_def
 
 -- account k, with 1000 in it
 abbrev pub deposit : ℕ → Line
@@ -50,7 +44,7 @@ turn = line.GoAll
 
 -- the sum over all accounts, asked by a session that calls nothing
 abbrev pub balance : Line
-balance = line.Session SESSION_MOST (act.Do (statement.Select (what.Sum bal) acct all_rows))
+balance = line.Session SESSION_MOST (act.Do (statement.Select (what.Sum bal) acct (scan bound.All None)))
 
 -- what follows each eighth call
 abbrev pub behind_eighth : ℕ → List Line
@@ -67,9 +61,10 @@ behind i = behind_eighth i ++ behind_fiftieth i
 abbrev pub call_lines : ℕ → List Line
 call_lines i = transfer i ∷ behind i
 
--- the table, the program and the hundred accounts
+-- the table, the program and the hundred accounts. What the program takes from one account in its first part it brings to another in the
+-- second, or else back in the third.
 unfoldable pub opening : List Line
-opening = account_table ∷ transfer_program ∷ map deposit (range_with_len 0 100)
+opening = line.Table account_def ∷ line.Program transfer_def ∷ map deposit (range_with_len 0 100)
 
 -- the calls 1 to n, each with what follows it
 abbrev pub calls : (n : ℕ) → List Line

@@ -6,6 +6,7 @@ use Rattle.salt_commit.proofs.Formats.{counted_format}
 use Rattle.salt_commit.proofs.Opening.{of_log, same_shape_is}
 use Rattle.salt_commit.specs.Openings.{LeavesPages, NamesPages}
 use Rattle.salt_commit.specs.Stores.{reading}
+use Rattle.salt_model.specs.Words.{and_then}
 use Rattle.salt_stands.specs.Fitting.{kept_in}
 use Rattle.salt_devices.proofs.Answered.{IsNothing, IsOpened, counted_log, opened_as, opened_stands}
 use Rattle.salt_devices.proofs.Sound.{well}
@@ -21,22 +22,23 @@ use Rattle.salt_stands.specs.Partition.{pages_device, part_at, part_pair}
 use Rattle.salt_stands.specs.PartitionLog.{PartitionLog}
 use Rattle.salt_stands.specs.Stands as opening
 use Rattle.salt_stands.specs.Stands.{Found, Opening, Stands, found_with, logs_of, nothing_found, of_coordinator, opening_of}
-use Rattle.salt_stands.specs.Words.{each_from, if_sound, or_fault}
+use Rattle.salt_stands.specs.Words.{each_from}
 use Rattle.salt_storage.specs.Answers.{IsRefusal}
 use Rattle.salt_storage.specs.OpenErr.TheVariants as open_err
 use Rattle.salt_storage.specs.OpenErr.TheVariants.{NotSalt, NumbersSpent, OtherShape}
 use Rattle.salt_storage.specs.OpenErr.{OpenErr}
 use Rattle.salt_place.specs.declared.placement.Shape.{Shape}
 use Rattle.std.proofs.Common.{ap, arith, eq-or-lt_of_le, inl, inr, subst, sym, ◌∙◌}
+use Rattle.std.specs.Option.{ok_or}
 use Rattle.std.specs.Prelude.{Bool, Err, List, Ok, Option, Result, Some, false, option_map, refl, suc, true, zero, ℕ, ◌+◌, ◌<◌, ◌∷◌, ◌≡◌, ◌⊎◌}
 
 -- EACH of so many that were sound together is sound
 
-sound-first : {A : Type 0} (x : Result A ℕ) (rest : Result (List A) ℕ) (xs : List A) → if_sound (λ a. if_sound (λ more. Ok (a ∷ more)) rest) x ≡ Ok xs → (a : A) × (x ≡ Ok a)
+sound-first : {A : Type 0} (x : Result A ℕ) (rest : Result (List A) ℕ) (xs : List A) → and_then x (λ a. and_then rest (λ more. Ok (a ∷ more))) ≡ Ok xs → (a : A) × (x ≡ Ok a)
 sound-first (Err dev) rest xs e = absurd (cc e)
 sound-first (Ok a) rest xs e = (a, refl)
 
-sound-rest : {A : Type 0} (x : Result A ℕ) (rest : Result (List A) ℕ) (xs : List A) → if_sound (λ a. if_sound (λ more. Ok (a ∷ more)) rest) x ≡ Ok xs → (more : List A) × (rest ≡ Ok more)
+sound-rest : {A : Type 0} (x : Result A ℕ) (rest : Result (List A) ℕ) (xs : List A) → and_then x (λ a. and_then rest (λ more. Ok (a ∷ more))) ≡ Ok xs → (more : List A) × (rest ≡ Ok more)
 sound-rest (Err dev) rest xs e = absurd (cc e)
 sound-rest (Ok a) (Err dev) xs e = absurd (cc e)
 sound-rest (Ok a) (Ok more) xs e = (more, refl)
@@ -114,7 +116,7 @@ module _ (shape : Shape) (bytes : ℕ → List ℕ) where
 
     counts : coordinator_at reading (logs_of bytes) ≡ Ok (Some k.counted.c)
     counts =
-        ap (judge_coordinator reading) k.counted.counts ∙ ap (λ (o : Option (Coordinator Definition)). or_fault (device_of 0 k.counted.which) (option_map Some o)) k.counted.reads
+        ap (judge_coordinator reading) k.counted.counts ∙ ap (λ (o : Option (Coordinator Definition)). ok_or (option_map Some o) (device_of 0 k.counted.which)) k.counted.reads
 
     before : (p : ℕ) → p < shape.parts → (tables : Tables) × (part_at reading k.counted.c (logs_of bytes) bytes p ≡ Ok tables)
     before p low =

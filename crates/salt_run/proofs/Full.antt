@@ -26,7 +26,7 @@ use Rattle.salt_model.specs.declared.events.End.TheVariants.{Branched, Committed
 use Rattle.salt_model.specs.declared.events.End.{End}
 use Rattle.salt_model.specs.declared.events.Event.TheVariants.{Defined, Ended}
 use Rattle.salt_model.specs.declared.events.Event.{Event}
-use Rattle.salt_promise.specs.Filling.{DecisionFills, FirstFills, NewPairFills, NextFills, coordinator_format, partition_format}
+use Rattle.salt_promise.specs.Filling.{DecisionFills, FirstFills, NewPairFills, NextFills}
 use Rattle.salt_promise.specs.Filling as promise
 use Rattle.salt_run.specs.Ending.{IsFullBehind}
 use Rattle.salt_loop.specs.Ending.{MayBeWritten}
@@ -79,11 +79,11 @@ module _ (d : View) (shape : Shape) (dev : ℕ) where
   pub first-fills : StorePassesLimit d shape dev → FirstFills d shape dev
   first-fills f = record { blank = f.blank; fills = elim f.passes [ inl c ↦ inr (own c) | inr p ↦ inl (p.p, p.low, part p) ] }
     where
-      own : FullAtFirst d (first_payload shape) (Some (Full dev)) → NewPairFills d 0 (spell_header (first_header shape coordinator_format)) dev
+      own : FullAtFirst d (first_payload shape) (Some (Full dev)) → NewPairFills d 0 (spell_header (first_header shape 3)) dev
       own (inl b) = inl (b.0, subst (λ (n : ℕ). IsCreated (d.bytes n)) (sym b.0) b.1, subst (λ (n : ℕ). d.limit n < 1) (sym b.0) b.2)
       own (inr a) = inr (a.0, subst (λ (n : ℕ). d.limit n < 10 + length (first_payload shape)) (sym a.0) a.1)
 
-      part : (p : PartPassesLimit d shape.parts dev) → NewPairFills d (part_device p.p) (spell_partition_header (first_part_header partition_format p.p)) dev
+      part : (p : PartPassesLimit d shape.parts dev) → NewPairFills d (part_device p.p) (spell_partition_header (first_part_header 2 p.p)) dev
       part p = elim p.passes [ inl a ↦ inr a | inr b ↦ inl b ]
 
   -- WHAT COMES NEXT

@@ -8,11 +8,11 @@ use Rattle.salt_promise.specs.declared.status.Status.TheVariants.{Broken, Done, 
 use Rattle.salt_promise.specs.declared.status.Status.{Status}
 use Rattle.salt_loop.specs.Loading.{AreLoadLines}
 use Rattle.salt_loop.specs.Run.{AreLinesOf}
-use Rattle.std.specs.Prelude.{List, None, Option, Some, map, refl, ℕ, ◌≡◌}
+use Rattle.std.specs.Prelude.{IfSome, List, None, Option, Some, map, refl, ℕ, ◌≡◌}
 
 -- a script that is done is read to its end
 pub lines-way : (status : Status) (script left : Option (List ℕ)) (texts : List (List ℕ)) → (status ≡ Done → IsAtEnd left) → AreLinesOf status script left texts →
-    promise.AreLinesIn (way_of status).lines script left texts
+    IfSome script (λ bytes. promise.AreLinesOf (way_of status).lines bytes left texts)
 lines-way status None left texts end h = tt
 lines-way Done (Some script) left texts end h = (h.0, h.1, end refl)
 lines-way status (Some script) left texts end h = h

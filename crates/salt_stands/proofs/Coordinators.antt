@@ -12,10 +12,10 @@ use Rattle.salt_stands.specs.CoordinatorLog.{CoordinatorLog, Told, coordinator_g
 use Rattle.salt_stands.specs.OpenConts.{conts_of_move, do_rise, make_move, move_on, moved}
 use Rattle.salt_stands.specs.Pieces.{CoordinatorStands, StaysFitting, HasOneMore, IsCoordinator, IsSameAt, other_log, with_boot, with_decision, with_definition}
 use Rattle.salt_stands.specs.Reading.{Reading}
-use Rattle.salt_stands.specs.Words.{or_fault}
 use Rattle.std.proofs.Common.{List, Ok, Option, Some, [], ap, arith, false, refl, subst, sym, true, ℕ, ◌+◌, ◌++◌, ◌≡◌, ◌≤◌, ◌∙◌, ◌∷◌}
 use Rattle.std.proofs.lemmas.Bool.Decides.{Decides-eqb, nat_tests}
 use Rattle.std.specs.List.{list_all}
+use Rattle.std.specs.Option.{ok_or}
 use Rattle.std.specs.Prelude.{nat_le, not, option_map, ◌&&◌, ◌==◌, option_and_then}
 use Rattle.std.specs.Bool.{then_some}
 
@@ -43,7 +43,7 @@ module _ {D : Type 0} (r : Reading D) where
           (join (list_all (is_sound_cont r c.definitions c.log.told) c.log.header.conts) (list_all (is_sound_decision r c.definitions c.log.told c.log.header.format) c.log.told.decided) h.named h.decided)
 
   pub coordinator_is_at : (logs : Logs) (which : WhichLog) (c : Coordinator D) → CoordinatorStands r logs which c → coordinator_at r logs ≡ Ok (Some c)
-  coordinator_is_at logs which c h = ap (judge_coordinator r) h.counts ∙ ap (λ o. or_fault (device_of 0 which) (option_map Some o)) (is_coordinator c h.is)
+  coordinator_is_at logs which c h = ap (judge_coordinator r) h.counts ∙ ap (λ o. ok_or (option_map Some o) (device_of 0 which)) (is_coordinator c h.is)
 
   later_cont : (ds : List D) (s t : Told) → s.boot ≤ t.boot → s.decisions ≤ t.decisions → (c : Cont) → is_sound_cont r ds s c ≡ true → is_sound_cont r ds t c ≡ true
   later_cont ds s t b n c e =

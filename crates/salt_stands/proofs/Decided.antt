@@ -5,7 +5,7 @@ use Rattle.salt_values.specs.declared.change.Change.{Change}
 use Rattle.salt_bytes.specs.Coordinator.{Decision}
 use Rattle.salt_bytes.specs.Partition.{Prepared}
 use Rattle.salt_stands.proofs.Booleans.{any_last}
-use Rattle.salt_stands.specs.Coordinator.{decided_for, names_part, unit_of}
+use Rattle.salt_stands.specs.Coordinator.{decided_for, unit_of}
 use Rattle.salt_stands.specs.Partition.{changes_if, decided_changes}
 use Rattle.salt_stands.specs.Pieces.{is_prepared_in}
 use Rattle.salt_stands.specs.Words.{has_bit}
@@ -19,19 +19,19 @@ use Rattle.std.specs.Prelude.{cond, map, ◌&&◌, ◌==◌, ◌||◌}
 
 pub decided_with : (p : ℕ) (ds : List Decision) (d : Decision) → has_bit d.mask p ≡ true → decided_for p (ds ++ d ∷ []) ≡ decided_for p ds ++ d.unit ∷ []
 decided_with p [] d e = ap (λ b. map unit_of (cond b (d ∷ []) [])) e
-decided_with p (x ∷ ds) d e = by (names_part p x) (decided_with p ds d e)
+decided_with p (x ∷ ds) d e = by (has_bit x.mask p) (decided_with p ds d e)
   where
     by : (b : Bool) → decided_for p (ds ++ d ∷ []) ≡ decided_for p ds ++ d.unit ∷ []
-        → map unit_of (cond b (x ∷ filter (names_part p) (ds ++ d ∷ [])) (filter (names_part p) (ds ++ d ∷ []))) ≡ map unit_of (cond b (x ∷ filter (names_part p) ds) (filter (names_part p) ds)) ++ d.unit ∷ []
+        → map unit_of (cond b (x ∷ filter (λ d. has_bit d.mask p) (ds ++ d ∷ [])) (filter (λ d. has_bit d.mask p) (ds ++ d ∷ []))) ≡ map unit_of (cond b (x ∷ filter (λ d. has_bit d.mask p) ds) (filter (λ d. has_bit d.mask p) ds)) ++ d.unit ∷ []
     by true h = ap (λ us. x.unit ∷ us) h
     by false h = h
 
 pub decided_without : (p : ℕ) (ds : List Decision) (d : Decision) → has_bit d.mask p ≡ false → decided_for p (ds ++ d ∷ []) ≡ decided_for p ds
 decided_without p [] d e = ap (λ b. map unit_of (cond b (d ∷ []) [])) e
-decided_without p (x ∷ ds) d e = by (names_part p x) (decided_without p ds d e)
+decided_without p (x ∷ ds) d e = by (has_bit x.mask p) (decided_without p ds d e)
   where
     by : (b : Bool) → decided_for p (ds ++ d ∷ []) ≡ decided_for p ds
-        → map unit_of (cond b (x ∷ filter (names_part p) (ds ++ d ∷ [])) (filter (names_part p) (ds ++ d ∷ []))) ≡ map unit_of (cond b (x ∷ filter (names_part p) ds) (filter (names_part p) ds))
+        → map unit_of (cond b (x ∷ filter (λ d. has_bit d.mask p) (ds ++ d ∷ [])) (filter (λ d. has_bit d.mask p) (ds ++ d ∷ []))) ≡ map unit_of (cond b (x ∷ filter (λ d. has_bit d.mask p) ds) (filter (λ d. has_bit d.mask p) ds))
     by true h = ap (λ us. x.unit ∷ us) h
     by false h = h
 

@@ -1,6 +1,7 @@
 -- Until the coordinator's header is there the devices stand for nothing, and with it for the new database.
 use Rattle.salt_model.specs.Tables.{Tables, no_rows, with_changes}
 use Rattle.salt_bytes.specs.Generations.{Blank, IsRead, LogA, pair_of, read_or_outside, content_of}
+use Rattle.salt_model.specs.Words.{and_then}
 use Rattle.salt_stands.proofs.Generations.{alone}
 use Rattle.salt_stands.proofs.Prepared.{sound_log}
 use Rattle.salt_stands.specs.Commits.{Stood, each_tables, found_of}
@@ -13,7 +14,6 @@ use Rattle.salt_stands.specs.Pieces.{CoordinatorStands, PartStands, listed}
 use Rattle.salt_stands.specs.Reading.{Reading}
 use Rattle.salt_stands.specs.Stands.{nothing_found, stands_in, with_parts}
 use Rattle.salt_stands.specs.Tables.{joined}
-use Rattle.salt_stands.specs.Words.{if_sound}
 use Rattle.salt_place.specs.declared.placement.Shape.{Shape}
 use Rattle.std.proofs.Common.{List, Ok, Some, [], ap, inl, inr, refl, suc, true, zero, ℕ, ◌+◌, ◌<◌, ◌≡◌, ◌≢◌, ◌∙◌, ◌∷◌}
 use Rattle.std.proofs.lemmas.Bool.{cases_eq}
@@ -39,8 +39,8 @@ is_created (gate ∷ bytes) unclosed = elim (cases_eq gate 1) [
 module _ {D : Type 0} (r : Reading D) where
   pub blank_stands : (logs : Logs) (devices : ℕ → List ℕ) (asked : Shape) → AreBlank logs → stands_in r logs devices asked ≡ Ok (nothing_found asked)
   blank_stands logs devices asked h =
-      ap (λ o. if_sound (with_parts r logs devices asked) (judge_coordinator r (pair_of coordinator_generation (content_of coordinator_in o) (content_of coordinator_in (logs 1))))) h.a
-      ∙ ap (λ o. if_sound (with_parts r logs devices asked) (judge_coordinator r (pair_of coordinator_generation Blank (content_of coordinator_in o)))) h.b
+      ap (λ o. and_then (judge_coordinator r (pair_of coordinator_generation (content_of coordinator_in o) (content_of coordinator_in (logs 1)))) (with_parts r logs devices asked)) h.a
+      ∙ ap (λ o. and_then (judge_coordinator r (pair_of coordinator_generation Blank (content_of coordinator_in o))) (with_parts r logs devices asked)) h.b
 
   pub made_stands : (logs : Logs) (devices : ℕ → List ℕ) (shape : Shape) (format part_format : ℕ) (coordinator : List ℕ) (part : ℕ → List ℕ)
       → is_format_under format part_format ≡ true → AreMade logs shape format part_format coordinator part

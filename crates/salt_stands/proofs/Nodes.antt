@@ -1,5 +1,5 @@
 -- The nodes of a unit's changes: a unit may have them, and they are those of the partitions that have some of the changes.
-use Rattle.salt_net.specs.Flags.{are_nodes, has_node, is_node}
+use Rattle.salt_net.specs.Flags.{are_nodes, has_node}
 use Rattle.salt_model.specs.Words.{is_empty}
 use Rattle.salt_place.specs.declared.placement.Shape.{Shape}
 use Rattle.salt_stands.proofs.Booleans.{join}
@@ -12,7 +12,7 @@ use Rattle.std.specs.Prelude.{cond, nat_le, not, suc, zero, ◌&&◌, ◌+◌, �
 apart : (p k : ℕ) → k ≤ p → (suc p == k) ≡ false
 apart p k h = grind (arith, nat_tests, h)
 
-numbered : (p : ℕ) → suc p ≤ 8 → is_node (suc p) ≡ true
+numbered : (p : ℕ) → suc p ≤ 8 → (nat_le 1 (suc p) && nat_le (suc p) 8) ≡ true
 numbered p h = join (nat_le 1 (suc p)) (nat_le (suc p) 8) (grind (arith, nat_tests)) (grind (arith, nat_tests, h))
 
 itself : (m : ℕ) → (suc m == suc m) ≡ true
@@ -37,7 +37,7 @@ module _ (shape : Shape) (cs : List Change) where
           are_nodes (cond t (nodes_from shape cs (suc p) n) (suc p ∷ nodes_from shape cs (suc p) n)) ≡ true
       by true more = more
       by false more =
-          join (is_node (suc p)) (not (has_node (suc p) (nodes_from shape cs (suc p) n)) && are_nodes (nodes_from shape cs (suc p) n))
+          join (nat_le 1 (suc p) && nat_le (suc p) 8) (not (has_node (suc p) (nodes_from shape cs (suc p) n)) && are_nodes (nodes_from shape cs (suc p) n))
           (numbered p (omega (arith, h)))
           (join (not (has_node (suc p) (nodes_from shape cs (suc p) n))) _ (ap not (none_below (suc p) n (suc p) (omega arith))) more)
 

@@ -7,13 +7,13 @@ use Rattle.salt_bytes.specs.Conts.{move_in}
 use Rattle.salt_bytes.specs.Coordinator.{Decision}
 use Rattle.salt_stands.proofs.Booleans.{all_push, join, left, right}
 use Rattle.salt_stands.proofs.Decided.{same_id_sym}
-use Rattle.salt_stands.specs.OpenConts.{conts_of_move, do_rise, end_of, go_to, is_accepted_before, is_later_than, is_not_of, make_move, moved, replace_cont, without_cont}
+use Rattle.salt_stands.specs.OpenConts.{conts_of_move, do_rise, go_to, is_accepted_before, is_later_than, is_not_of, make_move, moved, replace_cont}
 use Rattle.salt_values.specs.Id.{is_same_id}
 use Rattle.salt_values.specs.declared.id.Id.{Id}
 use Rattle.std.proofs.Common.{Bool, List, None, Option, Some, [], ap, false, refl, subst, sym, true, ℕ, ◌++◌, ◌≡◌, ◌∙◌, ◌∷◌}
 use Rattle.std.proofs.lemmas.Bool.Decides.{Decides-eqb}
 use Rattle.std.specs.List.{filter, list_all}
-use Rattle.std.specs.Prelude.{cond, if◌then◌else◌, nat_lt, not, ◌&&◌, ◌==◌, option_and_then}
+use Rattle.std.specs.Prelude.{cond, if◌then◌else◌, nat_lt, not, option_and_then, option_map, ◌&&◌, ◌==◌}
 use Rattle.std.specs.Bool.{then_some}
 
 pub same_id : (u v : Id) → is_same_id u v ≡ true → u ≡ v
@@ -137,11 +137,11 @@ module _ (p : Cont → Bool) where
       let is = given_is (c.accepted == d.accepted) (replace_cont c cs) ds e in
       subst (AreOpen p) is.1 (record { rise = replace_rises c d ((Decides-eqb c.accepted d.accepted).0 is.0) cs open'.rise found; each = all_replace p c cs good open'.each })
 
-  ends : (b : Id) (o : Option Cont) (cs ds : List Cont) → AreOpen p cs → end_of b o cs ≡ Some ds → AreOpen p ds
+  ends : (b : Id) (o : Option Cont) (cs ds : List Cont) → AreOpen p cs → option_map (λ d. filter (is_not_of b) cs) o ≡ Some ds → AreOpen p ds
   ends b None cs ds open' e = cc
   ends b (Some d) cs ds open' e = subst (AreOpen p) is (record { rise = rise_filter (is_not_of b) cs open'.rise; each = all_filter p (is_not_of b) cs open'.each })
     where
-      is : without_cont b cs ≡ ds
+      is : (filter (is_not_of b) cs) ≡ ds
       is = cc
 
   move_keeps : (m : Move) (cs ds : List Cont) → list_all p (conts_of_move (Some m)) ≡ true → AreOpen p cs → make_move cs m ≡ Some ds → AreOpen p ds

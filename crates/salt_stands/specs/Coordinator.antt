@@ -6,9 +6,10 @@ use Rattle.salt_bytes.specs.Generations.{BothBlank, Counts, Faulty, LogA, LogB, 
 use Rattle.salt_stands.specs.CoordinatorLog.{CoordinatorLog, Told, coordinator_generation, coordinator_in}
 use Rattle.salt_stands.specs.OpenConts.{conts_of_move, do_rise, moved}
 use Rattle.salt_stands.specs.Reading.{Reading}
-use Rattle.salt_stands.specs.Words.{has_bit, or_fault}
+use Rattle.salt_stands.specs.Words.{has_bit}
 use Rattle.salt_values.specs.declared.id.Id.{Id}
 use Rattle.std.specs.List.{filter, list_all}
+use Rattle.std.specs.Option.{ok_or}
 use Rattle.std.specs.Prelude.{Bool, Err, List, None, Ok, Option, Result, Some, [], map, nat_le, not, option_map, ℕ, ◌&&◌, ◌+◌, ◌++◌, ◌∷◌, option_and_then}
 use Rattle.std.specs.Bool.{then_some}
 
@@ -58,17 +59,14 @@ coordinator_pair logs = pair_of coordinator_generation (content_of coordinator_i
 abbrev pub judge_coordinator : {D : Type 0} → Reading D → Pair CoordinatorLog → Result (Option (Coordinator D)) ℕ
 judge_coordinator r BothBlank = Ok None
 judge_coordinator r (Faulty which) = Err (device_of 0 which)
-judge_coordinator r (Counts which log) = or_fault (device_of 0 which) (option_map Some (coordinator_of r log))
+judge_coordinator r (Counts which log) = ok_or (option_map Some (coordinator_of r log)) (device_of 0 which)
 
 abbrev pub coordinator_at : {D : Type 0} → Reading D → Logs → Result (Option (Coordinator D)) ℕ
 coordinator_at r logs = judge_coordinator r (coordinator_pair logs)
 
--- the units that are decided with partition p's bit
-abbrev pub names_part : ℕ → Decision → Bool
-names_part p d = has_bit d.mask p
-
 abbrev pub unit_of : Decision → Id
 unit_of d = d.unit
 
+-- the units that are decided with partition p's bit
 abbrev pub decided_for : ℕ → List Decision → List Id
-decided_for p ds = map unit_of (filter (names_part p) ds)
+decided_for p ds = map unit_of (filter (λ d. has_bit d.mask p) ds)

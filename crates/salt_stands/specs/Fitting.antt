@@ -46,13 +46,10 @@ are_of_columns [] [] = true
 are_of_columns (f ∷ fs) (v ∷ vs) = is_of_column f v && are_of_columns fs vs
 are_of_columns fs vs = false
 
--- no check is false of the row, and none has a cause
-abbrev pub passes_checks : TableDef → List Value → Bool
-passes_checks d row = is_ok (checked (in_row d row []) d.checks)
-
+-- a value for each column; no check is false of the row, and none has a cause
 abbrev pub is_row_of : Option TableDef → List Value → Bool
 is_row_of None row = false
-is_row_of (Some d) row = are_of_columns d.columns row && passes_checks d row
+is_row_of (Some d) row = are_of_columns d.columns row && is_ok (checked (in_row d row []) d.checks)
 
 abbrev pub is_key_of : Option TableDef → Value → Bool
 is_key_of None key = false

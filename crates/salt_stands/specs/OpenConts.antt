@@ -8,14 +8,11 @@ use Rattle.salt_values.specs.Id.{is_same_id}
 use Rattle.salt_values.specs.declared.id.Id.{Id}
 use Rattle.salt_model.specs.Kept.{cont_in}
 use Rattle.std.specs.List.{filter, list_all}
-use Rattle.std.specs.Prelude.{Bool, List, None, Option, Some, [], if◌then◌else◌, nat_lt, not, true, ℕ, ◌&&◌, ◌++◌, ◌==◌, ◌∷◌, option_and_then}
+use Rattle.std.specs.Prelude.{Bool, List, None, Option, Some, [], if◌then◌else◌, nat_lt, not, option_and_then, option_map, true, ℕ, ◌&&◌, ◌++◌, ◌==◌, ◌∷◌}
 use Rattle.std.specs.Bool.{then_some}
 
 abbrev pub is_not_of : Id → Cont → Bool
 is_not_of b c = not (is_same_id b c.base)
-
-abbrev pub without_cont : Id → List Cont → List Cont
-without_cont b cs = filter (is_not_of b) cs
 
 abbrev pub replace_cont : Cont → List Cont → List Cont
 replace_cont c [] = []
@@ -29,15 +26,10 @@ abbrev pub go_to : Cont → Option Cont → List Cont → Option (List Cont)
 go_to c None cs = then_some (list_all (is_accepted_before c) cs) (cs ++ c ∷ [])
 go_to c (Some d) cs = then_some (c.accepted == d.accepted) (replace_cont c cs)
 
--- what is finished is open
-abbrev pub end_of : Id → Option Cont → List Cont → Option (List Cont)
-end_of b None cs = None
-end_of b (Some d) cs = Some (without_cont b cs)
-
 abbrev pub make_move : List Cont → Move → Option (List Cont)
 make_move cs Plain = Some cs
 make_move cs (Continue c) = go_to c (cont_in c.base cs) cs
-make_move cs (Finish b) = end_of b (cont_in b cs) cs
+make_move cs (Finish b) = option_map (λ d. filter (is_not_of b) cs) (cont_in b cs)
 
 -- with one more decision, whose move is spelled under this format
 abbrev pub move_on : ℕ → Decision → Option (List Cont) → Option (List Cont)

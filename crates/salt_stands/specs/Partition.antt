@@ -1,5 +1,6 @@
 -- What a partition's devices stand for, under a coordinator.
 use Rattle.salt_model.specs.Tables.{Tables, changed_at, no_rows, place_cmp, with_changes}
+use Rattle.salt_model.specs.Words.{and_then}
 use Rattle.salt_values.specs.Id.{has_id}
 use Rattle.salt_model.specs.declared.places.Place.{Place}
 use Rattle.salt_values.specs.declared.change.Change.{Change}
@@ -12,11 +13,11 @@ use Rattle.salt_stands.specs.Coordinator.{Coordinator, Logs, decided_for, device
 use Rattle.salt_stands.specs.PartitionLog.{PartitionLog, partition_generation, partition_in}
 use Rattle.salt_stands.specs.Reading.{Reading}
 use Rattle.salt_stands.specs.Tables.{change_of_row}
-use Rattle.salt_stands.specs.Words.{if_sound, or_fault}
 use Rattle.salt_place.specs.Placement.{place_of}
 use Rattle.salt_values.specs.declared.id.Id.{Id}
 use Rattle.salt_place.specs.declared.placement.Shape.{Shape}
 use Rattle.std.specs.List.{list_all}
+use Rattle.std.specs.Option.{ok_or}
 use Rattle.std.specs.Ordering.{is_eq}
 use Rattle.std.specs.Prelude.{Bool, Err, List, None, Option, Result, Some, [], drop, false, map, nat_le, nat_lt, not, option_map, suc, true, ℕ, ◌&&◌, ◌*◌, ◌+◌, ◌++◌, ◌==◌, ◌∷◌, ◌||◌}
 use Rattle.std.specs.Bool.{then_some}
@@ -40,12 +41,9 @@ is_sound_prepared r c p prepared = nat_le prepared.unit.boot c.log.told.boot && 
 
 -- THE LOG THAT COUNTS
 
-abbrev pub unit_prepared : Prepared → Id
-unit_prepared prepared = prepared.unit
-
 -- a decided unit with no entry was taken into the pages by a checkpoint, of which there was none in the first generation
 abbrev pub are_there : List Id → PartitionLog → Bool
-are_there decided log = nat_lt 1 log.header.generation || list_all (λ u. has_id u (map unit_prepared log.prepared)) decided
+are_there decided log = nat_lt 1 log.header.generation || list_all (λ u. has_id u (map (λ prepared. prepared.unit) log.prepared)) decided
 
 -- under a coordinator of format 2 or 3 the partition has format 2
 abbrev pub is_format_under : ℕ → ℕ → Bool
@@ -110,8 +108,8 @@ abbrev pub judge_part : {D : Type 0} → Reading D → Coordinator D → ℕ →
 judge_part r c p pages BothBlank = Err (device_of (part_device p) LogB)
 judge_part r c p pages (Faulty which) = Err (device_of (part_device p) which)
 judge_part r c p pages (Counts which log) =
-    if_sound (λ sound. or_fault (pages_device p) (option_map (part_tables (decided_for p c.log.told.decided) sound) (rows_of_pages r c p sound pages)))
-    (or_fault (device_of (part_device p) which) (then_some (is_sound_log r c p log) log))
+    and_then (ok_or (then_some (is_sound_log r c p log) log) (device_of (part_device p) which)) (λ sound.
+    ok_or (option_map (part_tables (decided_for p c.log.told.decided) sound) (rows_of_pages r c p sound pages)) (pages_device p))
 
 abbrev pub part_at : {D : Type 0} → Reading D → Coordinator D → Logs → (ℕ → List ℕ) → ℕ → Result Tables ℕ
 part_at r c logs devices p = judge_part r c p (devices (pages_device p)) (part_pair p logs)

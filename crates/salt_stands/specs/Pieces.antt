@@ -11,7 +11,7 @@ use Rattle.salt_bytes.specs.Partition.{PartitionHeader, Prepared}
 use Rattle.salt_stands.specs.Coordinator.{Coordinator, Logs, coordinator_pair, decided_for, definitions_read, is_sound_cont, is_sound_decision}
 use Rattle.salt_stands.specs.CoordinatorLog.{told_by_header}
 use Rattle.salt_stands.specs.OpenConts.{do_rise, moved}
-use Rattle.salt_stands.specs.Partition.{is_sound_log, part_pair, part_tables, pages_device, rows_from, rows_of_pages, unit_prepared}
+use Rattle.salt_stands.specs.Partition.{is_sound_log, part_pair, part_tables, pages_device, rows_from, rows_of_pages}
 use Rattle.salt_stands.specs.PartitionLog.{PartitionLog}
 use Rattle.salt_stands.specs.Reading.{Reading}
 use Rattle.salt_values.specs.declared.id.Id.{Id}
@@ -94,7 +94,7 @@ with_prepared_unit v x = record v { log = record v.log { prepared = v.log.prepar
 
 -- the unit of an entry is told before, in this partition
 abbrev pub is_prepared_in : Id → List Prepared → Bool
-is_prepared_in u ps = has_id u (map unit_prepared ps)
+is_prepared_in u ps = has_id u (map (λ prepared. prepared.unit) ps)
 
 -- WHAT THE LAYER OF DEFINITIONS OWES: what fits still fits with one more definition
 pub record StaysFitting {D : Type 0} (r : Reading D) (ds : List D) (d : D) : Type 0 where

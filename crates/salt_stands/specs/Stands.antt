@@ -1,12 +1,13 @@
 -- What devices stand for, or the first of them that is faulty.
 use Rattle.salt_model.specs.Tables.{Tables, no_rows}
+use Rattle.salt_model.specs.Words.{and_then}
 use Rattle.salt_values.specs.declared.cont.Cont.{Cont}
 use Rattle.salt_bytes.specs.Log.{entries_in}
 use Rattle.salt_stands.specs.Coordinator.{Coordinator, Logs, coordinator_at}
 use Rattle.salt_stands.specs.Partition.{part_at}
 use Rattle.salt_stands.specs.Reading.{Reading}
 use Rattle.salt_stands.specs.Tables.{joined}
-use Rattle.salt_stands.specs.Words.{each_from, if_sound}
+use Rattle.salt_stands.specs.Words.{each_from}
 use Rattle.salt_place.specs.declared.placement.PlaceKind.TheVariants.{Bands, Remainder}
 use Rattle.salt_place.specs.declared.placement.PlaceKind.{PlaceKind}
 use Rattle.salt_place.specs.declared.placement.Shape.{Shape}
@@ -40,11 +41,11 @@ parts_at r c logs devices = each_from (part_at r c logs devices) 0 c.log.header.
 
 abbrev pub with_parts : {D : Type 0} → Reading D → Logs → (ℕ → List ℕ) → Shape → Option (Coordinator D) → Result (Found D) ℕ
 with_parts r logs devices asked None = Ok (nothing_found asked)
-with_parts r logs devices asked (Some c) = if_sound (λ parts. Ok (found_with c parts)) (parts_at r c logs devices)
+with_parts r logs devices asked (Some c) = and_then (parts_at r c logs devices) (λ parts. Ok (found_with c parts))
 
 -- of the entries of the logs; of the devices themselves only those with pages matter here
 abbrev pub stands_in : {D : Type 0} → Reading D → Logs → (ℕ → List ℕ) → Shape → Result (Found D) ℕ
-stands_in r logs devices asked = if_sound (with_parts r logs devices asked) (coordinator_at r logs)
+stands_in r logs devices asked = and_then (coordinator_at r logs) (with_parts r logs devices asked)
 
 abbrev pub logs_of : (ℕ → List ℕ) → Logs
 logs_of devices dev = entries_in (devices dev)

@@ -2,7 +2,7 @@
 use Rattle.salt_ast.specs.declared.lines.Line.TheVariants.{Net}
 use Rattle.salt_ast.specs.declared.lines.Line.{Line}
 use Rattle.salt_model.specs.After.{kept, run_of}
-use Rattle.salt_model.specs.Trace.{Trace, from, line_of, over_events, ◌asks◌, ◌says◌, ◌turns◌}
+use Rattle.salt_model.specs.Trace.{Trace, line_of, over_events}
 use Rattle.salt_model.specs.declared.events.End.TheVariants.{Branched, Committed}
 use Rattle.salt_model.specs.declared.events.Event.TheVariants.{Armed, Ended, Opened}
 use Rattle.salt_model.specs.declared.events.Event.{Event}
@@ -32,16 +32,13 @@ abbrev pub with_pairs : Line → List (ℕ × ℕ) → Turning → Turning
 with_pairs (Net asked) pairs t = record { events = t.events; taken = t.taken; waiting = t.waiting ++ pairs }
 with_pairs line pairs t = t
 
--- a unit of this boot commits. One of an earlier boot committed before the opening behind which it is told again.
-abbrev pub commits_in : (boot : ℕ) → Id → List ℕ → Turning → Turning
-commits_in boot u nodes t = if u.boot == boot then commits u nodes t else t
-
--- what an event makes of it, in the segment of this line, in this boot, and with these changes of its unit; a branch makes none
+-- what an event makes of it, in the segment of this line, in this boot, and with these changes of its unit; a branch makes none. A unit of
+-- an earlier boot committed before the opening behind which it is told again.
 abbrev pub turned : Shape → Line → (boot : ℕ) → List Change → Event → Turning → Turning
 turned shape line boot cs (Opened number n) t = no_turns
 turned shape line boot cs (Armed pairs) t = with_pairs line pairs t
-turned shape line boot cs (Ended u (Committed n)) t = commits_in boot u (nodes_in shape cs) t
-turned shape line boot cs (Ended u (Branched n c)) t = commits_in boot u [] t
+turned shape line boot cs (Ended u (Committed n)) t = if u.boot == boot then commits u (nodes_in shape cs) t else t
+turned shape line boot cs (Ended u (Branched n c)) t = if u.boot == boot then commits u [] t else t
 turned shape line boot cs e t = t
 
 -- the changes of an event's unit, where it ends

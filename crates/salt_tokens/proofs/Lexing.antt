@@ -6,7 +6,7 @@ use Rattle.salt_tokens.specs.declared.token.TokenKind.{TokenKind}
 use Rattle.salt_tokens.specs.Bytes.{is_blank}
 use Rattle.salt_tokens.specs.Pieces.{Piece}
 use Rattle.salt_tokens.specs.Scanning.{first_at, lex}
-use Rattle.salt_tokens.specs.Symbols.{HasSymbols, Symbol, Symbols, symbol, symbol_by, symbol_of, symbols_in, symbols_of}
+use Rattle.salt_tokens.specs.Symbols.{HasSymbols, Symbol, Symbols, symbol, symbol_by, symbols_in, symbols_of}
 use Rattle.salt_tokens.proofs.Steps.{with_front, lex_start, blank_goes_on, token_goes_on, token_fails, lex_ends}
 use Rattle.salt_tokens.proofs.TokenLaws.{lex_sound, no_row}
 
@@ -42,7 +42,7 @@ lexed_token bytes at lexemes next kind len l some is first pos within stands =
       read = l.read ++ piece ∷ [];
       so_far = token_goes_on bytes at l.read some l.so_far kind len is first pos within;
       symbols = map_push symbol lexemes next ∙ ap (λ (row : Symbols). row ++ symbol next ∷ []) l.symbols
-          ∙ ap (λ (s : Symbol). symbols_of l.read ++ s ∷ []) stands ∙ sym (map_push symbol_of l.read piece);
+          ∙ ap (λ (s : Symbol). symbols_of l.read ++ s ∷ []) stands ∙ sym (map_push (λ p. symbol_by p.kind p.text) l.read piece);
       few = omega (arith, l.few, length-append lexemes (next ∷ []));
     }
 

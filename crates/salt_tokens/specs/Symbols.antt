@@ -54,12 +54,9 @@ symbol_by kind.Int bs = int (min (digits_value 10 bs) largest_int)
 symbol_by kind.Text bs = text (undoubled (between bs))
 symbol_by kind.Sign bs = sign_symbol (sign_of bs)
 
-abbrev pub symbol_of : Piece → Symbol
-symbol_of p = symbol_by p.kind p.text
-
 -- the row that tokens stand for
 abbrev pub symbols_of : List Piece → Symbols
-symbols_of ps = map symbol_of ps
+symbols_of ps = map (λ p. symbol_by p.kind p.text) ps
 
 -- the bytes are tokens that stand for this row
 abbrev pub HasSymbols : List ℕ → Symbols → Type 0

@@ -1,5 +1,5 @@
 -- The rows that a statement puts have the keys of their places, where it sets no key.
-use Rattle.salt_ast.specs.Judgement.{bindings, columns_of, doubled_in_statement, field_named, first_fault, is_key, is_typed_scan, is_typed_set, is_typed_statement, statement_fault, takes_in, unknown_in_statement}
+use Rattle.salt_ast.specs.Judgement.{bindings, columns_of, doubled_in_statement, field_named, first_fault, is_key, is_typed_scan, is_typed_set, is_typed_statement, statement_fault, takes, unknown_in_statement}
 use Rattle.salt_ast.specs.declared.trees.Expr.{Expr}
 use Rattle.salt_ast.specs.declared.trees.Field.{Field}
 use Rattle.salt_ast.specs.declared.trees.Scan.{Scan}
@@ -31,6 +31,7 @@ use Rattle.salt_values.specs.declared.value.Value.{Value}
 use Rattle.std.proofs.Common.{ap, sym, ◌∙◌}
 use Rattle.std.specs.FinMap.Entries.{is_sorted}
 use Rattle.std.specs.List.{list_all}
+use Rattle.std.specs.Option.{option_map_or}
 use Rattle.std.specs.Prelude.{Bool, Err, List, None, Ok, Option, Result, Some, [], cond, false, if◌then◌else◌, not, refl, true, ℕ, ◌+◌, ◌∷◌, ◌≡◌}
 use Rattle.salt_values.specs.Value.{key_of}
 use lib.Dec.{T}
@@ -181,7 +182,7 @@ sets-typed : (columns variables : List Field) (sets : List Set) → list_all (is
 sets-typed columns variables [] h = refl
 sets-typed columns variables (s ∷ sets) h =
     let p = both_true (is_typed_set columns variables s) (list_all (is_typed_set columns variables) sets) h in
-    rw ((both_true (not (is_key columns s.column)) (takes_in columns variables (field_named columns s.column) s.value) p.0).0) (sets-typed columns variables sets p.1)
+    rw ((both_true (not (is_key columns s.column)) (option_map_or (λ f. takes columns variables f s.value) (field_named columns s.column) false) p.0).0) (sets-typed columns variables sets p.1)
 
 pub judged-leave : (schema : List TableDef) (scope : Scope) (st : Statement) → statement_fault schema scope st ≡ None → leaves_keys schema st ≡ true
 unfolding statement_fault

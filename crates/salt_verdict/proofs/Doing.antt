@@ -5,7 +5,7 @@ use Rattle.salt_ast.specs.declared.trees.Statement.{Statement}
 use Rattle.salt_ast.specs.declared.trees.TableDef.{TableDef}
 use Rattle.salt_audit.specs.Replaying.{done_under}
 use Rattle.salt_model.specs.Statements.{UnitRun, has_failed, run_on, serial, with_done}
-use Rattle.salt_model.specs.Tables.{Edits, Tables, changed_at, make_change, no_edits, place_cmp, place_total, put_changes, row_at, with_changes}
+use Rattle.salt_model.specs.Tables.{Edits, Tables, changed_at, make_change, place_cmp, place_total, put_changes, row_at, with_changes}
 use Rattle.salt_model.specs.declared.events.Answer.{Answer}
 use Rattle.salt_model.specs.declared.locks.Reach.{Reach}
 use Rattle.salt_model.specs.declared.places.Place.{Place}
@@ -136,7 +136,7 @@ module _ (laws : OfEdits) (es : Tables) where
 
   pub serial_outcome : (schema : List TableDef) (vars : List Binding) (sts : List Statement) →
       outcome_on schema es [] [] vars sts ≡ outcome_of_run (serial schema es vars sts)
-  serial_outcome schema vars sts = outcomes_are schema sts [] vars no_edits []
+  serial_outcome schema vars sts = outcomes_are schema sts [] vars (record { list = []; sorted = tt }) []
 
   tables_are : (schema : List TableDef) (sts : List Statement) (as_ : List Answer) (vars : List Binding) (ds : Edits) (reaches : List Reach) →
       let run = run_on schema sts (at_tables as_ vars ds reaches (with_edits ds.list es)) in run.tables ≡ with_edits run.changes.list es
@@ -158,4 +158,4 @@ module _ (laws : OfEdits) (es : Tables) where
 
   pub serial_tables : (schema : List TableDef) (vars : List Binding) (sts : List Statement) →
       (serial schema es vars sts).tables ≡ with_edits (serial schema es vars sts).changes.list es
-  serial_tables schema vars sts = tables_are schema sts [] vars no_edits []
+  serial_tables schema vars sts = tables_are schema sts [] vars (record { list = []; sorted = tt }) []

@@ -1,4 +1,6 @@
 -- Where the calls of a workload stand.
+use Rattle.salt_ast.specs.Sample.{transfer as transfer_def}
+use Rattle.salt_ast.specs.declared.lines.Line.TheVariants as line
 use Rattle.std.proofs.Common.{Bool, Some, [], ap, arith, cond, eqb, false, length, map, refl, suc, true, zero, ℕ, length-append}
 use Rattle.std.proofs.Common.{◌%◌, ◌*◌, ◌+◌, ◌++◌, ◌-◌, ◌/◌, ◌<◌, ◌≤◌, ◌∙◌, ◌∷◌, ◌≡◌}
 use Rattle.std.proofs.lemmas.Bool.{eqb-false, eqb-true}
@@ -7,8 +9,8 @@ use Rattle.std.proofs.lemmas.Option.{slice_get-get_or}
 use Rattle.std.specs.List.{flat_map, range_with_len, slice_get}
 use Rattle.salt_workload.proofs.Elements.{slice_get-append_left, slice_get-append_right, slice_get-blocks}
 use Rattle.salt_workload.specs.Places.{lines_through}
-use Rattle.salt_promise.specs.Workload.{account_table, balance, behind_eighth, behind_fiftieth, call_lines, calls, closing, deposit, load_lines}
-use Rattle.salt_promise.specs.Workload.{opening, transfer_program, turn}
+use Rattle.salt_promise.specs.Workload.{account_def, balance, behind_eighth, behind_fiftieth, call_lines, calls, closing, deposit, load_lines}
+use Rattle.salt_promise.specs.Workload.{opening, turn}
 
 eighths : (i : ℕ) (b : Bool) → eqb ((i + 1) % 8) 0 ≡ b → length (cond b (turn ∷ []) []) + i / 8 ≡ (i + 1) / 8
 eighths i true e = omega (arith, eqb-true ((i + 1) % 8) 0 e)
@@ -68,11 +70,11 @@ pub length_load : (n : ℕ) → length (load_lines n) ≡ 102 + lines_through n 
 length_load n =
     omega (arith, length-append opening (calls n ++ closing), length-append (calls n) closing, length-opening, length-calls n)
 
-pub load_table : (n : ℕ) → slice_get (load_lines n) 0 ≡ Some account_table
+pub load_table : (n : ℕ) → slice_get (load_lines n) 0 ≡ Some (line.Table account_def)
 unfolding opening
 load_table n = refl
 
-pub load_program : (n : ℕ) → slice_get (load_lines n) 1 ≡ Some transfer_program
+pub load_program : (n : ℕ) → slice_get (load_lines n) 1 ≡ Some (line.Program transfer_def)
 unfolding opening
 load_program n = refl
 

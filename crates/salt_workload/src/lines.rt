@@ -1,9 +1,10 @@
 //! The lines of which a workload is made.
 
+ghost use Rattle.salt_ast.specs.declared.lines.Line.TheVariants as line;
 ghost use Rattle.std.specs.Prelude.{◌≡◌, ◌<◌, ◌≤◌, IfOk};
-ghost use Rattle.salt_ast.specs.Sample.{amounts, transfer_parts};
+ghost use Rattle.salt_ast.specs.Sample.{amounts, transfer as transfer_def, transfer_parts};
 ghost use Rattle.salt_values.specs.declared.limits.TheConstants.{CALLS_MOST};
-ghost use Rattle.salt_promise.specs.Workload.{account_table, balance, deposit, transfer, transfer_args, transfer_program};
+ghost use Rattle.salt_promise.specs.Workload.{account_def, balance, deposit, transfer, transfer_args};
 
 use crate::trees::{balance_column, int_field, move_amount, name, number, one, operation, part};
 use salt_ast::{
@@ -16,7 +17,7 @@ use std::alloc::{AllocError, Global};
 
 /// The table of the accounts.
 pub fn account_table(alloc: Global) -> Result<Line, AllocError>
-    ensures { IfOk result (λ made. made ≡ account_table) }
+    ensures { IfOk result (λ made. made ≡ line.Table account_def) }
 {
     let mut columns = one(alloc, int_field(alloc, b"id")?)?;
     columns.push(int_field(alloc, b"bal")?)?;
@@ -57,7 +58,7 @@ fn transfer_parts(alloc: Global) -> Result<Parts, AllocError>
 
 /// The program of the transfers.
 pub fn transfer_program(alloc: Global) -> Result<Line, AllocError>
-    ensures { IfOk result (λ made. made ≡ transfer_program) }
+    ensures { IfOk result (λ made. made ≡ line.Program transfer_def) }
 {
     let params = amounts(alloc)?;
     let parts = transfer_parts(alloc)?;
