@@ -3,8 +3,8 @@ use Rattle.salt_model.specs.Releasing.{released_names}
 use Rattle.salt_model.specs.declared.events.Event.{Event}
 use Rattle.salt_model.specs.declared.events.Event.TheVariants.{Did}
 use Rattle.salt_workload.specs.Counts.{AreCounts}
-use Rattle.salt_model.specs.Summary.{cell_of, count_of, last_value}
-use Rattle.salt_workload.specs.Summary.{is_accepted, is_began, is_committed, is_victim, is_waits, released_count}
+use Rattle.salt_model.specs.Summary.{count_of, last_value}
+use Rattle.salt_workload.specs.Summary.{cell_of, is_accepted, is_began, is_committed, is_victim, is_waits, released_count}
 use Rattle.salt_workload.specs.declared.counts.Counts.{Counts}
 use Rattle.salt_values.specs.declared.value.Value.{Value}
 use Rattle.std.proofs.Common.{ap, append-nil, arith, get_or, length-append, length-take, take, subst, sym, ◌∙◌}

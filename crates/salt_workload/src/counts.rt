@@ -2,7 +2,8 @@
 
 ghost use Rattle.std.specs.Prelude.{◌≡◌, ◌++◌, ◌-◌, ◌<◌, ◌^◌, ◌∷◌, [], List, None, length};
 ghost use Rattle.std.specs.Option.{option_copied};
-ghost use Rattle.salt_model.specs.Summary.{cell_of, last_value};
+ghost use Rattle.salt_model.specs.Summary.{last_value};
+ghost use Rattle.salt_workload.specs.Summary.{cell_of};
 ghost use Rattle.salt_model.specs.declared.events.Event.{Event};
 ghost use Rattle.salt_workload.specs.Counts.{AreCounts};
 
