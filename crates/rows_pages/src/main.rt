@@ -8,6 +8,7 @@
 //! | `b`, `o`, `r` | the first opening failed, another one, a read of a row |
 //! | `f` | the device is full |
 //! | `n` | a side spells no page, or two rows stand at one place |
+//! | `u` | a row is not sound |
 //! | `?` | anything else |
 #![tactic(auto)]
 
@@ -17,6 +18,7 @@ mod steps;
 
 ghost use Rattle.std.specs.Prelude.{◌≤◌};
 
+use salt_directory::AnyRow;
 use salt_disk::MemDisks;
 use salt_rows::{RowsErr, open_rows};
 use stands::{after_failed_read, after_stop, devices_row, letter_of, limits_row, reopened};
@@ -56,7 +58,7 @@ fn reads_row(alloc: Global) -> Result<String, AllocError> {
 /// How many pages long rows take, how many of them are found by their keys, and how many come in order.
 fn many_rows(alloc: Global) -> Result<(usize, u64, u64), RowsErr> {
     let mut disks = MemDisks::new(alloc, 1, 1 << 24)?;
-    let mut store = open_rows(alloc, &mut disks, 0, true, &[])?;
+    let mut store = open_rows(alloc, &mut disks, 0, true, &[], &AnyRow)?;
     long_rows(alloc, &mut disks, &mut store, 0, ROWS)?;
     let sides = name_all(&mut disks, &mut store)?;
     let mut again = reopened(alloc, &mut disks, &sides)?;

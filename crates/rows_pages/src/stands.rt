@@ -3,12 +3,13 @@
 ghost use Rattle.salt_bytes.specs.Spellable.{Every};
 ghost use Rattle.salt_disk.specs.MemDisks.{seen};
 ghost use Rattle.salt_rows.specs.Stores.{IsSide, StandsOnPages};
-ghost use Rattle.std.specs.Prelude.{IfOk, length, ◌<◌, ◌≡◌, ◌≤◌};
+ghost use Rattle.std.specs.Prelude.{IfOk, false, length, ⊤, ◌<◌, ◌≡◌, ◌≤◌};
 
 use crate::steps::{first_rows, name_all, rows_are, second_header};
+use salt_directory::{AnyRow, RowJudge};
 use salt_disk::{DiskErr, Disks, MemDisks};
 use salt_rows::{RowStore, RowsErr, open_rows};
-use salt_values::TryCopy;
+use salt_values::{Key, Row, TryCopy};
 use sqlite_items::Items;
 use std::alloc::{AllocError, Global};
 
@@ -22,11 +23,31 @@ const ZEROS: [u8; 8192] = [0; 8192];
 /// More sides than any header names here.
 const MANY: usize = 1000;
 
+/// The judge to whom no row is sound.
+struct NoRow;
+
+impl RowJudge for NoRow {
+    ghost can_judge = { λ _. ⊤ };
+
+    ghost sound = { λ _ _. false };
+
+    fn is_sound(
+        &self,
+        _alloc: Global,
+        _table: u16,
+        _key: &Key,
+        _row: &Row,
+    ) -> Result<bool, AllocError> {
+        Ok(false)
+    }
+}
+
 /// The letter of what was found.
 pub fn letter_of(found: Result<char, RowsErr>) -> char {
     match found {
         Ok(letter) => letter,
         Err(RowsErr::NotPage) => 'n',
+        Err(RowsErr::NotRow) => 'u',
         Err(RowsErr::Disk(DiskErr::Full(_))) => 'f',
         Err(_) => '?',
     }
@@ -42,7 +63,7 @@ pub fn reopened(alloc: Global, disks: &mut MemDisks, sides: &Items<u8>) -> Resul
     if MANY < sides.len() {
         return Err(RowsErr::NotPage);
     }
-    open_rows(alloc, disks, 0, true, sides)
+    open_rows(alloc, disks, 0, true, sides, &AnyRow)
 }
 
 /// The sides of the second header, where it stands, else those of the first one.
@@ -64,7 +85,7 @@ fn first_header(alloc: Global, disks: &mut MemDisks) -> Result<(RowStore, Items<
     ensures sides { IfOk result (λ made. Every IsSide made.1) }
     ensures count { (seen disks.new).count ≡ (seen disks.old).count }
 {
-    let mut store = open_rows(alloc, disks, 0, true, &[])?;
+    let mut store = open_rows(alloc, disks, 0, true, &[], &AnyRow)?;
     first_rows(alloc, disks, &mut store)?;
     let sides = name_all(disks, &mut store)?;
     store.named_as(sides.copy(alloc)?);
@@ -117,8 +138,14 @@ pub fn limits_row(alloc: Global) -> Result<String, AllocError> {
     Ok(row)
 }
 
-/// What a device of these bytes, one piece behind the other, is opened as.
-fn opened_as(alloc: Global, pieces: &[&[u8]], sides: &[u8]) -> Result<char, RowsErr>
+/// What a device of these bytes, one piece behind the other, is opened as, by this judge.
+fn judged_as<J: RowJudge>(
+    alloc: Global,
+    pieces: &[&[u8]],
+    sides: &[u8],
+    judge: &J,
+) -> Result<char, RowsErr>
+    requires judge { J.can_judge judge.now }
     requires sides { Every IsSide sides.now }
     requires few { length sides.now < 1000 }
 {
@@ -128,8 +155,16 @@ fn opened_as(alloc: Global, pieces: &[&[u8]], sides: &[u8]) -> Result<char, Rows
     }
     let mut disks = MemDisks::new(alloc, 1, LIMIT)?;
     disks.set_bytes(0, &bytes)?;
-    let mut store = open_rows(alloc, &mut disks, 0, true, sides)?;
+    let mut store = open_rows(alloc, &mut disks, 0, true, sides, judge)?;
     Ok(rows_are(alloc, &mut disks, &mut store)?)
+}
+
+/// The same, where every row is sound.
+fn opened_as(alloc: Global, pieces: &[&[u8]], sides: &[u8]) -> Result<char, RowsErr>
+    requires sides { Every IsSide sides.now }
+    requires few { length sides.now < 1000 }
+{
+    judged_as(alloc, pieces, sides, &AnyRow)
 }
 
 /// The bytes of the first header's page.
@@ -140,7 +175,7 @@ fn first_page(alloc: Global) -> Result<Vec<u8>, RowsErr> {
 }
 
 /// A letter for each device that is opened: the page on side 0, and on side 1; without its last byte; with a row more than it has; before an
-/// empty page, and before itself.
+/// empty page, and before itself; and where no row is sound.
 pub fn devices_row(alloc: Global) -> Result<String, AllocError> {
     let mut row = String::new(alloc);
     let Ok(page) = first_page(alloc) else {
@@ -157,5 +192,6 @@ pub fn devices_row(alloc: Global) -> Result<String, AllocError> {
     }
     row.push(letter_of(opened_as(alloc, &[page, &ZEROS, &ZEROS], &[0, 0])))?;
     row.push(letter_of(opened_as(alloc, &[page, &ZEROS, page], &[0, 0])))?;
+    row.push(letter_of(judged_as(alloc, &[page], &[0], &NoRow)))?;
     Ok(row)
 }

@@ -9,13 +9,15 @@ use Rattle.salt_directory.proofs.Keys.{page_alike, page_put}
 use Rattle.salt_directory.proofs.PageAt.{rows_first, rows_none, twins_stay}
 use Rattle.salt_directory.proofs.Split.{rows_push}
 use Rattle.salt_directory.specs.Directories.{HasPagesBelow}
-use Rattle.salt_directory.specs.Listing.{AreNoPages, HaveTwins, IsDirectory, tables_on}
+use Rattle.salt_directory.specs.Listing.{AreNoPages, AreUnsound, HaveTwins, IsDirectory, tables_on}
 use Rattle.salt_directory.specs.Pages.{AreRowsOf, all_rows, page_of}
 use Rattle.salt_stands.specs.Partition.{page_at, rows_from}
-use Rattle.std.proofs.Common.{Bool, List, None, Option, Some, [], ap, append_assoc, arith, cond, drop, false, get_or, inl, inr, is_some, length, refl, set, subst, sym, take, true, ℕ, ◌+◌, ◌++◌, ◌<◌, ◌≡◌, ◌≤◌, ◌∙◌, ◌∷◌}
+use Rattle.std.proofs.Common.{Bool, List, None, Option, Some, [], ap, append_assoc, arith, cond, drop, false, get_or, inl, inr, is_some, length, refl, set, subst, sym, take, true, ℕ, ◌&&◌, ◌+◌, ◌++◌, ◌<◌, ◌≡◌, ◌≤◌, ◌∙◌, ◌∷◌}
+use Rattle.std.proofs.lemmas.List.Folds.{list_all-append, list_all_at}
 use Rattle.std.proofs.lemmas.List.{append-nil, get_or_push, length_push, set_at, take-append-drop, take_all, take_more}
 use Rattle.std.proofs.lemmas.Option.{get_or_from_slice_get, slice_get_within}
 use Rattle.std.specs.BTreeMap.{insert_entry}
+use Rattle.std.specs.List.{list_all}
 use Rattle.std.specs.Ordering.{is_eq}
 use Rattle.std.specs.Prelude.{slice_get}
 
@@ -94,17 +96,32 @@ module _ (nulls : Bool) (bytes sides : List ℕ) where
           let first = rows_first nulls bytes 0 sides pages rows few (λ i low. subst (λ n. page_at nulls bytes n (get_or sides i 0) ≡ Some (get_or pages i [])) (from_zero i) (each i low)) is in
           inr (rows, is, subst (λ (l : List TableRow). are_apart l ≡ false) (sym first.1) (twins_stay (all_rows pages) first.0 twins))
 
+-- SOUND ROWS
+module _ (sound : TableRow → Bool) (nulls : Bool) (bytes sides : List ℕ) where
+  from_first : (k : ℕ) → k ≡ 0 + k
+  from_first k = omega arith
+
+  pub unsound_there : (pages : List (List TableRow)) → length pages ≤ length sides → ((i : ℕ) → i < length pages → page_at nulls bytes i (get_or sides i 0) ≡ Some (get_or pages i [])) → list_all sound (all_rows pages) ≡ false → AreUnsound sound nulls bytes sides
+  unsound_there pages few each unsound = by (rows_from nulls bytes 0 sides) refl
+    where
+      by : (o : Option (List TableRow)) → rows_from nulls bytes 0 sides ≡ o → AreUnsound sound nulls bytes sides
+      by None is = inl is
+      by (Some rows) is =
+          let first = rows_first nulls bytes 0 sides pages rows few (λ i low. subst (λ n. page_at nulls bytes n (get_or sides i 0) ≡ Some (get_or pages i [])) (from_first i) (each i low)) is in
+          inr (rows, is, ap (list_all sound) first.1 ∙ list_all-append sound (all_rows pages) first.0 ∙ (λ j. unsound j && list_all sound first.0))
+
 -- ROW BY ROW
 
--- the first i rows of the page that stands behind the others are listed
-pub record ListedSoFar (before now : List (Place × ℕ)) (number : ℕ) (rows : List TableRow) (i : ℕ) : Type 0 where
+-- the first i rows of the page that stands behind the others are sound and listed
+pub record ListedSoFar (is_sound : TableRow → Bool) (before now : List (Place × ℕ)) (number : ℕ) (rows : List TableRow) (i : ℕ) : Type 0 where
   pub is : (pages : List (List TableRow)) → number ≡ length pages → IsDirectory before (pages ++ [] ∷ []) → IsDirectory now (pages ++ take i rows ∷ [])
   pub below : HasPagesBelow before number → HasPagesBelow now (number + 1)
+  pub sound : list_all is_sound (take i rows) ≡ true
 
-pub none_listed : (before : List (Place × ℕ)) (number : ℕ) (rows : List TableRow) → ListedSoFar before before number rows 0
-none_listed before number rows = record { is = λ pages last are. are; below = λ low q page found. omega (arith, low q page found) }
+pub none_listed : (sound : TableRow → Bool) (before : List (Place × ℕ)) (number : ℕ) (rows : List TableRow) → ListedSoFar sound before before number rows 0
+none_listed sound before number rows = record { is = λ pages last are. are; below = λ low q page found. omega (arith, low q page found); sound = refl }
 
-module _ (before now : List (Place × ℕ)) (number : ℕ) (rows : List TableRow) (i : ℕ) (so : ListedSoFar before now number rows i) (r : TableRow) (at : slice_get rows i ≡ Some r) where
+module _ (sound : TableRow → Bool) (before now : List (Place × ℕ)) (number : ℕ) (rows : List TableRow) (i : ℕ) (so : ListedSoFar sound before now number rows i) (r : TableRow) (at : slice_get rows i ≡ Some r) where
   within : i < length rows
   within = slice_get_within rows i r at
 
@@ -114,8 +131,8 @@ module _ (before now : List (Place × ℕ)) (number : ℕ) (rows : List TableRow
   front : take (i + 1) rows ≡ take i rows ++ r ∷ []
   front = take_more rows i r within ∙ ap (λ (s : TableRow). take i rows ++ s ∷ []) (sym own)
 
-  pub one_listed : (new : List (Place × ℕ)) → new ≡ insert_entry place_cmp now (place_of r) number → page_of now (place_of r) ≡ None → ListedSoFar before new number rows (i + 1)
-  one_listed new made lacks = record { is = is; below = below }
+  pub one_listed : (new : List (Place × ℕ)) → new ≡ insert_entry place_cmp now (place_of r) number → page_of now (place_of r) ≡ None → sound r ≡ true → ListedSoFar sound before new number rows (i + 1)
+  one_listed new made lacks fits = record { is = is; below = below; sound = ap (list_all sound) front ∙ list_all-append sound (take i rows) (r ∷ []) ∙ (λ j. so.sound j && (fits j && true)) }
     where
       is : (pages : List (List TableRow)) → number ≡ length pages → IsDirectory before (pages ++ [] ∷ []) → IsDirectory new (pages ++ take (i + 1) rows ∷ [])
       is pages last are =
@@ -133,5 +150,12 @@ module _ (before now : List (Place × ℕ)) (number : ℕ) (rows : List TableRow
   pub twin_listed : is_some (page_of now (place_of r)) ≡ true → (pages : List (List TableRow)) → number ≡ length pages → IsDirectory before (pages ++ [] ∷ []) → HaveTwins (all_rows (pages ++ rows ∷ []))
   twin_listed there pages last are = page_twins pages rows i r within own (taken now pages (take i rows) (so.is pages last are) r there)
 
-pub all_listed : (before now : List (Place × ℕ)) (number : ℕ) (rows : List TableRow) (i : ℕ) → ListedSoFar before now number rows i → length rows ≤ i → (pages : List (List TableRow)) → number ≡ length pages → IsDirectory before (pages ++ [] ∷ []) → IsDirectory now (pages ++ rows ∷ [])
-all_listed before now number rows i so end pages last are = subst (λ (l : List TableRow). IsDirectory now (pages ++ l ∷ [])) (take_all i rows end) (so.is pages last are)
+  pub unsound_listed : sound r ≡ false → list_all sound rows ≡ false
+  unsound_listed bad = list_all_at sound rows i r within (ap sound (sym own) ∙ bad)
+
+pub all_listed : (sound : TableRow → Bool) (before now : List (Place × ℕ)) (number : ℕ) (rows : List TableRow) (i : ℕ) → ListedSoFar sound before now number rows i → length rows ≤ i
+    → (pages : List (List TableRow)) → number ≡ length pages → IsDirectory before (pages ++ [] ∷ []) → IsDirectory now (pages ++ rows ∷ [])
+all_listed sound before now number rows i so end pages last are = subst (λ (l : List TableRow). IsDirectory now (pages ++ l ∷ [])) (take_all i rows end) (so.is pages last are)
+
+pub all_sound : (sound : TableRow → Bool) (before now : List (Place × ℕ)) (number : ℕ) (rows : List TableRow) (i : ℕ) → ListedSoFar sound before now number rows i → length rows ≤ i → list_all sound rows ≡ true
+all_sound sound before now number rows i so end = ap (list_all sound) (sym (take_all i rows end)) ∙ so.sound

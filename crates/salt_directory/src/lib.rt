@@ -2,11 +2,15 @@
 #![tactic(auto)]
 
 mod directory;
+mod error;
+mod judge;
 mod listing;
 mod page;
 mod space;
 
 pub use directory::{Directory, next_place, page_before, page_of};
+pub use error::ListErr;
+pub use judge::{AnyRow, RowJudge};
 pub use listing::list_page;
 pub use page::{Replaced, new_page, put_on, replace_on, row_of};
 pub use space::Space;

@@ -1,21 +1,21 @@
 //! A store is opened on pages that a header names.
 
 ghost use Rattle.salt_bytes.specs.Spellable.{Every};
-ghost use Rattle.salt_directory.specs.Listing.{AreNoPages};
+ghost use Rattle.salt_directory.specs.Listing.{AreNoPages, AreSound, AreUnsound};
 ghost use Rattle.salt_disk.specs.Disks.{HasCause, KeepsAll, OnlyFails};
 ghost use Rattle.salt_model.specs.Tables.{Tables};
 ghost use Rattle.salt_pool.specs.Pools.{IsPool, codec_of, dirty_of, frames_of, length_of};
 ghost use Rattle.salt_rows.specs.Errors.{rows_disk_err};
 ghost use Rattle.salt_rows.specs.Sides.{sides_up_to};
 ghost use Rattle.salt_rows.specs.Stores.{HaveRows, IsRowStore, IsSide, device_of, sides_of};
-ghost use Rattle.salt_rows.specs.declared.error.RowsErr.TheVariants.{NotPage};
+ghost use Rattle.salt_rows.specs.declared.error.RowsErr.TheVariants.{NotPage, NotRow};
 ghost use Rattle.salt_stands.specs.Partition.{page_at};
-ghost use Rattle.std.specs.Prelude.{Err, IfOk, IsTrue, None, Some, [], length, true, ◌*◌, ◌<◌, ◌^◌, ◌≡◌, ◌≤◌};
+ghost use Rattle.std.specs.Prelude.{Err, IfOk, IsTrue, None, OnOk, Some, [], length, true, ◌*◌, ◌<◌, ◌^◌, ◌≡◌, ◌≢◌, ◌≤◌};
 ghost use Rattle.std.specs.Result.{result_err};
 
 use crate::error::RowsErr;
 use crate::store::RowStore;
-use salt_directory::{Directory, Space, list_page};
+use salt_directory::{Directory, RowJudge, Space, list_page};
 use salt_disk::{DiskErr, Disks};
 use salt_gatelog::rejected;
 use salt_pages::{Page, read_page};
@@ -43,6 +43,7 @@ fn page_on<D: Disks>(
     requires side { side ≤ 1 }
     ensures page { IfOk result (λ rows. IsTrue (D.view disks.old).told → page_at nulls ((D.view disks.old).bytes dev) page side ≡ Some rows) }
     ensures not_page { result ≡ Err NotPage → IsTrue (D.view disks.old).told → page_at nulls ((D.view disks.old).bytes dev) page side ≡ None }
+    ensures unjudged { result ≢ Err NotRow }
     ensures kept { KeepsAll (D.view disks.old) (D.view disks.new) (rows_disk_err result) }
     ensures cause { HasCause (D.view disks.old) (D.view disks.new) (rows_disk_err result) }
     ensures answers { OnlyFails (rows_disk_err result) }
@@ -117,21 +118,26 @@ fn store_on(
     })
 }
 
-/// Opens the rows that stand on these sides of a device's pages, as a header names them; NULL is read only where it is spelled. It
-/// writes nothing. `NotPage` exactly where one of these sides spells no page, or two rows stand at one place.
-pub fn open_rows<D: Disks>(
+/// Opens the rows that stand on these sides of a device's pages, as a header names them; NULL is read only where it is spelled. The judge
+/// is asked of each row, and nothing is written. `NotPage` only where one of these sides spells no page, or two rows stand at one place;
+/// `NotRow` only where one of them spells no page, or has a row that is not sound.
+pub fn open_rows<D: Disks, J: RowJudge>(
     alloc: Global,
     disks: &mut D,
     dev: u32,
     nulls: bool,
     sides: &[u8],
+    judge: &J,
 ) -> Result<RowStore, RowsErr>
     requires known { dev < (D.view disks.old).count }
     requires sides { Every IsSide sides.now }
     requires few { length sides.now < 2 ^ 32 }
+    requires judge { J.can_judge judge.now }
     ensures opened { IfOk result (λ x. (t : Tables) × IsRowStore (D.view disks.new) x dev sides.now t × (IsTrue (D.view disks.old).told → HaveRows nulls ((D.view disks.old).bytes dev) sides.now t)) }
     ensures sides { IfOk result (λ x. sides_of x ≡ sides.now) }
+    ensures judged { OnOk result (IsTrue (D.view disks.old).told → AreSound (J.sound judge.now) nulls ((D.view disks.old).bytes dev) sides.now) }
     ensures not_page { result ≡ Err NotPage → IsTrue (D.view disks.old).told → AreNoPages nulls ((D.view disks.old).bytes dev) sides.now }
+    ensures not_row { result ≡ Err NotRow → IsTrue (D.view disks.old).told → AreUnsound (J.sound judge.now) nulls ((D.view disks.old).bytes dev) sides.now }
     ensures kept { KeepsAll (D.view disks.old) (D.view disks.new) (rows_disk_err result) }
     ensures cause { HasCause (D.view disks.old) (D.view disks.new) (rows_disk_err result) }
     ensures answers { OnlyFails (rows_disk_err result) }
@@ -140,9 +146,7 @@ pub fn open_rows<D: Disks>(
     let mut space = Space::new(alloc);
     for number in 0..sides.len() {
         let page = page_on(alloc, disks, dev, nulls, number as u32, sides[number])?;
-        if !list_page(alloc, &mut directory, number as u32, &page)? {
-            return Err(RowsErr::NotPage);
-        }
+        list_page(alloc, &mut directory, number as u32, &page, judge)?;
         space.push(page.free() as u16)?;
     }
     let len = length_from(disks, dev, sides_up_to(sides))?;
