@@ -1,8 +1,10 @@
 -- The next place of a range in a directory is that of the next row of the tables.
 use Rattle.salt_directory.proofs.Placed.{first_there, found_filtered}
-use Rattle.salt_directory.specs.Directories.{IsNextPlace, first_behind, is_in}
-use Rattle.salt_eval.proofs.InOrder.{tables_of-list}
+use Rattle.salt_directory.specs.Directories.{IsNextPlace, first_behind, is_in, key_alone, places_in}
+use Rattle.salt_directory.specs.Pages.{page_of}
+use Rattle.salt_eval.proofs.InOrder.{in_order, row_at-tables_of, tables_of-list}
 use Rattle.salt_eval.proofs.Nexts.{next-found, next-none, next-past}
+use Rattle.salt_eval.specs.Scans.{IsKeyed}
 use Rattle.salt_eval.specs.Views.{is_next, next_row, start_of, tables_of}
 use Rattle.salt_model.specs.Tables.{Entry, Tables, place, place_cmp, row_at}
 use Rattle.salt_model.specs.Words.{first_of_list}
@@ -10,12 +12,17 @@ use Rattle.salt_model.specs.declared.places.Place.{Place}
 use Rattle.salt_ranges.specs.Ranges.{has_key}
 use Rattle.salt_ranges.specs.declared.range.KeyRange.{KeyRange}
 use Rattle.salt_stands.proofs.Booleans.{left}
+use Rattle.salt_stands.proofs.Places.{equal_is, place_same}
+use Rattle.salt_values.specs.Value.{key_of}
 use Rattle.salt_values.specs.declared.value.Value.{Value}
-use Rattle.std.proofs.Common.{Bool, List, None, Option, Some, [], ap, cond, eqb-true, false, filter, refl, sym, true, ℕ, ◌==◌, ◌≡◌, ◌∙◌, ◌∷◌}
+use Rattle.std.proofs.Common.{Bool, List, None, Option, Some, [], ap, cond, eqb-true, false, filter, refl, subst, sym, true, ℕ, ◌==◌, ◌≡◌, ◌∙◌, ◌∷◌}
+use Rattle.std.specs.BTreeMap.{is_at}
 use Rattle.std.specs.BTreeMap.Range.{entries_between, range_contains}
 use Rattle.std.specs.FinMap.Entries.{where_key}
-use Rattle.std.specs.Map.{keys_of}
-use Rattle.std.specs.Prelude.{option_map}
+use Rattle.std.specs.List.Sorted.{IsStrictlySortedBy}
+use Rattle.std.specs.Map.{keys_of, lookup}
+use Rattle.std.specs.Ordering.{is_eq}
+use Rattle.std.specs.Prelude.{IfSome, map, option_map}
 use Rattle.std.specs.declared.ops.Bound.TheVariants.{Unbounded}
 
 abbrev key_in : {X : Type 0} → Option (Place × X) → Option Place
@@ -75,3 +82,42 @@ module _ (table : ℕ) (range : KeyRange) (after : Option Value) (directory : Li
 
   pub the_next : (found : Value × ℕ) → IsNextPlace table range (first_behind table range after directory) (Some found) → (row : List Value) → Some row ≡ row_at (place table found.0) t → Some row ≡ next_row table range after t
   the_next found next row stands = some_next (first_behind table range after directory) refl found next (first_of_list (entries_between place_cmp (start_of table range.lo after) Unbounded t.list)) refl alike row stands
+
+-- THE KEYS ALONE
+
+same_keys : (es : List (Place × ℕ)) → keys_of (map key_alone es) ≡ keys_of es
+same_keys [] = refl
+same_keys (e ∷ es) = ap (λ (ks : List Place). e.0 ∷ ks) (same_keys es)
+
+places_keys : (es : List (Place × ℕ)) → IsStrictlySortedBy place_cmp (keys_of es) → keys_of es ≡ keys_of (places_in es).list
+places_keys es ordered =
+    let sorted = in_order place_cmp (map key_alone es) (subst (IsStrictlySortedBy place_cmp) (sym (same_keys es)) ordered) in
+    sym (same_keys es) ∙ ap (λ (rows : List Entry). keys_of rows) (sym (tables_of-list (map key_alone es) sorted))
+
+at_place : (q : Place) (es : List (Place × ℕ)) (page : ℕ) → page_of es q ≡ Some page → lookup (is_at (place_cmp q)) (map key_alone es) ≡ Some (q.key ∷ [])
+at_place q [] page is = cc
+at_place q (e ∷ es) page is = by (is_eq (place_cmp q e.0)) refl is
+  where
+    by : (b : Bool) → is_eq (place_cmp q e.0) ≡ b → cond b (Some e.1) (page_of es q) ≡ Some page → cond b (Some (e.0.key ∷ [])) (lookup (is_at (place_cmp q)) (map key_alone es)) ≡ Some (q.key ∷ [])
+    by true here found = ap (λ (p : Place). Some (p.key ∷ [])) (sym (place_same q e.0 (equal_is (place_cmp q e.0) here)))
+    by false there found = at_place q es page found
+
+-- the key that is next in a directory is that of the next of its places
+pub next_key : (table : ℕ) (range : KeyRange) (after : Option Value) (es : List (Place × ℕ)) → IsStrictlySortedBy place_cmp (keys_of es) → (found : Option (Value × ℕ)) → IsNextPlace table range (first_behind table range after es) found
+    → IfSome found (λ f. page_of es (place table f.0) ≡ Some f.1) → option_map (λ f. f.0) found ≡ option_map key_of (next_row table range after (places_in es))
+next_key table range after es ordered None next there = ap (option_map key_of) (no_next table range after es (places_in es) (places_keys es ordered) next)
+next_key table range after es ordered (Some f) next there =
+    ap (option_map key_of)
+    (the_next table range after es (places_in es) (places_keys es ordered) f next (f.0 ∷ []) (sym (row_at-tables_of (place table f.0) (map key_alone es) ∙ at_place (place table f.0) es f.1 there)))
+
+-- each of them stands at the place of its key
+keyed_at : (q : Place) (es : List (Place × ℕ)) → IfSome (lookup (is_at (place_cmp q)) (map key_alone es)) (λ row. key_of row ≡ q.key)
+keyed_at q [] = tt
+keyed_at q (e ∷ es) = by (is_eq (place_cmp q e.0)) refl
+  where
+    by : (b : Bool) → is_eq (place_cmp q e.0) ≡ b → IfSome (cond b (Some (e.0.key ∷ [])) (lookup (is_at (place_cmp q)) (map key_alone es))) (λ row. key_of row ≡ q.key)
+    by true here = ap (λ (p : Place). p.key) (sym (place_same q e.0 (equal_is (place_cmp q e.0) here)))
+    by false there = keyed_at q es
+
+pub places_keyed : (es : List (Place × ℕ)) → IsKeyed (places_in es)
+places_keyed es q = subst (λ o. IfSome o (λ row. key_of row ≡ q.key)) (sym (row_at-tables_of q (map key_alone es))) (keyed_at q es)

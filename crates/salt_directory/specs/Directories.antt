@@ -1,6 +1,6 @@
 -- What is found in a directory: the page of a place, and the next place of a range.
-use Rattle.salt_eval.specs.Views.{start_of}
-use Rattle.salt_model.specs.Tables.{place_cmp}
+use Rattle.salt_eval.specs.Views.{start_of, tables_of}
+use Rattle.salt_model.specs.Tables.{Entry, Tables, place_cmp}
 use Rattle.salt_model.specs.Words.{first_of_list}
 use Rattle.salt_model.specs.declared.places.Place.{Place}
 use Rattle.salt_ranges.specs.Ranges.{has_key}
@@ -8,7 +8,7 @@ use Rattle.salt_ranges.specs.declared.range.KeyRange.{KeyRange}
 use Rattle.salt_directory.specs.Pages.{page_of}
 use Rattle.salt_values.specs.declared.value.Value.{Value}
 use Rattle.std.specs.BTreeMap.Range.{entries_between}
-use Rattle.std.specs.Prelude.{Bool, List, None, Option, Some, false, true, ℕ, ⊤, ◌&&◌, ◌<◌, ◌==◌, ◌≡◌}
+use Rattle.std.specs.Prelude.{Bool, List, None, Option, Some, [], false, map, true, ℕ, ⊤, ◌&&◌, ◌<◌, ◌==◌, ◌∷◌, ◌≡◌}
 use Rattle.std.specs.declared.ops.Bound.TheVariants.{Unbounded}
 
 -- each page that it has is one of the first so many
@@ -28,3 +28,10 @@ IsNextPlace table range None None = ⊤
 IsNextPlace table range None (Some found) = ⊥
 IsNextPlace table range (Some e) None = is_in table range e.0 ≡ false
 IsNextPlace table range (Some e) (Some found) = (is_in table range e.0 ≡ true) × (found.0 ≡ e.0.key) × (found.1 ≡ e.1)
+
+-- its places, as tables in which each row is its key alone
+abbrev pub key_alone : Place × ℕ → Entry
+key_alone e = (e.0, e.0.key ∷ [])
+
+abbrev pub places_in : List (Place × ℕ) → Tables
+places_in directory = tables_of (map key_alone directory)

@@ -3,9 +3,11 @@
 ghost use Rattle.salt_directory.specs.Directories.{HasPagesBelow, IsNextPlace, first_behind};
 ghost use Rattle.salt_directory.specs.Pages.{page_of};
 ghost use Rattle.std.specs.BTreeMap.Range.{entries_between};
+ghost use Rattle.std.specs.List.Sorted.{IsStrictlySortedBy};
+ghost use Rattle.std.specs.Map.{keys_of};
 ghost use Rattle.std.specs.Map.Iter.{deref_pair};
 ghost use Rattle.std.specs.Option.{option_copied};
-ghost use Rattle.std.specs.Prelude.{IfOk, IfSome, Some, option_map, ◌<◌, ◌≡◌};
+ghost use Rattle.std.specs.Prelude.{IfOk, IfSome, OnOk, Some, option_map, ◌<◌, ◌≡◌};
 ghost use Rattle.std.specs.declared.ops.Bound.TheVariants.{Unbounded};
 ghost use Rattle.salt_model.specs.Tables.{place, place_cmp};
 ghost use Rattle.salt_model.specs.Words.{first_of_list};
@@ -43,6 +45,7 @@ pub fn page_before(directory: &Directory, place: &Place) -> Option<u32>
 fn first_from<'a>(directory: &'a Directory, start: Bound<Place>) -> Option<(&'a Place, &'a u32)>
     ensures first { option_map deref_pair result ≡ first_of_list (entries_between place_cmp start Unbounded directory.now.entries) }
     ensures found { IfSome result (λ e. page_of directory.now.entries e.0.now ≡ Some e.1.now) }
+    ensures ordered { IsStrictlySortedBy place_cmp (keys_of directory.now.entries) }
 {
     directory.range((start, Bound::Unbounded)).next()
 }
@@ -57,6 +60,7 @@ pub fn next_place(
 ) -> Result<Option<(Key, u32)>, AllocError>
     ensures next { IfOk result (IsNextPlace table range.now (first_behind table range.now (option_copied after.entry) directory.now.entries)) }
     ensures found { IfOk result (λ found. IfSome found (λ f. page_of directory.now.entries (place table f.0) ≡ Some f.1)) }
+    ensures ordered { OnOk result (IsStrictlySortedBy place_cmp (keys_of directory.now.entries)) }
 {
     let start = start_of(alloc, table, &range.lo, after)?;
     let Some((place, page)) = first_from(directory, start) else {

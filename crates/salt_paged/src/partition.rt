@@ -11,9 +11,10 @@ ghost use Rattle.salt_eval.specs.Views.{next_row};
 ghost use Rattle.salt_gatelog.specs.Log.{IsBeforeOrWith};
 ghost use Rattle.salt_model.specs.Tables.{place, row_at};
 ghost use Rattle.salt_partition.specs.Partitions.{IsPreparedLast, MayPrepare, changes_in, prepared};
-ghost use Rattle.salt_paged.specs.Partitions.{IsPartition, StandsOnDevices, StandsFor, StandsWith, log_device, log_gate, number_of, page_count, pages_of, spells_nulls, unit_count};
+ghost use Rattle.salt_paged.specs.Partitions.{IsPartition, StandsOnDevices, StandsFor, StandsWith, log_device, log_gate, number_of, page_count, pages_of, places_of, spells_nulls, unit_count};
 ghost use Rattle.salt_stands.specs.Partition.{part_tables};
 ghost use Rattle.salt_stands.specs.Pieces.{PartView, with_prepared_unit};
+ghost use Rattle.salt_values.specs.Value.{key_of};
 ghost use Rattle.salt_values.specs.declared.id.Id.{Id};
 ghost use Rattle.std.specs.Option.{option_copied};
 ghost use Rattle.std.specs.Prelude.{Err, IfOk, IsTrue, List, OnOk, Some, [], length, option_map, slice_get, ℕ, ◌+◌, ◌++◌, ◌∷◌, ◌≡◌};
@@ -150,7 +151,8 @@ impl Partition {
     }
 
     /// The row of the least key in the range that is above `after`, where one is given; `None` exactly where there is none. It writes
-    /// nothing. A row that is not where it is kept is a fault, as for `get`.
+    /// nothing. A row that is not where it is kept is a fault, as for `get`. Whatever the disks tell, it has the next key of those that
+    /// are kept: so who asks for one row behind the other comes to an end.
     pub fn next_in<D: Disks>(
         &mut self,
         disks: &mut D,
@@ -161,6 +163,8 @@ impl Partition {
         requires { StandsOnDevices (D.view disks.old) self.old }
         ensures row { (p : ℕ) (v : PartView) (applied : List Id) → IsPartition (D.view disks.old) self.old p v applied → IsTrue (D.view disks.old).told
             → IfOk result (λ row. row ≡ next_row table range.now (option_copied after.entry) (part_tables applied v.log v.rows)) }
+        ensures key { IfOk result (λ row. option_map key_of row ≡ option_map key_of (next_row table range.now (option_copied after.entry) (places_of self.old))) }
+        ensures places { places_of self.new ≡ places_of self.old }
         ensures stands { (p : ℕ) (v : PartView) (applied : List Id) → IsPartition (D.view disks.old) self.old p v applied
             → UnlessDown (result_err result) (IsPartition (D.view disks.new) self.new p v applied) }
         ensures kept { KeepsAll (D.view disks.old) (D.view disks.new) (result_err result) }

@@ -15,8 +15,9 @@ use Rattle.salt_rows.proofs.Reading.{bytes_kept, can_frame, found_row_is, found_
 use Rattle.salt_rows.specs.Frames.{CanFrame, Frames, HasFramed}
 use Rattle.salt_rows.specs.Stores.{IsRowStore}
 use Rattle.salt_rows.specs.declared.store.RowStore.{RowStore}
+use Rattle.salt_values.specs.Value.{key_of}
 use Rattle.salt_values.specs.declared.value.Value.{Value}
-use Rattle.std.proofs.Common.{Err, IsTrue, List, None, Ok, OnErr, Option, Result, Some, false, get_or, inl, inr, length, nat_eq, subst, sym, ℕ, ◌<◌, ◌≡◌, ◌⊎◌}
+use Rattle.std.proofs.Common.{Err, IsTrue, List, None, Ok, OnErr, Option, Result, Some, ap, false, get_or, inl, inr, length, nat_eq, subst, sym, ℕ, ◌<◌, ◌≡◌, ◌⊎◌, ◌∙◌}
 use Rattle.std.specs.Map.{lookup}
 
 module _ (d : View) (x : RowStore) (dev : ℕ) (named : List ℕ) (t : Tables) (is : IsRowStore d x dev named t) where
@@ -54,6 +55,10 @@ module _ (d : View) (x : RowStore) (dev : ℕ) (named : List ℕ) (t : Tables) (
       -- where none is found, the disks do not tell
       pub none_behind : page_of x.directory.entries (place table key) ≡ Some page → IsRowFound table key rows None → d.told ≡ false
       none_behind placed none = not_told d.told (λ told. found_row_there d x dev named t is.is page low told table key rows (shown_rows d x dev named t is.is page low told rows (framed.shown told)) placed none)
+
+-- a row that is found has the key
+pub found_key : (table : ℕ) (key : Value) (rows : List TableRow) (row : List Value) → IsRowFound table key rows (Some row) → key_of row ≡ key
+found_key table key rows row found = ap key_of (sym found.4) ∙ found.3.1
 
 -- what holds whatever was answered
 pub always_err : {A E : Type 0} (r : Result A E) (P : Type 0) → P → OnErr r P

@@ -9,7 +9,7 @@ use Rattle.salt_pool.specs.Frames.{frame_count}
 use Rattle.salt_pool.specs.Pools as pools
 use Rattle.salt_pool.specs.Pools.{IsPool, codec_of, dirty_of, frame_of, frames_of, length_of}
 use Rattle.salt_pool.specs.declared.places.Dirty.{Dirty}
-use Rattle.salt_directory.specs.Directories.{HasPagesBelow}
+use Rattle.salt_directory.specs.Directories.{HasPagesBelow, places_in}
 use Rattle.salt_directory.specs.Pages.{AreRowsOf, free_on}
 use Rattle.salt_rows.specs.Sides.{ArePages, spare_side}
 use Rattle.salt_rows.specs.Frames.{Frames}
@@ -98,6 +98,10 @@ sides_of x = x.sides.items
 
 abbrev pub page_count : RowStore → ℕ
 page_count x = length x.sides.items
+
+-- the places of its rows, whatever the disks tell, as tables in which each row is its key alone
+abbrev pub places_of : RowStore → Tables
+places_of x = places_in x.directory.entries
 
 -- with a header that names these sides
 abbrev pub with_named : RowStore → List ℕ → RowStore

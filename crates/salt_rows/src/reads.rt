@@ -4,9 +4,10 @@ ghost use Rattle.salt_disk.specs.Disks.{HasCause, KeepsAll, OnlyFails, UnlessDow
 ghost use Rattle.salt_eval.specs.Views.{next_row};
 ghost use Rattle.salt_model.specs.Tables.{Tables, place, row_at};
 ghost use Rattle.salt_directory.specs.Pages.{page_of};
-ghost use Rattle.salt_rows.specs.Stores.{IsRowStore, StandsOnPages};
+ghost use Rattle.salt_rows.specs.Stores.{IsRowStore, StandsOnPages, places_of};
+ghost use Rattle.salt_values.specs.Value.{key_of};
 ghost use Rattle.std.specs.Option.{option_copied};
-ghost use Rattle.std.specs.Prelude.{IfOk, IsTrue, List, Some, ℕ, ◌≡◌};
+ghost use Rattle.std.specs.Prelude.{IfOk, IsTrue, List, Some, option_map, ℕ, ◌≡◌};
 ghost use Rattle.std.specs.Result.{result_err};
 
 use crate::frame::row_on;
@@ -32,6 +33,8 @@ impl RowStore {
         requires page { page_of self.old.directory.entries (place table key.now) ≡ Some page }
         ensures row { (dev : ℕ) (named : List ℕ) (t : Tables) → IsRowStore (D.view disks.old) self.old dev named t → IsTrue (D.view disks.old).told
             → IfOk result (λ row. Some row ≡ row_at (place table key.now) t) }
+        ensures key { IfOk result (λ row. key_of row ≡ key.now) }
+        ensures places { places_of self.new ≡ places_of self.old }
         ensures stands { (dev : ℕ) (named : List ℕ) (t : Tables) → IsRowStore (D.view disks.old) self.old dev named t
             → UnlessDown (result_err result) (IsRowStore (D.view disks.new) self.new dev named t) }
         ensures kept { KeepsAll (D.view disks.old) (D.view disks.new) (result_err result) }
@@ -75,7 +78,8 @@ impl RowStore {
     }
 
     /// The row of the least key in the range that is above `after`, where one is given; `None` exactly where there is none. It writes
-    /// nothing. Where memory runs out the store stands as before.
+    /// nothing. Where memory runs out the store stands as before. Whatever the disks tell, it has the next key of those that are kept: so
+    /// who asks for one row behind the other comes to an end.
     pub fn next_in<D: Disks>(
         &mut self,
         disks: &mut D,
@@ -86,6 +90,8 @@ impl RowStore {
         requires { StandsOnPages (D.view disks.old) self.old }
         ensures row { (dev : ℕ) (named : List ℕ) (t : Tables) → IsRowStore (D.view disks.old) self.old dev named t → IsTrue (D.view disks.old).told
             → IfOk result (λ row. row ≡ next_row table range.now (option_copied after.entry) t) }
+        ensures key { IfOk result (λ row. option_map key_of row ≡ option_map key_of (next_row table range.now (option_copied after.entry) (places_of self.old))) }
+        ensures places { places_of self.new ≡ places_of self.old }
         ensures stands { (dev : ℕ) (named : List ℕ) (t : Tables) → IsRowStore (D.view disks.old) self.old dev named t
             → UnlessDown (result_err result) (IsRowStore (D.view disks.new) self.new dev named t) }
         ensures kept { KeepsAll (D.view disks.old) (D.view disks.new) (result_err result) }

@@ -1,6 +1,6 @@
 use Rattle.salt_bytes.specs.Page.{TableRow}
 use Rattle.salt_directory.specs.Rows.{IsRowFound}
-use Rattle.salt_rows.proofs.Read.{frames_page, none_behind, page_within, row_behind, stands_behind}
+use Rattle.salt_rows.proofs.Read.{found_key, frames_page, none_behind, page_within, row_behind, stands_behind}
 use Rattle.salt_rows.proofs.store.RowStore.read.Goals as goal
 use Rattle.salt_rows.specs.Frames.{CanFrame, HasFramed}
 use Rattle.std.proofs.Common.{List, None, Some, get_or, inr, subst, sym, ◌≡◌, ◌⊎◌, ◌∙◌}
@@ -57,3 +57,8 @@ returns-in-Some-clause-stands g c = λ dev named t is.
     let f = c.in_ok-row.ensures.row in
     stands_behind d x dev named t is c.args.page low (g.D.Disks.view c.row_on.new.disks) None c.row_on.new.pool c.in_ok-row.ensures.kept
     (inr (f.0, subst (λ side. HasFramed d x.pool c.row_on.new.pool c.args.page side f.0 f.0) side f.1))
+
+pub returns-in-Some-clause-key : goal.returns-in-Some-clause-key
+returns-in-Some-clause-key g c =
+    let f = c.in_ok-row.ensures.row in
+    found_key c.args.table c.args.key.now f.0 c.in-Some.row (subst (IsRowFound c.args.table c.args.key.now f.0) c.in-Some.is f.2)
