@@ -1,14 +1,16 @@
 -- What layers above a partition rest on.
 use Rattle.salt_bytes.specs.Generations.{Counts, LogA, LogB, WhichLog}
+use Rattle.salt_bytes.specs.Partition.{Prepared}
 use Rattle.salt_disk.specs.Disks.{IsSettled, IsUnchanged, SameShape, View}
 use Rattle.salt_gatelog.proofs.Frame.{log_kept}
 use Rattle.salt_paged.proofs.Logged.{count_of_units}
 use Rattle.salt_paged.proofs.Paged.{store_kept}
 use Rattle.salt_paged.proofs.Standing.{settled_kept, told_kept}
 use Rattle.salt_partition.specs.Partitions.{IsPreparedLast, MayPrepare, prepared}
-use Rattle.salt_paged.specs.Partitions.{IsPartition, unit_count}
+use Rattle.salt_paged.specs.Partitions.{IsPartition, StandsUpTo, unit_count}
 use Rattle.salt_paged.specs.declared.partition.Partition.{Partition}
-use Rattle.salt_paged.specs.Openings.{fault_of, has_pages}
+use Rattle.salt_paged.specs.declared.redo.ReadPartition.{ReadPartition}
+use Rattle.salt_paged.specs.Openings.{IsReadAs, fault_of, has_pages}
 use Rattle.salt_stands.specs.Coordinator.{Coordinator, device_of}
 use Rattle.salt_stands.specs.OpenedPart.{is_known_log}
 use Rattle.salt_stands.specs.Partition.{are_distinct, are_sound_rows, is_sound_change, is_sound_log, pages_device, part_device}
@@ -23,7 +25,7 @@ use Rattle.salt_values.specs.declared.change.Change.{Change}
 use Rattle.salt_values.specs.declared.id.Id.{Id}
 use Rattle.std.specs.List.{list_all}
 use Rattle.std.specs.Prelude.{if◌then◌else◌, map, ◌&&◌}
-use Rattle.std.proofs.Common.{Bool, IsTrue, List, None, Some, ap, arith, false, length, refl, subst, sym, true, ℕ, ◌+◌, ◌≡◌, ◌∙◌}
+use Rattle.std.proofs.Common.{Bool, IsTrue, List, None, Some, [], ap, arith, false, length, refl, subst, sym, true, ℕ, ◌+◌, ◌≡◌, ◌∙◌}
 
 -- what holds of both logs holds of each
 at_log : (P : ℕ → Type 0) (a : ℕ) (which : WhichLog) → P a → P (a + 1) → P (device_of a which)
@@ -35,10 +37,10 @@ both_logs : (P : ℕ → Type 0) (a : ℕ) (which : WhichLog) → P (device_of a
 both_logs P a LogA this other = (this, other)
 both_logs P a LogB this other = (other, this)
 
--- a partition is as it was where its devices are
-pub partition_kept : (d e : View) (x : Partition) (p : ℕ) (v : PartView) (applied : List Id) → SameShape d e → IsUnchanged d e (part_device p) → IsUnchanged d e (part_device p + 1) → IsUnchanged d e (pages_device p)
-    → IsPartition d x p v applied → IsPartition e x p v applied
-partition_kept d e x p v applied shape first second pages is =
+-- it stands as it did where its devices are as they were
+pub stands_kept : (d e : View) (x : Partition) (p : ℕ) (v : PartView) (applied : List Id) (done : List Prepared) → SameShape d e → IsUnchanged d e (part_device p) → IsUnchanged d e (part_device p + 1) → IsUnchanged d e (pages_device p)
+    → StandsUpTo d x p v applied done → StandsUpTo e x p v applied done
+stands_kept d e x p v applied done shape first second pages is =
     let a = part_device p in
     let kept = λ (which : WhichLog). at_log (IsUnchanged d e) a which first second in
     record {
@@ -57,6 +59,19 @@ partition_kept d e x p v applied shape first second pages is =
       keyed = is.keyed;
       told = λ now. told_kept d e p v is.entries first.bytes second.bytes pages (is.told (sym shape.told ∙ now));
     }
+
+-- with all of its units done
+pub partition_kept : (d e : View) (x : Partition) (p : ℕ) (v : PartView) (applied : List Id) → SameShape d e → IsUnchanged d e (part_device p) → IsUnchanged d e (part_device p + 1) → IsUnchanged d e (pages_device p)
+    → IsPartition d x p v applied → IsPartition e x p v applied
+partition_kept d e x p v applied = stands_kept d e x p v applied v.log.prepared
+
+-- with none of them
+pub read_kept : (d e : View) (x : ReadPartition) (p : ℕ) (v : PartView) → SameShape d e → IsUnchanged d e (part_device p) → IsUnchanged d e (part_device p + 1) → IsUnchanged d e (pages_device p) → IsReadAs d x p v → IsReadAs e x p v
+read_kept d e x p v shape first second pages is = record {
+  is = λ applied. stands_kept d e x.partition p v applied [] shape first second pages (is.is applied);
+  units = is.units;
+  sides = is.sides;
+}
 
 -- nothing is pending on its logs
 pub logs_settled : (d : View) (x : Partition) (p : ℕ) (v : PartView) (applied : List Id) → IsPartition d x p v applied → IsSettled d (part_device p) × IsSettled d (part_device p + 1)

@@ -8,7 +8,7 @@ use Rattle.salt_checkpoint.proofs.Torn.{keeps_more, named_refl}
 use Rattle.salt_checkpoint.specs.Checkpoints.{NamedSettled}
 use Rattle.salt_checkpoint.specs.Sides.{KeepsNamed}
 use Rattle.salt_codec.specs.Entries.{header_of}
-use Rattle.salt_directory.specs.Listing.{AreNoPages}
+use Rattle.salt_directory.specs.Listing.{AreNoPages, AreSound, AreUnsound}
 use Rattle.salt_disk.proofs.CallAfterCall.{keeps_on, keeps_wider}
 use Rattle.salt_disk.specs.Disks.{IsSettled, IsUnchanged, KeepsAll, KeepsOthers, SameShape, View}
 use Rattle.salt_disk.specs.declared.disks.DiskErr.{DiskErr}
@@ -22,7 +22,7 @@ use Rattle.salt_model.specs.Tables.{no_rows, with_changes}
 use Rattle.salt_paged.proofs.Keyed.{pages_keyed}
 use Rattle.salt_paged.proofs.Paged.{settled_named_kept, store_as, store_untold, true_is_not_false}
 use Rattle.salt_paged.proofs.Standing.{settled_kept}
-use Rattle.salt_paged.specs.Openings.{CountsWith, HasPages, IsFound, IsLogWhy, IsPagesWhy, IsWhy, OpensAs, ReadsAs, SettlesNamed, fault_of, found_log, found_pages, found_which, has_pages, log_fault, stand_apart}
+use Rattle.salt_paged.specs.Openings.{CountsWith, HasPages, IsFound, IsLogWhy, IsPagesWhy, IsWhy, OpensAs, ReadsAs, SettlesNamed, fault_of, found_log, found_pages, found_which, has_pages, has_sound_pages, log_fault, stand_apart, stand_soundly}
 use Rattle.salt_paged.specs.Partitions.{IsPartition, IsTold, StandsUpTo, pages_of}
 use Rattle.salt_paged.specs.declared.found.FoundLog.{FoundLog}
 use Rattle.salt_paged.specs.declared.partition.Partition.{Partition}
@@ -47,8 +47,9 @@ use Rattle.salt_stands.specs.Stands.{logs_of}
 use Rattle.salt_stands.specs.Tables.{change_of_row}
 use Rattle.salt_values.specs.declared.change.Change.{Change}
 use Rattle.salt_values.specs.declared.id.Id.{Id}
-use Rattle.std.proofs.Common.{Bool, IsTrue, List, None, Option, Some, [], ap, arith, false, inl, inr, refl, subst, sym, true, ℕ, ◌+◌, ◌++◌, ◌<◌, ◌≡◌, ◌∙◌}
+use Rattle.std.proofs.Common.{Bool, IsTrue, List, None, Option, Some, [], ap, arith, false, inl, inr, refl, subst, sym, true, ℕ, ◌&&◌, ◌+◌, ◌++◌, ◌<◌, ◌≡◌, ◌∙◌, ◌∷◌}
 use Rattle.std.proofs.lemmas.List.{append-nil}
+use Rattle.std.specs.List.{list_all}
 use Rattle.std.specs.Prelude.{if◌then◌else◌, map}
 
 pub one_log : (w z : WhichLog) (a b : PartitionLog) → Counts w a ≡ Counts z b → a ≡ b
@@ -106,18 +107,44 @@ opened_pages d e p dev log nulls sides rows at read names opened own = record {
   sides = own ∙ names;
 }
 
-no_pages : (log : PartitionLog) (bytes : List ℕ) → AreNoPages (has_nulls log.header.format) bytes log.header.sides → has_pages log bytes ≡ false
-no_pages log bytes (inl none) = ap stand_apart none
-no_pages log bytes (inr twins) = ap stand_apart twins.1 ∙ twins.2
+-- THEY ARE SOUND, or not
 
-pub pages_why : (bytes : ℕ → List ℕ) (x : FoundLog) (dev : ℕ) (nulls : Bool) (sides : List ℕ) → dev ≡ pages_device x.part → nulls ≡ has_nulls (found_log x).header.format → sides ≡ (found_log x).header.sides
-    → AreNoPages nulls (bytes dev) sides → IsPagesWhy bytes x (NotSalt dev)
-pages_why bytes x dev nulls sides at read names none = (
-  at,
-  no_pages (found_log x) (bytes (found_pages x))
-      (subst (λ (k : ℕ). AreNoPages (has_nulls (found_log x).header.format) (bytes k) (found_log x).header.sides) at
-      (subst (λ (s : List ℕ). AreNoPages (has_nulls (found_log x).header.format) (bytes dev) s) names (subst (λ (b : Bool). AreNoPages b (bytes dev) sides) read none))),
-)
+and_false : (b : Bool) → (b && false) ≡ false
+and_false true = refl
+and_false false = refl
+
+no_pages : (sound : TableRow → Bool) (nulls : Bool) (bytes sides : List ℕ) → AreNoPages nulls bytes sides → stand_soundly sound (rows_from nulls bytes 0 sides) ≡ false
+no_pages sound nulls bytes sides (inl none) = ap (stand_soundly sound) none
+no_pages sound nulls bytes sides (inr twins) = ap (stand_soundly sound) twins.1 ∙ ap (λ b. list_all sound twins.0 && b) twins.2 ∙ and_false (list_all sound twins.0)
+
+unsound_pages : (sound : TableRow → Bool) (nulls : Bool) (bytes sides : List ℕ) → AreUnsound sound nulls bytes sides → stand_soundly sound (rows_from nulls bytes 0 sides) ≡ false
+unsound_pages sound nulls bytes sides (inl none) = ap (stand_soundly sound) none
+unsound_pages sound nulls bytes sides (inr one) = ap (stand_soundly sound) one.1 ∙ ap (λ b. b && are_distinct (map change_of_row one.0)) one.2
+
+sound_pages : (sound : TableRow → Bool) (nulls : Bool) (bytes sides : List ℕ) (t : Tables) → HaveRows nulls bytes sides t → AreSound sound nulls bytes sides → stand_soundly sound (rows_from nulls bytes 0 sides) ≡ true
+sound_pages sound nulls bytes sides t have all = ap (stand_soundly sound) have.read ∙ (λ i. all have.rows have.read i && have.apart i)
+
+module _ (sound : TableRow → Bool) (bytes : ℕ → List ℕ) (x : FoundLog) (dev : ℕ) (nulls : Bool) (sides : List ℕ) (at : dev ≡ pages_device x.part) (read : nulls ≡ has_nulls (found_log x).header.format) (names : sides ≡ (found_log x).header.sides) where
+  of_found : (b : Bool) → stand_soundly sound (rows_from nulls (bytes dev) 0 sides) ≡ b → has_sound_pages sound (found_log x) (bytes (found_pages x)) ≡ b
+  of_found b is = (λ i. stand_soundly sound (rows_from (sym read i) (bytes (sym at i)) 0 (sym names i))) ∙ is
+
+  pub pages_why : AreNoPages nulls (bytes dev) sides → IsPagesWhy sound bytes x (NotSalt dev)
+  pages_why none = (at, of_found false (no_pages sound nulls (bytes dev) sides none))
+
+  pub rows_why : AreUnsound sound nulls (bytes dev) sides → IsPagesWhy sound bytes x (NotSalt dev)
+  rows_why unsound = (at, of_found false (unsound_pages sound nulls (bytes dev) sides unsound))
+
+  pub rows_judged : (t : Tables) → HaveRows nulls (bytes dev) sides t → AreSound sound nulls (bytes dev) sides → has_sound_pages sound (found_log x) (bytes (found_pages x)) ≡ true
+  rows_judged t have all = of_found true (sound_pages sound nulls (bytes dev) sides t have all)
+
+-- where every row is sound, pages are at fault by themselves
+any_sound : (rows : List TableRow) → list_all (λ (r : TableRow). true) rows ≡ true
+any_sound [] = refl
+any_sound (r ∷ rows) = any_sound rows
+
+any_row : (o : Option (List TableRow)) → stand_soundly (λ (r : TableRow). true) o ≡ stand_apart o
+any_row None = refl
+any_row (Some rows) = ap (λ b. b && are_distinct (map change_of_row rows)) (any_sound rows)
 
 module _ (d e : View) (found : FoundLog) (x : ReadPartition) (p : ℕ) (keeps : KeepsAll d e None) (h : IsFound d found p) (pages : HasPages d e p (found_log found) x.partition.rows)
     (settled : IsTrue d.told → NamedSettled (found_log found).header.sides d (found_pages found))
@@ -221,10 +248,10 @@ pub found_why : (bytes : ℕ → List ℕ) (boot : ℕ) (decided : List Id) (p :
 found_why bytes boot decided p (NotSalt dev) is = log_then_part boot decided p (bytes (pages_device p)) (part_pair p (logs_of bytes)) dev is
 found_why bytes boot decided p (Disk e) is = tt
 
-pub read_why : (d e : View) (boot : ℕ) (decided : List Id) (p : ℕ) (x : FoundLog) (error : PairErr) → KeepsAll d e None → IsFound e x p → is_known_log boot decided (found_log x) ≡ true → IsTrue d.told → IsPagesWhy e.bytes x error → IsWhy d.bytes boot decided p error
+pub read_why : (d e : View) (boot : ℕ) (decided : List Id) (p : ℕ) (x : FoundLog) (error : PairErr) → KeepsAll d e None → IsFound e x p → is_known_log boot decided (found_log x) ≡ true → IsTrue d.told → IsPagesWhy (λ (r : TableRow). true) e.bytes x error → IsWhy d.bytes boot decided p error
 read_why d e boot decided p x (NotSalt dev) keeps h known told why =
     let at : dev ≡ pages_device p = why.0 ∙ ap pages_device h.part in
-    let has : has_pages (found_log x) (d.bytes (pages_device p)) ≡ false = ap (has_pages (found_log x)) (sym (unchanged d e keeps (pages_device p)).bytes) ∙ subst (λ (k : ℕ). has_pages (found_log x) (e.bytes (pages_device k)) ≡ false) h.part why.1 in
+    let has : has_pages (found_log x) (d.bytes (pages_device p)) ≡ false = ap (has_pages (found_log x)) (sym (unchanged d e keeps (pages_device p)).bytes) ∙ subst (λ (k : ℕ). has_pages (found_log x) (e.bytes (pages_device k)) ≡ false) h.part (sym (any_row (rows_from (has_nulls (found_log x).header.format) (e.bytes (found_pages x)) 0 (found_log x).header.sides)) ∙ why.1) in
     let counts : part_pair p (logs_of d.bytes) ≡ Counts (found_which x) (found_log x) = sym (pair_kept d e p keeps) ∙ h.counts (keeps.shape.told ∙ told) in
     ap (fault_of boot decided p (d.bytes (pages_device p))) counts ∙ rw (known, has) (ap Some (sym at))
 read_why d e boot decided p x (Disk error) keeps h known told why = tt
@@ -314,10 +341,17 @@ empty_opened d e rows p dev sides shape at none opened =
     (λ told. no_tables true (d.bytes dev) t (subst (λ (s : List ℕ). HaveRows true (d.bytes dev) s t) none (opened.2 (sym shape.told ∙ told))))
     (subst (λ (k : ℕ). IsRowStore e rows k [] t) at (subst (λ (s : List ℕ). IsRowStore e rows dev s t) none opened.1))
 
--- and none of its pages can be at fault
+-- and neither its pages nor its rows can be at fault
 pub no_fault_there : (nulls : Bool) (bytes sides : List ℕ) → sides ≡ [] → AreNoPages nulls bytes sides → ⊥
 no_fault_there nulls bytes sides none at = by (subst (AreNoPages nulls bytes) none at)
   where
     by : AreNoPages nulls bytes [] → ⊥
     by (inl e) = cc
     by (inr twins) = true_is_not_false (subst (λ (rows : List TableRow). true ≡ are_distinct (map change_of_row rows)) (one_list [] twins.0 twins.1) refl ∙ twins.2)
+
+pub no_row_there : (sound : TableRow → Bool) (nulls : Bool) (bytes sides : List ℕ) → sides ≡ [] → AreUnsound sound nulls bytes sides → ⊥
+no_row_there sound nulls bytes sides none at = by (subst (AreUnsound sound nulls bytes) none at)
+  where
+    by : AreUnsound sound nulls bytes [] → ⊥
+    by (inl e) = cc
+    by (inr one) = true_is_not_false (subst (λ (rows : List TableRow). true ≡ list_all sound rows) (one_list [] one.0 one.1) refl ∙ one.2)

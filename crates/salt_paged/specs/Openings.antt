@@ -30,7 +30,8 @@ use Rattle.salt_stands.specs.Stands.{logs_of}
 use Rattle.salt_stands.specs.Tables.{change_of_row}
 use Rattle.salt_values.specs.Id.{has_id}
 use Rattle.salt_values.specs.declared.id.Id.{Id}
-use Rattle.std.specs.Prelude.{Bool, IsTrue, List, None, Option, Some, [], false, if◌then◌else◌, length, map, max, ℕ, ⊤, ◌+◌, ◌/◌, ◌<◌, ◌≡◌, ◌∷◌}
+use Rattle.std.specs.List.{list_all}
+use Rattle.std.specs.Prelude.{Bool, IsTrue, List, None, Option, Some, [], false, if◌then◌else◌, length, map, max, ℕ, ⊤, ◌&&◌, ◌+◌, ◌/◌, ◌<◌, ◌≡◌, ◌∷◌}
 
 -- FAULTS
 
@@ -41,6 +42,14 @@ stand_apart (Some rows) = are_distinct (map change_of_row rows)
 -- the sides that the log's header names spell pages, and no two rows on them stand at one place
 abbrev pub has_pages : PartitionLog → List ℕ → Bool
 has_pages log pages = stand_apart (rows_from (has_nulls log.header.format) pages 0 log.header.sides)
+
+-- the same, and each of these rows is sound
+abbrev pub stand_soundly : (TableRow → Bool) → Option (List TableRow) → Bool
+stand_soundly sound None = false
+stand_soundly sound (Some rows) = list_all sound rows && are_distinct (map change_of_row rows)
+
+abbrev pub has_sound_pages : (TableRow → Bool) → PartitionLog → List ℕ → Bool
+has_sound_pages sound log pages = stand_soundly sound (rows_from (has_nulls log.header.format) pages 0 log.header.sides)
 
 -- the device that a fault of a partition's log counts against, if it has one: of its pair, or of a log that the coordinator's boot and
 -- decisions can't have
@@ -98,10 +107,10 @@ pub record WasFound (d : View) (x : FoundLog) : Type 0 where
   pub p : ℕ
   pub is : IsFound d x p
 
--- NotSalt of the pages device exactly where these bytes have no pages for it
-abbrev pub IsPagesWhy : (bytes : ℕ → List ℕ) → FoundLog → PairErr → Type 0
-IsPagesWhy bytes x (NotSalt dev) = (dev ≡ found_pages x) × (has_pages (found_log x) (bytes (found_pages x)) ≡ false)
-IsPagesWhy bytes x (Disk e) = OnlyFails (Some e)
+-- NotSalt of the pages device exactly where these bytes have no pages for it, with sound rows
+abbrev pub IsPagesWhy : (TableRow → Bool) → (bytes : ℕ → List ℕ) → FoundLog → PairErr → Type 0
+IsPagesWhy sound bytes x (NotSalt dev) = (dev ≡ found_pages x) × (has_sound_pages sound (found_log x) (bytes (found_pages x)) ≡ false)
+IsPagesWhy sound bytes x (Disk e) = OnlyFails (Some e)
 
 -- a store that was opened on the pages that a log names: it has their rows, where the disks tell
 pub record HasPages (old new : View) (p : ℕ) (log : PartitionLog) (rows : RowStore) : Type 0 where

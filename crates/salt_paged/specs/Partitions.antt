@@ -24,7 +24,7 @@ use Rattle.salt_stands.specs.Stands.{logs_of}
 use Rattle.salt_stands.specs.Tables.{change_of_row}
 use Rattle.salt_values.specs.declared.change.Change.{Change}
 use Rattle.salt_values.specs.declared.id.Id.{Id}
-use Rattle.std.specs.Prelude.{Bool, IsTrue, List, Some, length, map, true, ℕ, ◌++◌, ◌-◌, ◌<◌, ◌≡◌}
+use Rattle.std.specs.Prelude.{Bool, IfSome, IsTrue, List, Some, length, map, slice_get, true, ℕ, ◌++◌, ◌-◌, ◌<◌, ◌≡◌}
 
 -- its number
 abbrev pub number_of : Partition → ℕ
@@ -114,6 +114,10 @@ pub record StandsOnDevices (d : View) (x : Partition) : Type 0 where
   pub v : PartView
   pub applied : List Id
   pub is : IsPartition d x p v applied
+
+-- each is the partition of its place, and these units are applied in it
+pub record ArePartitions (d : View) (parts : List Partition) (v : ℕ → PartView) (applied : ℕ → List Id) : Type 0 where
+  pub each : (p : ℕ) → IfSome (slice_get parts p) (λ x. IsPartition d x p (v p) (applied p))
 
 -- CHECKPOINTS
 

@@ -18,6 +18,7 @@ ghost use Rattle.std.specs.Result.{result_err};
 
 use crate::partition::Partition;
 use salt_codec::{Header, spell_header};
+use salt_directory::AnyRow;
 use salt_disk::{DiskErr, Disks};
 use salt_gatelog::{GateLog, create, rejected};
 use salt_partition::{Side, log_a, pages_of};
@@ -45,10 +46,11 @@ fn empty_store<D: Disks>(alloc: Global, disks: &mut D, part: u8) -> Result<RowSt
     ensures cause { HasCause (D.view disks.old) (D.view disks.new) (result_err result) }
     ensures answers { OnlyFails (result_err result) }
 {
-    match open_rows(alloc, disks, pages_of(part), true, &[]) {
+    match open_rows(alloc, disks, pages_of(part), true, &[], &AnyRow) {
         Ok(rows) => Ok(rows),
-        // no side is named, so only disks that do not tell can give one that spells no page
+        // no side is named, so only disks that do not tell can give one that spells no page, or a row
         Err(RowsErr::NotPage) => Err(rejected(disks)),
+        Err(RowsErr::NotRow) => Err(rejected(disks)),
         Err(RowsErr::Disk(e)) => Err(e),
     }
 }

@@ -3,15 +3,16 @@
 ghost use Rattle.salt_checkpoint.specs.Checkpoints.{NamedSettled};
 ghost use Rattle.salt_disk.specs.Disks.{HasCause, IsSettled, KeepsAll, OnlyFails};
 ghost use Rattle.salt_gatelog.specs.Pair.{pair_err};
-ghost use Rattle.salt_paged.specs.Openings.{HasPages, IsFound, IsLogWhy, IsPagesWhy, ReadsAs, WasFound, found_log, found_device, found_pages};
+ghost use Rattle.salt_paged.specs.Openings.{HasPages, IsFound, IsLogWhy, IsPagesWhy, ReadsAs, WasFound, found_log, found_device, found_pages, has_sound_pages};
 ghost use Rattle.salt_partition.specs.Contents.{units_of};
 ghost use Rattle.salt_stands.specs.OpenedPart.{is_known_log};
 ghost use Rattle.salt_stands.specs.Partition.{pages_device, part_device};
-ghost use Rattle.std.specs.Prelude.{IfErr, IfOk, IsTrue, true, ℕ, ◌+◌, ◌<◌, ◌≡◌};
+ghost use Rattle.std.specs.Prelude.{IfErr, IfOk, IsTrue, OnOk, true, ℕ, ◌+◌, ◌<◌, ◌≡◌};
 
 use crate::partition::Partition;
 use crate::redo::ReadPartition;
 use salt_codec::{PreparedUnit, has_nulls};
+use salt_directory::RowJudge;
 use salt_disk::{DiskErr, Disks};
 use salt_gatelog::PairErr;
 use salt_partition::{ReadLog, Side, chosen_log, is_known_log, log_of, pages_of};
@@ -84,11 +85,13 @@ impl FoundLog {
     }
 
     /// The rows on the pages that it names, for whose places no memory is found from 2^32 pages on. `NotSalt` exactly where a side that
-    /// is named spells no page, or two rows stand at one place.
-    fn rows<D: Disks>(&self, disks: &mut D) -> Result<RowStore, PairErr>
-        requires { WasFound (D.view disks.old) self.now }
+    /// is named spells no page, a row is not sound, or two rows stand at one place.
+    fn rows<D: Disks, J: RowJudge>(&self, disks: &mut D, judge: &J) -> Result<RowStore, PairErr>
+        requires found { WasFound (D.view disks.old) self.now }
+        requires judge { J.can_judge judge.now }
         ensures rows { (p : ℕ) → IsFound (D.view disks.old) self.now p → IfOk result (HasPages (D.view disks.old) (D.view disks.new) p (found_log self.now)) }
-        ensures why { IsTrue (D.view disks.old).told → IfErr result (IsPagesWhy (D.view disks.old).bytes self.now) }
+        ensures judged { OnOk result (IsTrue (D.view disks.old).told → has_sound_pages (J.sound judge.now) (found_log self.now) ((D.view disks.old).bytes (found_pages self.now)) ≡ true) }
+        ensures why { IsTrue (D.view disks.old).told → IfErr result (IsPagesWhy (J.sound judge.now) (D.view disks.old).bytes self.now) }
         ensures kept { KeepsAll (D.view disks.old) (D.view disks.new) (pair_err result) }
         ensures cause { HasCause (D.view disks.old) (D.view disks.new) (pair_err result) }
         ensures answers { OnlyFails (pair_err result) }
@@ -99,26 +102,40 @@ impl FoundLog {
             return Err(PairErr::Disk(DiskErr::Memory));
         }
         let pages = pages_of(self.part);
-        match open_rows(self.alloc, disks, pages, has_nulls(header.format), sides) {
+        match open_rows(
+            self.alloc,
+            disks,
+            pages,
+            has_nulls(header.format),
+            sides,
+            judge,
+        ) {
             Ok(rows) => Ok(rows),
             Err(RowsErr::NotPage) => Err(PairErr::NotSalt(pages)),
+            Err(RowsErr::NotRow) => Err(PairErr::NotSalt(pages)),
             Err(RowsErr::Disk(e)) => Err(PairErr::Disk(e)),
         }
     }
 
-    /// Reads the pages that it names, on which nothing is pending. It writes nothing, and no unit is applied: so a partition that is
-    /// read after it may still be refused. `NotSalt` exactly of the pages device, where a side that is named spells no page, or two
-    /// rows stand at one place. Whether the rows fit the tables is for the layer above to judge.
-    pub fn read_pages<D: Disks>(self, disks: &mut D) -> Result<ReadPartition, PairErr>
+    /// Reads the pages that it names, on which nothing is pending, and asks the judge of each row. It writes nothing, and no unit is
+    /// applied: so a partition that is read after it may still be refused. `NotSalt` exactly of the pages device, where a side that is
+    /// named spells no page, a row is not sound, or two rows stand at one place.
+    pub fn read_pages<D: Disks, J: RowJudge>(
+        self,
+        disks: &mut D,
+        judge: &J,
+    ) -> Result<ReadPartition, PairErr>
         requires found { WasFound (D.view disks.old) self }
         requires named { IsTrue (D.view disks.old).told → NamedSettled (found_log self).header.sides (D.view disks.old) (found_pages self) }
+        requires judge { J.can_judge judge.now }
         ensures reads { (p : ℕ) → IsFound (D.view disks.old) self p → IfOk result (λ x. ReadsAs (D.view disks.new) x p self) }
-        ensures why { IsTrue (D.view disks.old).told → IfErr result (IsPagesWhy (D.view disks.old).bytes self) }
+        ensures judged { OnOk result (IsTrue (D.view disks.old).told → has_sound_pages (J.sound judge.now) (found_log self) ((D.view disks.old).bytes (found_pages self)) ≡ true) }
+        ensures why { IsTrue (D.view disks.old).told → IfErr result (IsPagesWhy (J.sound judge.now) (D.view disks.old).bytes self) }
         ensures kept { KeepsAll (D.view disks.old) (D.view disks.new) (pair_err result) }
         ensures cause { HasCause (D.view disks.old) (D.view disks.new) (pair_err result) }
         ensures answers { OnlyFails (pair_err result) }
     {
-        let rows = self.rows(disks)?;
+        let rows = self.rows(disks, judge)?;
         let FoundLog {
             alloc,
             part,

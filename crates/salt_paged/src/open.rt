@@ -10,6 +10,7 @@ ghost use Rattle.std.specs.Prelude.{IfErr, IfOk, IsTrue, ◌+◌, ◌<◌, ◌�
 
 use crate::found::find_log;
 use crate::partition::Partition;
+use salt_directory::AnyRow;
 use salt_disk::Disks;
 use salt_gatelog::PairErr;
 use salt_values::Ids;
@@ -35,7 +36,7 @@ pub fn open_partition<D: Disks>(
     ensures cause { HasCause (D.view disks.old) (D.view disks.new) (pair_err result) }
 {
     let found = find_log(alloc, disks, part, boot, decided)?;
-    let read = found.read_pages(disks)?;
+    let read = found.read_pages(disks, &AnyRow)?;
     match read.redo(disks, decided) {
         Ok(partition) => Ok(partition),
         Err(e) => Err(PairErr::Disk(e)),
