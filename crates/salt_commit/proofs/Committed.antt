@@ -8,7 +8,7 @@ use Rattle.salt_commit.proofs.Decided.{applied_now, decision_images, shares_last
 use Rattle.salt_commit.proofs.Shared.{length-listed, mask_small}
 use Rattle.salt_commit.proofs.Pageless.{prepared_unnamed}
 use Rattle.salt_commit.proofs.Standing.{apart_from_part, if_some, partitions_stay}
-use Rattle.salt_commit.proofs.Undecided.{IsInHand, before_decision, decisions_kept, may_prepare}
+use Rattle.salt_commit.proofs.Undecided.{IsInHand, before_decision, may_prepare}
 use Rattle.salt_commit.specs.Again.{decided_in}
 use Rattle.salt_commit.specs.Commits.{IsCommitLog, MayCommitUnit, shares_in}
 use Rattle.salt_commit.specs.Openings.{NamesPages}
@@ -19,6 +19,7 @@ use Rattle.salt_commit.specs.Telling.{IsBehind, MayTell}
 use Rattle.salt_commit.specs.Voting.{MayVote, MayVoteAs}
 use Rattle.salt_commit.specs.declared.store.Store.{Store}
 use Rattle.salt_decisions.proofs.Appended.{spelled_so}
+use Rattle.salt_decisions.proofs.Framed.{decisions_kept}
 use Rattle.salt_decisions.specs.Decisions as decisions
 use Rattle.salt_decisions.specs.Decisions.{IsBeforeOrWith, IsDecisions, decided, device_in}
 use Rattle.salt_decisions.specs.declared.decisions.Decisions.{Decisions}

@@ -6,13 +6,14 @@ use Rattle.salt_bytes.specs.Partition.{spell_prepared}
 use Rattle.salt_bytes.specs.declared.moves.Move.{Move}
 use Rattle.salt_commit.proofs.Shared.{mask_bit, share_is}
 use Rattle.salt_commit.proofs.Standing.{apart_from_part, each_image, if_some, make_some, pages_same, part_at, pushed, pushed_here, pushed_there, sound_with, stood}
-use Rattle.salt_commit.proofs.Undecided.{IsInHand, decision_reads, decisions_kept, may_commit, share_reads, sound_of, spelled}
+use Rattle.salt_commit.proofs.Undecided.{IsInHand, decision_reads, may_commit, share_reads, sound_of, spelled}
 use Rattle.salt_commit.specs.Commits.{MayCommitUnit}
 use Rattle.salt_commit.specs.Prepares.{AreSharesLast, IsLogOfShares, MayPrepareEach, applied_with_shares, with_shares}
 use Rattle.salt_commit.specs.Shares.{applied_with, has_changes, next_decision, share_at, shares_of, with_share}
 use Rattle.salt_commit.specs.Stores.{ArePartitions, IsSound, IsStore, StandForEither, decided_by}
 use Rattle.salt_commit.specs.declared.store.Store.{Store}
 use Rattle.salt_decisions.proofs.Contents.{log_bytes}
+use Rattle.salt_decisions.proofs.Framed.{decisions_kept}
 use Rattle.salt_decisions.specs.Decisions.{IsBeforeOrWith, IsDecisions, device_in}
 use Rattle.salt_disk.specs.Disks.{EachImage, IsUnchanged, KeepsBut, KeepsOthers, View}
 use Rattle.salt_disk.specs.declared.disks.DiskErr.{DiskErr}

@@ -5,12 +5,12 @@ use Rattle.salt_commit.proofs.Fit.{also, is_row_at}
 use Rattle.salt_commit.proofs.Keyed.{store_keyed}
 use Rattle.salt_commit.proofs.Shown.{store_shown}
 use Rattle.salt_commit.proofs.Standing.{partitions_kept}
-use Rattle.salt_commit.proofs.Undecided.{decisions_kept}
 use Rattle.salt_commit.specs.Loads.{IsPartOf, IsRowAt, shown_in_all}
 use Rattle.salt_commit.specs.Messages.{messages_of}
 use Rattle.salt_commit.specs.Reads.{StandsInPlace}
 use Rattle.salt_commit.specs.Stores.{IsStore, decided_by, numbers_in, reading, rows_of_store}
 use Rattle.salt_commit.specs.declared.store.Store.{Store}
+use Rattle.salt_decisions.proofs.Framed.{decisions_kept}
 use Rattle.salt_disk.proofs.CallAfterCall.{cause_on, cause_none, keeps_on, same_shape}
 use Rattle.salt_disk.specs.Disks.{HasCause, IsUnchanged, KeepsAll, SameShape, UnlessDown, View}
 use Rattle.salt_disk.specs.declared.disks.DiskErr.TheVariants.{Failed, Full, Memory, Stopped}

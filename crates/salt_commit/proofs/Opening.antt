@@ -5,9 +5,9 @@ use Rattle.salt_commit.proofs.Making.{settled_on}
 use Rattle.salt_commit.proofs.Opened.{same_bytes}
 use Rattle.salt_commit.proofs.Pageless.{no_names}
 use Rattle.salt_commit.proofs.Standing as standing
-use Rattle.salt_commit.proofs.Undecided.{decisions_kept}
 use Rattle.salt_commit.specs.Openings.{HasRoom, HasTables, IsFirstFault, IsPartFault, IsSchemaOf, IsSchemaWhere, LeavesPages, OpeningFails, OpensAll, OpensStore, PartsRefuse}
 use Rattle.salt_model.specs.Words.{and_then}
+use Rattle.salt_decisions.proofs.Framed.{decisions_kept}
 use Rattle.salt_stands.specs.LogDevices.{IsCoordinatorLog, IsStoreLog}
 use Rattle.salt_commit.specs.Stores.{decided_by, reading}
 use Rattle.salt_commit.specs.declared.store.Store.{Store}

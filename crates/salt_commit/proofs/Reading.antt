@@ -2,9 +2,9 @@
 use Rattle.salt_bytes.specs.Generations.{WhichLog}
 use Rattle.salt_commit.proofs.Lists.{map_set, set_other, set_same}
 use Rattle.salt_commit.proofs.Standing.{if_some, make_some, stood}
-use Rattle.salt_commit.proofs.Undecided.{decisions_kept}
 use Rattle.salt_commit.specs.Stores.{ArePartitions, IsStore, decided_by}
 use Rattle.salt_commit.specs.declared.store.Store.{Store}
+use Rattle.salt_decisions.proofs.Framed.{decisions_kept}
 use Rattle.salt_disk.specs.Disks.{IsUnchanged, KeepsAll, UnlessDown, View}
 use Rattle.salt_disk.specs.declared.disks.DiskErr.TheVariants.{Failed, Full, Memory, Stopped}
 use Rattle.salt_disk.specs.declared.disks.DiskErr.{DiskErr}

@@ -6,9 +6,9 @@ use Rattle.salt_commit.proofs.Shared.{listed_push}
 use Rattle.salt_commit.proofs.Standing.{if_some, make_some, part_at}
 use Rattle.salt_commit.specs.Reads.{lesser_row, tables_of_all}
 use Rattle.salt_bytes.specs.Generations.{WhichLog}
-use Rattle.salt_commit.proofs.Undecided.{decisions_kept}
 use Rattle.salt_commit.specs.Stores.{ArePartitions, IsStore, decided_by}
 use Rattle.salt_commit.specs.declared.store.Store.{Store}
+use Rattle.salt_decisions.proofs.Framed.{decisions_kept}
 use Rattle.salt_decisions.specs.Decisions.{IsDecisions}
 use Rattle.salt_stands.specs.Coordinator.{Coordinator}
 use Rattle.salt_stands.specs.Reading.{Reading}

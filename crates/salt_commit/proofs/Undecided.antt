@@ -17,20 +17,16 @@ use Rattle.salt_commit.specs.Shares.{has_changes, next_decision, share_at, share
 use Rattle.salt_commit.specs.Stores.{IsStore, decided_by}
 use Rattle.salt_commit.specs.declared.store.Store.{Store}
 use Rattle.salt_decisions.specs.Decisions.{IsBeforeOrWith, IsDecisions}
-use Rattle.salt_decisions.specs.declared.decisions.Decisions.{Decisions}
-use Rattle.salt_disk.specs.Disks.{EachImage, IsImage, IsSettled, IsUnchanged, KeepsBut, SameShape, View}
+use Rattle.salt_disk.specs.Disks.{EachImage, IsImage, IsSettled, KeepsBut, View}
 use Rattle.salt_disk.specs.declared.disks.DiskErr.{DiskErr}
 use Rattle.salt_codec.proofs.Puttable.{read_again}
 use Rattle.salt_codec.specs.Entries.{IsTold}
-use Rattle.salt_gatelog.proofs.Frame.{log_kept}
 use Rattle.salt_partition.specs.Partitions.{IsPartition, MayPrepare, prepared}
 use Rattle.salt_partition.specs.declared.partition.Partition.{Partition}
 use Rattle.salt_stands.proofs.Booleans.{join}
 use Rattle.salt_stands.proofs.Commits.{undecided}
-use Rattle.salt_stands.proofs.Pairs.{pair_same}
 use Rattle.salt_stands.specs.Commits.{MayCommit, PartMore, PartSame, Spelled, found_of, partition_count, share}
 use Rattle.salt_stands.specs.Coordinator.{Coordinator, device_of}
-use Rattle.salt_stands.specs.CoordinatorLog.{CoordinatorLog, coordinator_generation, coordinator_in}
 use Rattle.salt_stands.specs.Partition.{is_sound_change, is_sound_prepared, part_device}
 use Rattle.salt_stands.specs.Pieces.{IsSameAt, PartView, other_log}
 use Rattle.salt_stands.specs.Placed.{AreOfParts, changes_at, is_of_part}
@@ -46,25 +42,6 @@ use Rattle.std.proofs.Common.{IsTrue, List, Ok, Option, Some, [], ap, arith, fal
 use Rattle.std.proofs.lemmas.Bool.Decides.{nat_tests}
 use Rattle.std.specs.List.{filter, list_all}
 use Rattle.std.specs.Prelude.{Bool, if◌then◌else◌, slice_get, nat_le}
-
--- the coordinator's log is as it was where its devices are
-pub decisions_kept : (d e : View) (x : Decisions) (which : WhichLog) (log : CoordinatorLog) → SameShape d e → IsUnchanged d e 0 → IsUnchanged d e 1 → IsDecisions d x which log → IsDecisions e x which log
-decisions_kept d e x which log shape first second is = record {
-  own = is.own;
-  holds = is.holds;
-  counting = record {
-    entries = is.counting.entries;
-    is_log = log_kept d e x.gate is.counting.entries shape (subst (IsUnchanged d e) (sym is.counting.device) (at which)) is.counting.is_log;
-    device = is.counting.device;
-    known = omega (arith, is.counting.known, shape.count);
-    other = λ c left. is.counting.other c ((at (other_log which)).images c left) ∙ sym (at (other_log which)).bytes;
-    counts = λ told. pair_same coordinator_generation coordinator_in 0 (logs_of d.bytes) (logs_of e.bytes) (ap entries_in first.bytes) (ap entries_in second.bytes) ∙ is.counting.counts (sym shape.told ∙ told);
-  };
-}
-  where
-    at : (w : WhichLog) → IsUnchanged d e (device_of 0 w)
-    at LogA = first
-    at LogB = second
 
 every_filter : {X : Type 0} (P : X → Type 0) (f : X → Bool) (xs : List X) → Every P xs → Every P (filter f xs)
 every_filter P f [] h = tt

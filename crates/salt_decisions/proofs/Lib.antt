@@ -2,6 +2,7 @@ pub mod Appended
 pub mod Begun
 pub mod Contents
 mod Each
+pub mod Framed
 mod Hearing
 mod Keeping
 pub mod Moving
