@@ -6,7 +6,7 @@ use Rattle.salt_bytes.specs.Log.{entries_in}
 use Rattle.salt_bytes.specs.Spellable.{IsSpellableHeader}
 use Rattle.salt_decisions.proofs.Appended.{other_dev}
 use Rattle.salt_decisions.proofs.Contents.{log_bytes}
-use Rattle.salt_decisions.specs.Decisions.{HasSameEntries, IsCounting, IsDecisions, IsSnapshotImage, next_header, snapshot_payload, snapshotted}
+use Rattle.salt_decisions.specs.Decisions.{BeginsWith, HasSameEntries, IsCounting, IsDecisions, IsSnapshotImage, next_header, snapshot_payload, snapshotted}
 use Rattle.salt_decisions.specs.HeaderPayload.{header_with}
 use Rattle.salt_decisions.specs.declared.decisions.Decisions.{Decisions}
 use Rattle.salt_disk.specs.Disks.{EachImage, FullExactly, FullOnly, IsSettled, IsUnchanged, KeepsOthers, Shrinks, View}
@@ -118,6 +118,12 @@ module _ (d0 : View) (x : Decisions) (which : WhichLog) (log : CoordinatorLog) (
           (h.counting.counts (sym first.shape.told ∙ sym second.shape.told ∙ told))
           (ap (λ dev. entries_in (d2.bytes dev)) (sym device ∙ sym same) ∙ log_bytes d2 gate' (payload ∷ []) told is_log)
           (ap entries_in ((second.kept (device_of 0 which) apart).bytes ∙ (first.kept (device_of 0 which) apart).bytes));
+    }
+
+    pub snapshot_begins : BeginsWith d2 (device_of 0 (other_log which)) (next_header log conts) payload
+    snapshot_begins = record {
+      entries = λ told. ap (λ dev. entries_in (d2.bytes dev)) (sym device ∙ sym same) ∙ log_bytes d2 gate' (payload ∷ []) told is_log;
+      reads = reads;
     }
 
 -- WHAT IT LEAVES of the other log's device

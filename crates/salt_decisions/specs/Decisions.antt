@@ -132,5 +132,10 @@ snapshot_payload x conts = spell_header (header_with (next_generation x.generati
 abbrev pub IsSnapshotImage : List ℕ → CoordinatorHeader → List ℕ → List ℕ → Type 0
 IsSnapshotImage before header payload bytes = (bytes ≡ before) ⊎ ((entries_in bytes ≡ Some []) ⊎ ((entries_in bytes ≡ Some (payload ∷ [])) × (header_in payload ≡ Some header)))
 
+-- the device begins with this header, which is read from its one payload
+pub record BeginsWith (d : View) (dev : ℕ) (header : CoordinatorHeader) (payload : List ℕ) : Type 0 where
+  pub entries : IsTrue d.told → entries_in (d.bytes dev) ≡ Some (payload ∷ [])
+  pub reads : header_in payload ≡ Some header
+
 abbrev pub HasSameEntries : List ℕ → List ℕ → Type 0
 HasSameEntries before bytes = entries_in bytes ≡ entries_in before

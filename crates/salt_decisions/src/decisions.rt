@@ -2,7 +2,7 @@
 
 ghost use Rattle.salt_bytes.specs.Coordinator.{Boots, CoordinatorEntry, Decides, Defines, entry_in, spell_entry};
 ghost use Rattle.salt_bytes.specs.Generations.{WhichLog};
-ghost use Rattle.salt_decisions.specs.Decisions.{AreOpen, HasSameEntries, IsBeforeOrWith, IsCounting, IsDecisions, IsSnapshotImage, booted, count_in, decided, defined, definitions_in, device_in, format_of, gate_in, last_boot, last_decision, log_with, next_decision, next_definition, next_header, numbers_in, shape_of, snapshot_payload, snapshotted};
+ghost use Rattle.salt_decisions.specs.Decisions.{AreOpen, BeginsWith, HasSameEntries, IsBeforeOrWith, IsCounting, IsDecisions, IsSnapshotImage, booted, count_in, decided, defined, definitions_in, device_in, format_of, gate_in, last_boot, last_decision, log_with, next_decision, next_definition, next_header, numbers_in, shape_of, snapshot_payload, snapshotted};
 ghost use Rattle.salt_disk.specs.Disks.{EachImage, FullExactly, FullOnly, HasCause, IsUnchanged, KeepsOthers};
 ghost use Rattle.salt_disk.specs.declared.disks.DiskErr.TheVariants.{Full};
 ghost use Rattle.salt_gatelog.specs.Log as gates;
@@ -222,6 +222,8 @@ impl Decisions {
 
         ensures ok { (which : WhichLog) (log : CoordinatorLog) → IsDecisions (D.view disks.old) self.old which log
             → OnOk result (IsDecisions (D.view disks.new) self.new (other_log which) (snapshotted log conts.now)) }
+        ensures begins { (which : WhichLog) (log : CoordinatorLog) → IsDecisions (D.view disks.old) self.old which log
+            → OnOk result (BeginsWith (D.view disks.new) (device_of 0 (other_log which)) (next_header log conts.now) (snapshot_payload self.old conts.now)) }
         ensures shape { shape_of self.new ≡ shape_of self.old }
         ensures counting { (which : WhichLog) (log : CoordinatorLog) → IsDecisions (D.view disks.old) self.old which log
             → EachImage (D.view disks.new) (device_of 0 which) (HasSameEntries ((D.view disks.old).bytes (device_of 0 which))) }

@@ -1,9 +1,9 @@
 use Rattle.salt_bytes.specs.Coordinator.{CoordinatorHeader, header_in, spell_header}
 use Rattle.salt_bytes.specs.Generations.{next_generation}
 use Rattle.salt_bytes.specs.Spellable.{IsSpellableHeader}
-use Rattle.salt_decisions.proofs.Snapshots.{apart_from, being_begun, counting_images, header_reads, next_is_some, snapshot_counts}
+use Rattle.salt_decisions.proofs.Snapshots.{apart_from, being_begun, counting_images, header_reads, next_is_some, snapshot_begins, snapshot_counts}
 use Rattle.salt_decisions.proofs.decisions.Decisions.snapshot.Goals as goal
-use Rattle.salt_decisions.specs.Decisions.{IsDecisions, next_header, snapshot_payload}
+use Rattle.salt_decisions.specs.Decisions.{BeginsWith, IsDecisions, next_header, snapshot_payload}
 use Rattle.salt_decisions.specs.HeaderPayload.{header_with}
 use Rattle.salt_decisions.specs.Which.{which_in}
 use Rattle.salt_decisions.specs.declared.decisions.Decisions.{Decisions}
@@ -86,6 +86,29 @@ returns-clause-ok g c which log h =
       counting = snapshot_counts d0 _ which log was d1 d2 c.in_ok-gate.gate c.append.new.self c.deref.result.now conts
           (c.deref.ensures.value ∙ c.in_ok-payload.ensures.put ∙ ap spell_header same) good device first second c.append.ensures.device (c.in_ok-append.ensures.ok [] c.in_ok-gate.ensures.log.1);
     }
+
+pub returns-clause-begins : goal.returns-clause-begins
+returns-clause-begins g c which log h =
+    let d0 = g.D.Disks.view c.args.disks.now in
+    let d1 = g.D.Disks.view c.create.new.disks in
+    let d2 = g.D.Disks.view c.append.new.disks in
+    let x = c.self.inside in
+    let conts = c.args.conts.now in
+    let was = subst (λ (x : Decisions). IsDecisions d0 x which log) (sym c.self.view_is) h in
+    let own : which_in c.other-which.result ≡ other_log which = c.other-which.ensures ∙ ap other_log was.own in
+    let place : c.device.result ≡ device_of 0 (other_log which) = c.device.ensures ∙ ap (device_of 0) own in
+    let device : gates.device_of c.in_ok-gate.gate ≡ device_of 0 (other_log which) = c.in_ok-gate.ensures.log.0 ∙ place in
+    let first : KeepsOthers (device_of 0 (other_log which)) d0 d1 None = subst (λ dev. KeepsOthers dev d0 d1 None) place c.in_ok-gate.ensures.others in
+    let second : KeepsOthers (device_of 0 (other_log which)) d1 d2 None = subst (λ dev. KeepsOthers dev d1 d2 None) device c.in_ok-append.ensures.others in
+    let header : ℕ → List Definition → CoordinatorHeader = λ n ds. header_with n x.shape x.boot x.decisions ds conts in
+    let same : header c.next_generation-generation.result c.as_slice-definitions.result.now ≡ header (next_generation x.generation) x.definitions =
+    ap (λ n. header n c.as_slice-definitions.result.now) c.next_generation-generation.ensures ∙ ap (λ ds. header (next_generation x.generation) ds) c.as_slice-definitions.ensures in
+    let some : nat_le 1 c.next_generation-generation.result ≡ true = ap (λ n. nat_le 1 n) c.next_generation-generation.ensures ∙ next_is_some x.generation in
+    let good = subst IsSpellableHeader same (c.in_ok-payload.ensures.spellable some was.holds.parts) in
+    let spelled : (d : Decisions) → List ℕ = λ d. snapshot_payload d conts in
+    subst (λ (payload : List ℕ). BeginsWith d2 (device_of 0 (other_log which)) (next_header log conts) payload) (c.deref.ensures.value ∙ c.in_ok-payload.ensures.put ∙ ap spell_header same ∙ ap spelled c.self.view_is)
+    (snapshot_begins d0 _ which log was d1 d2 c.in_ok-gate.gate c.append.new.self c.deref.result.now conts
+    (c.deref.ensures.value ∙ c.in_ok-payload.ensures.put ∙ ap spell_header same) good device first second c.append.ensures.device (c.in_ok-append.ensures.ok [] c.in_ok-gate.ensures.log.1))
 
 pub returns-clause-counting : goal.returns-clause-counting
 returns-clause-counting g c which log h =
