@@ -3,3 +3,4 @@ mod Apart
 mod Begun
 mod Rooms
 pub mod Ready
+mod Renewed

@@ -1,6 +1,8 @@
-//! Room in the logs of a store's partitions: they begin new generations.
+//! Room in the logs of a store: they begin new generations.
 #![tactic(auto)]
 
 mod checkpoints;
+mod renew;
 
 pub use checkpoints::{MOST_UNITS, checkpoint_all, checkpoint_full};
+pub use renew::renew;
