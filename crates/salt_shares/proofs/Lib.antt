@@ -1,0 +1,4 @@
+pub mod Sharing
+pub mod Applying
+pub mod Standing
+pub mod Undecided
