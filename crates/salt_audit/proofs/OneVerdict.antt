@@ -7,7 +7,7 @@ use Rattle.salt_audit.proofs.Naming.{Named, named_story, tables}
 use Rattle.salt_audit.specs.Formed.{is_formed_by}
 use Rattle.salt_audit.specs.Retelling.{retold, told, told_on}
 use Rattle.salt_audit.specs.Stories.{IsFrontOf, then_on}
-use Rattle.salt_audit.specs.Transcripts.{ArePrintableOn, Begins, IsLeft, IsLongest, IsVerdict, all_told, breaks, is_unformed}
+use Rattle.salt_audit.specs.Transcripts.{ArePrintableOn, BeginsWith, IsLeft, IsLongest, IsVerdict, all_told, breaks, is_unformed}
 use Rattle.salt_audit.specs.Transcripts.{lines_of_events, lines_so_far, no_text, tables_told, text_on, text_so_far}
 use Rattle.salt_audit.specs.Verdicts.{Break, Finding, broken, broken_by, found_by, found_in, found_on, sound, unformed}
 use Rattle.salt_audit.specs.declared.verdict.Law.{Law}
@@ -126,11 +126,11 @@ same_count schema (i ∷ is) (j ∷ js) r s g h n e =
 
 -- how a verdict is reached
 data Way (bytes : List ℕ) : Verdict → Type 0 where
-  whole_told : (a : List Event) → Begins bytes (record { story = a; items = [] }) [] → found_in a ≡ sound → Way bytes (Yes (length a))
-  amiss : (a : List Event) (e : Event) (r : List ℕ) (v : Verdict) → Begins bytes (record { story = a ++ e ∷ []; items = [] }) r → found_in a ≡ sound →
+  whole_told : (a : List Event) → BeginsWith bytes (record { story = a; items = [] }) [] → found_in a ≡ sound → Way bytes (Yes (length a))
+  amiss : (a : List Event) (e : Event) (r : List ℕ) (v : Verdict) → BeginsWith bytes (record { story = a ++ e ∷ []; items = [] }) r → found_in a ≡ sound →
       ((found_in (a ++ e ∷ []) ≡ unformed (suc (length a))) × (v ≡ Unformed (suc (length a)))) ⊎
       ((law : Law) × (u : Id) × (found_in (a ++ e ∷ []) ≡ broken law u (suc (length a))) × (v ≡ Broken law u (suc (length a)))) → Way bytes v
-  stuck : (a : List Event) (is : List Item) (r : List ℕ) → Begins bytes (record { story = a; items = is }) r → found_in a ≡ sound → IsLeft is r →
+  stuck : (a : List Event) (is : List Item) (r : List ℕ) → BeginsWith bytes (record { story = a; items = is }) r → found_in a ≡ sound → IsLeft is r →
       IsLongest bytes r → Way bytes (NotText (suc (lines_so_far (record { story = a; items = is }))))
 
 way_of : (bytes : List ℕ) (v : Verdict) → IsVerdict bytes v → Way bytes v
@@ -204,8 +204,8 @@ module _ (laws : Named) (one : OneEvent) (whole : LinesAreWhole) where
   named : (a : List Event) → found_in a ≡ sound → IsNaming (tables_told a)
   named a f = named_story laws 1 (retold []) a laws.none f
 
-  agreed : (bytes : List ℕ) (a b : List Event) (is js : List Item) (r s : List ℕ) → Begins bytes (record { story = a; items = is }) r → found_in a ≡ sound →
-      Begins bytes (record { story = b; items = js }) s → IsFrontOf a b ⊎ IsFrontOf b a
+  agreed : (bytes : List ℕ) (a b : List Event) (is js : List Item) (r s : List ℕ) → BeginsWith bytes (record { story = a; items = is }) r → found_in a ≡ sound →
+      BeginsWith bytes (record { story = b; items = js }) s → IsFrontOf a b ⊎ IsFrontOf b a
   agreed bytes a b is js r s g f h =
       agree laws one 1 (retold []) a b (flat_map (item_text (tables_told a)) is ++ r) (flat_map (item_text (tables_told b)) js ++ s) laws.none g.events h.events f
       (sym (append_assoc (text_on (retold []) a) (flat_map (item_text (tables_told a)) is) r) ∙ sym g.text ∙ h.text
@@ -213,8 +213,8 @@ module _ (laws : Named) (one : OneEvent) (whole : LinesAreWhole) where
 
   -- nothing goes past the longest
   no_more : (bytes : List ℕ) (a : List Event) (c : Event) (cs : List Event) (is js : List Item) (r s : List ℕ) →
-      Begins bytes (record { story = a; items = is }) r → found_in a ≡ sound → IsLongest bytes r →
-      Begins bytes (record { story = a ++ c ∷ cs; items = js }) s → ⊥
+      BeginsWith bytes (record { story = a; items = is }) r → found_in a ≡ sound → IsLongest bytes r →
+      BeginsWith bytes (record { story = a ++ c ∷ cs; items = js }) s → ⊥
   no_more bytes a c cs is js r s g f longest h =
       let z = text_on (told (retold a) c) cs ++ (flat_map (item_text (tables_told (a ++ c ∷ cs))) js ++ s) in
       let behind = behind_story a is js (c ∷ cs) r s (sym g.text ∙ h.text)
@@ -226,17 +226,17 @@ module _ (laws : Named) (one : OneEvent) (whole : LinesAreWhole) where
       clash whole (tables_told a) (named a f) is c r z g.items printable behind (omega (arith, one_more, items_more, least))
 
   -- the longest is a front of no other story, but itself
-  only_front : (bytes : List ℕ) (a b : List Event) (is js : List Item) (r s : List ℕ) → Begins bytes (record { story = a; items = is }) r → found_in a ≡ sound →
-      IsLongest bytes r → Begins bytes (record { story = b; items = js }) s → IsFrontOf a b → b ≡ a
+  only_front : (bytes : List ℕ) (a b : List Event) (is js : List Item) (r s : List ℕ) → BeginsWith bytes (record { story = a; items = is }) r → found_in a ≡ sound →
+      IsLongest bytes r → BeginsWith bytes (record { story = b; items = js }) s → IsFrontOf a b → b ≡ a
   only_front bytes a b is js r s g f longest h ([], e) = e ∙ append-nil a
   only_front bytes a b is js r s g f longest h (c ∷ cs, e) =
-      absurd (no_more bytes a c cs is js r s g f longest (subst (λ d. Begins bytes (record { story = d; items = js }) s) e h))
+      absurd (no_more bytes a c cs is js r s g f longest (subst (λ d. BeginsWith bytes (record { story = d; items = js }) s) e h))
 
   all_longest : (bytes : List ℕ) → IsLongest bytes []
   all_longest bytes = λ s less b. omega arith
 
-  both_longest : (bytes : List ℕ) (a b : List Event) (is js : List Item) (r s : List ℕ) → Begins bytes (record { story = a; items = is }) r → found_in a ≡ sound →
-      IsLongest bytes r → Begins bytes (record { story = b; items = js }) s → found_in b ≡ sound → IsLongest bytes s → b ≡ a
+  both_longest : (bytes : List ℕ) (a b : List Event) (is js : List Item) (r s : List ℕ) → BeginsWith bytes (record { story = a; items = is }) r → found_in a ≡ sound →
+      IsLongest bytes r → BeginsWith bytes (record { story = b; items = js }) s → found_in b ≡ sound → IsLongest bytes s → b ≡ a
   both_longest bytes a b is js r s g f longest h k other = go (agreed bytes a b is js r s g f h)
     where
       go : IsFrontOf a b ⊎ IsFrontOf b a → b ≡ a
@@ -244,8 +244,8 @@ module _ (laws : Named) (one : OneEvent) (whole : LinesAreWhole) where
       go (inr t) = sym (only_front bytes b a js is s r h k other g t)
 
   -- nothing is amiss in the longest
-  longest_amiss : (bytes : List ℕ) (a b : List Event) (e : Event) (is : List Item) (r s : List ℕ) (w : Verdict) → Begins bytes (record { story = a; items = is }) r →
-      found_in a ≡ sound → IsLongest bytes r → Begins bytes (record { story = b ++ e ∷ []; items = [] }) s → Found b e w → ⊥
+  longest_amiss : (bytes : List ℕ) (a b : List Event) (e : Event) (is : List Item) (r s : List ℕ) (w : Verdict) → BeginsWith bytes (record { story = a; items = is }) r →
+      found_in a ≡ sound → IsLongest bytes r → BeginsWith bytes (record { story = b ++ e ∷ []; items = [] }) s → Found b e w → ⊥
   longest_amiss bytes a b e is r s w g f longest h k = go (agreed bytes a (b ++ e ∷ []) is [] r s g f h)
     where
       go : IsFrontOf a (b ++ e ∷ []) ⊎ IsFrontOf (b ++ e ∷ []) a → ⊥
@@ -253,12 +253,12 @@ module _ (laws : Named) (one : OneEvent) (whole : LinesAreWhole) where
       go (inr t) = not_sound b e w k (sound_front (b ++ e ∷ []) t.0 (sym (ap found_in t.1) ∙ f))
 
   -- of two stories with something amiss at their ends, neither goes past the other
-  past : (bytes : List ℕ) (a b : List Event) (d e : Event) (r s : List ℕ) (w : Verdict) → Begins bytes (record { story = a ++ d ∷ []; items = [] }) r → found_in a ≡ sound →
-      Begins bytes (record { story = b ++ e ∷ []; items = [] }) s → Found b e w → (c : Event) × (cs : List Event) × (b ++ e ∷ [] ≡ a ++ c ∷ cs)
+  past : (bytes : List ℕ) (a b : List Event) (d e : Event) (r s : List ℕ) (w : Verdict) → BeginsWith bytes (record { story = a ++ d ∷ []; items = [] }) r → found_in a ≡ sound →
+      BeginsWith bytes (record { story = b ++ e ∷ []; items = [] }) s → Found b e w → (c : Event) × (cs : List Event) × (b ++ e ∷ [] ≡ a ++ c ∷ cs)
   past bytes a b d e r s w g f h k =
       go (agreed bytes a (b ++ e ∷ []) [] [] (event_line (tables_told a) d ++ (10 ∷ r)) s begun f h)
     where
-      begun : Begins bytes (record { story = a; items = [] }) (event_line (tables_told a) d ++ (10 ∷ r))
+      begun : BeginsWith bytes (record { story = a; items = [] }) (event_line (tables_told a) d ++ (10 ∷ r))
       begun = record {
         text = g.text ∙ last_text a d r ∙ ap (λ l. l ++ (event_line (tables_told a) d ++ (10 ∷ r))) (sym (append-nil (text_on (retold []) a)));
         events = (printable_app (retold []) a (d ∷ []) g.events).0;
@@ -270,8 +270,8 @@ module _ (laws : Named) (one : OneEvent) (whole : LinesAreWhole) where
       go (inl (c ∷ cs, t)) = (c, cs, t)
       go (inr t) = absurd (not_sound b e w k (sound_front (b ++ e ∷ []) t.0 (sym (ap found_in t.1) ∙ f)))
 
-  same_amiss : (bytes : List ℕ) (a b : List Event) (d e : Event) (r s : List ℕ) (v w : Verdict) → Begins bytes (record { story = a ++ d ∷ []; items = [] }) r →
-      found_in a ≡ sound → Found a d v → Begins bytes (record { story = b ++ e ∷ []; items = [] }) s → found_in b ≡ sound → Found b e w → v ≡ w
+  same_amiss : (bytes : List ℕ) (a b : List Event) (d e : Event) (r s : List ℕ) (v w : Verdict) → BeginsWith bytes (record { story = a ++ d ∷ []; items = [] }) r →
+      found_in a ≡ sound → Found a d v → BeginsWith bytes (record { story = b ++ e ∷ []; items = [] }) s → found_in b ≡ sound → Found b e w → v ≡ w
   same_amiss bytes a b d e r s v w g f k h l m =
       let p = past bytes a b d e r s w g f h m in
       let q = past bytes b a e d s r v h l g k in
@@ -305,15 +305,15 @@ module _ (laws : Named) (one : OneEvent) (whole : LinesAreWhole) where
   one_way bytes v w (stuck a is r g f left longest) (amiss b e s w' h k m) = absurd (longest_amiss bytes a b e is r s w g f longest h m)
   one_way bytes v w (whole_told a g f) (stuck b js s h k left longest) =
       let same = both_longest bytes a b [] js [] s g f (all_longest bytes) h k longest in
-      let moved = subst (λ c. Begins bytes (record { story = c; items = js }) s) same h in
+      let moved = subst (λ c. BeginsWith bytes (record { story = c; items = js }) s) same h in
       absurd (nothing_left (tables_told a) js s (same_story a [] js [] s (sym g.text ∙ moved.text)) left)
   one_way bytes v w (stuck a is r g f left longest) (whole_told b h k) =
       let same = both_longest bytes b a [] is [] r h k (all_longest bytes) g f longest in
-      let moved = subst (λ c. Begins bytes (record { story = c; items = is }) r) same g in
+      let moved = subst (λ c. BeginsWith bytes (record { story = c; items = is }) r) same g in
       absurd (nothing_left (tables_told b) is r (same_story b [] is [] r (sym h.text ∙ moved.text)) left)
   one_way bytes v w (stuck a is r g f left longest) (stuck b js s h k right other) =
       let same = both_longest bytes a b is js r s g f longest h k other in
-      let moved = subst (λ c. Begins bytes (record { story = c; items = js }) s) same h in
+      let moved = subst (λ c. BeginsWith bytes (record { story = c; items = js }) s) same h in
       let there = longest (record { story = b; items = js }) s h in
       let back = other (record { story = a; items = is }) r g in
       let even : length r ≡ length s = omega (arith, there, back) in

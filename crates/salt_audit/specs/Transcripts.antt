@@ -42,14 +42,14 @@ abbrev pub text_so_far : SoFar → List ℕ
 text_so_far s = text_on (retold []) s.story ++ flat_map (item_text (tables_told s.story)) s.items
 
 -- bytes begin with this, and so many are left
-pub record Begins (bytes : List ℕ) (s : SoFar) (rest : List ℕ) : Type 0 where
+pub record BeginsWith (bytes : List ℕ) (s : SoFar) (rest : List ℕ) : Type 0 where
   pub text : bytes ≡ text_so_far s ++ rest
   pub events : ArePrintableOn (retold []) s.story
   pub items : Every (IsShowable (tables_told s.story)) s.items
 
 -- no more of the bytes is of a printable story
 abbrev pub IsLongest : List ℕ → List ℕ → Type 0
-IsLongest bytes rest = (s : SoFar) (less : List ℕ) → Begins bytes s less → length rest ≤ length less
+IsLongest bytes rest = (s : SoFar) (less : List ℕ) → BeginsWith bytes s less → length rest ≤ length less
 
 -- the lines of an event: one, and one of each item
 abbrev pub lines_of_event : Event → ℕ
@@ -69,12 +69,12 @@ IsLeft items rest = ⊤
 
 -- the verdict on bytes: of the first event that is amiss; else of the first line that is no text; else yes
 pub data IsVerdict (bytes : List ℕ) : Verdict → Type 0 where
-  all_told : (story : List Event) → Begins bytes (record { story = story; items = [] }) [] → found_in story ≡ sound → IsVerdict bytes (Yes (length story))
+  all_told : (story : List Event) → BeginsWith bytes (record { story = story; items = [] }) [] → found_in story ≡ sound → IsVerdict bytes (Yes (length story))
   breaks : (story : List Event) (e : Event) (rest : List ℕ) (law : Law) (u : Id) →
-      Begins bytes (record { story = story ++ e ∷ []; items = [] }) rest → found_in (story ++ e ∷ []) ≡ broken law u (suc (length story)) →
+      BeginsWith bytes (record { story = story ++ e ∷ []; items = [] }) rest → found_in (story ++ e ∷ []) ≡ broken law u (suc (length story)) →
       IsVerdict bytes (Broken law u (suc (length story)))
   is_unformed : (story : List Event) (e : Event) (rest : List ℕ) →
-      Begins bytes (record { story = story ++ e ∷ []; items = [] }) rest → found_in (story ++ e ∷ []) ≡ unformed (suc (length story)) →
+      BeginsWith bytes (record { story = story ++ e ∷ []; items = [] }) rest → found_in (story ++ e ∷ []) ≡ unformed (suc (length story)) →
       IsVerdict bytes (Unformed (suc (length story)))
-  no_text : (s : SoFar) (rest : List ℕ) → Begins bytes s rest → found_in s.story ≡ sound → IsLeft s.items rest → IsLongest bytes rest →
+  no_text : (s : SoFar) (rest : List ℕ) → BeginsWith bytes s rest → found_in s.story ≡ sound → IsLeft s.items rest → IsLongest bytes rest →
       IsVerdict bytes (NotText (suc (lines_so_far s)))

@@ -18,10 +18,10 @@ TakesAs f (Err Misspelled) taken = taken ≡ None
 TakesAs f (Err Memory) taken = ⊤
 
 -- likewise, of a thing that stands for itself
-abbrev pub Takes : {A : Type 0} → Result (A × Bor (List ℕ)) TakeErr → Option (A × List ℕ) → Type 0
-Takes (Ok found) taken = taken ≡ Some (found.0, found.1.now)
-Takes (Err Misspelled) taken = taken ≡ None
-Takes (Err Memory) taken = ⊤
+abbrev pub TakesSame : {A : Type 0} → Result (A × Bor (List ℕ)) TakeErr → Option (A × List ℕ) → Type 0
+TakesSame (Ok found) taken = taken ≡ Some (found.0, found.1.now)
+TakesSame (Err Misspelled) taken = taken ≡ None
+TakesSame (Err Memory) taken = ⊤
 
 -- likewise, of bytes
 abbrev pub TakesBytes : Result (Bor (List ℕ) × Bor (List ℕ)) TakeErr → Option (List ℕ × List ℕ) → Type 0

@@ -5,7 +5,7 @@ ghost use Rattle.salt_bytes.specs.Numbers.{spell_counted, take_counted};
 ghost use Rattle.salt_bytes.specs.Spellable.{Every};
 ghost use Rattle.salt_bytes.specs.Taking.{take_each};
 ghost use Rattle.salt_codec.specs.Entries.{HasRow};
-ghost use Rattle.salt_codec.specs.Taking.{Takes};
+ghost use Rattle.salt_codec.specs.Taking.{TakesSame};
 ghost use Rattle.salt_codec.specs.EntryTaking.{TakesVec};
 ghost use Rattle.std.specs.Prelude.{IfOk, ◌++◌, ◌≡◌};
 ghost use Rattle.salt_values.specs.Value.{key_of};
@@ -64,7 +64,7 @@ fn key_of(alloc: Global, row: &Row) -> Result<Key, AllocError>
 }
 
 fn take_change(alloc: Global, nulls: bool, bytes: &[u8]) -> Result<(Change, &[u8]), TakeErr>
-    ensures { Takes result (take_change nulls bytes.now) }
+    ensures { TakesSame result (take_change nulls bytes.now) }
 {
     let (table, rest) = take_u16(bytes)?;
     let (kind, rest) = take_byte(rest)?;

@@ -5,7 +5,7 @@ ghost use Rattle.salt_bytes.specs.Formats.{has_nulls, has_tries};
 ghost use Rattle.salt_bytes.specs.Taking.{take_byte, take_bytes, then_take};
 ghost use Rattle.salt_bytes.specs.Values.{spell_values, take_values};
 ghost use Rattle.salt_codec.specs.Moves.{IsShort, IsShortMove, take_place, take_standing};
-ghost use Rattle.salt_codec.specs.Taking.{Takes};
+ghost use Rattle.salt_codec.specs.Taking.{TakesSame};
 ghost use Rattle.std.specs.Prelude.{IfOk, length, ◌++◌, ◌<◌, ◌∷◌, ◌≡◌};
 
 use crate::error::TakeErr;
@@ -99,7 +99,7 @@ pub fn spelled_move(alloc: Global, format: u8, made: &Move) -> Result<Vec<u8>, A
 }
 
 fn take_name(alloc: Global, bytes: &[u8]) -> Result<(Name, &[u8]), TakeErr>
-    ensures { Takes result (then_take take_byte take_bytes bytes.now) }
+    ensures { TakesSame result (then_take take_byte take_bytes bytes.now) }
 {
     let (count, rest) = take_byte(bytes)?;
     let (name, rest) = take_bytes(rest, count as usize)?;
@@ -107,14 +107,14 @@ fn take_name(alloc: Global, bytes: &[u8]) -> Result<(Name, &[u8]), TakeErr>
 }
 
 fn take_list(alloc: Global, format: u8, bytes: &[u8]) -> Result<(Row, &[u8]), TakeErr>
-    ensures { Takes result (take_values (has_nulls format) bytes.now) }
+    ensures { TakesSame result (take_values (has_nulls format) bytes.now) }
 {
     let (count, rest) = take_byte(bytes)?;
     take_values(alloc, has_nulls(format), count, rest)
 }
 
 fn take_tries(format: u8, bytes: &[u8]) -> Result<(u8, &[u8]), TakeErr>
-    ensures { Takes result (take_tries (has_tries format) bytes.now) }
+    ensures { TakesSame result (take_tries (has_tries format) bytes.now) }
 {
     if has_tries(format) {
         return take_byte(bytes);
@@ -132,7 +132,7 @@ fn take_place(
     vars: Row,
     bytes: &[u8],
 ) -> Result<(Cont, &[u8]), TakeErr>
-    ensures { Takes result (take_place format base accepted program args vars bytes.now) }
+    ensures { TakesSame result (take_place format base accepted program args vars bytes.now) }
 {
     let (next, rest) = take_u32(bytes)?;
     let (tries, rest) = take_tries(format, rest)?;
@@ -157,7 +157,7 @@ fn take_standing(
     program: Name,
     bytes: &[u8],
 ) -> Result<(Cont, &[u8]), TakeErr>
-    ensures { Takes result (take_standing format base accepted program bytes.now) }
+    ensures { TakesSame result (take_standing format base accepted program bytes.now) }
 {
     let (args, rest) = take_list(alloc, format, bytes)?;
     let (vars, rest) = take_list(alloc, format, rest)?;
@@ -166,7 +166,7 @@ fn take_standing(
 
 /// The continuation at the front of bytes, under the format of the header that it stands behind.
 pub fn take_cont(alloc: Global, format: u8, bytes: &[u8]) -> Result<(Cont, &[u8]), TakeErr>
-    ensures { Takes result (take_cont format bytes.now) }
+    ensures { TakesSame result (take_cont format bytes.now) }
 {
     let (base, rest) = take_id(bytes)?;
     let (accepted, rest) = take_u64(rest)?;
@@ -175,7 +175,7 @@ pub fn take_cont(alloc: Global, format: u8, bytes: &[u8]) -> Result<(Cont, &[u8]
 }
 
 fn take_move_from(alloc: Global, format: u8, bytes: &[u8]) -> Result<(Move, &[u8]), TakeErr>
-    ensures { Takes result (take_move format bytes.now) }
+    ensures { TakesSame result (take_move format bytes.now) }
 {
     let (kind, rest) = take_byte(bytes)?;
     match kind {

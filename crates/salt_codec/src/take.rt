@@ -4,7 +4,7 @@ ghost use Rattle.salt_bytes.specs.Ids.{take_id};
 ghost use Rattle.salt_bytes.specs.Numbers.{take_16, take_32, take_64};
 ghost use Rattle.salt_bytes.specs.Taking.{take_byte, take_bytes, take_each};
 ghost use Rattle.salt_bytes.specs.Values.{take_row, take_value};
-ghost use Rattle.salt_codec.specs.Taking.{Takes, TakesBytes, take_text};
+ghost use Rattle.salt_codec.specs.Taking.{TakesSame, TakesBytes, take_text};
 ghost use Rattle.std.specs.Prelude.{◌≡◌};
 
 use crate::error::TakeErr;
@@ -15,7 +15,7 @@ use std::alloc::Global;
 
 /// The first byte.
 pub fn take_byte(bytes: &[u8]) -> Result<(u8, &[u8]), TakeErr>
-    ensures { Takes result (take_byte bytes.now) }
+    ensures { TakesSame result (take_byte bytes.now) }
 {
     match bytes {
         [byte, rest @ ..] => Ok((*byte, rest)),
@@ -35,7 +35,7 @@ pub fn take_bytes(bytes: &[u8], count: usize) -> Result<(&[u8], &[u8]), TakeErr>
 
 /// A number in eight bytes.
 pub fn take_u64(bytes: &[u8]) -> Result<(u64, &[u8]), TakeErr>
-    ensures { Takes result (take_64 bytes.now) }
+    ensures { TakesSame result (take_64 bytes.now) }
 {
     let (number, rest) = take_bytes(bytes, 8)?;
     Ok((BigEndian::read_u64(number), rest))
@@ -43,7 +43,7 @@ pub fn take_u64(bytes: &[u8]) -> Result<(u64, &[u8]), TakeErr>
 
 /// A number in four bytes.
 pub fn take_u32(bytes: &[u8]) -> Result<(u32, &[u8]), TakeErr>
-    ensures { Takes result (take_32 bytes.now) }
+    ensures { TakesSame result (take_32 bytes.now) }
 {
     let (number, rest) = take_bytes(bytes, 4)?;
     Ok((BigEndian::read_u32(number), rest))
@@ -51,7 +51,7 @@ pub fn take_u32(bytes: &[u8]) -> Result<(u32, &[u8]), TakeErr>
 
 /// A number in two bytes.
 pub fn take_u16(bytes: &[u8]) -> Result<(u16, &[u8]), TakeErr>
-    ensures { Takes result (take_16 bytes.now) }
+    ensures { TakesSame result (take_16 bytes.now) }
 {
     let (number, rest) = take_bytes(bytes, 2)?;
     Ok((BigEndian::read_u16(number), rest))
@@ -59,7 +59,7 @@ pub fn take_u16(bytes: &[u8]) -> Result<(u16, &[u8]), TakeErr>
 
 /// A unit's or a program's name.
 pub fn take_id(bytes: &[u8]) -> Result<(Id, &[u8]), TakeErr>
-    ensures { Takes result (take_id bytes.now) }
+    ensures { TakesSame result (take_id bytes.now) }
 {
     let (boot, rest) = take_u64(bytes)?;
     let (seq, rest) = take_u64(rest)?;
@@ -67,7 +67,7 @@ pub fn take_id(bytes: &[u8]) -> Result<(Id, &[u8]), TakeErr>
 }
 
 fn take_text(alloc: Global, bytes: &[u8]) -> Result<(Value, &[u8]), TakeErr>
-    ensures { Takes result (take_text bytes.now) }
+    ensures { TakesSame result (take_text bytes.now) }
 {
     let (count, rest) = take_byte(bytes)?;
     let (text, rest) = take_bytes(rest, count as usize)?;
@@ -76,7 +76,7 @@ fn take_text(alloc: Global, bytes: &[u8]) -> Result<(Value, &[u8]), TakeErr>
 
 /// A value; NULL only where it is spelled.
 pub fn take_value(alloc: Global, nulls: bool, bytes: &[u8]) -> Result<(Value, &[u8]), TakeErr>
-    ensures { Takes result (take_value nulls bytes.now) }
+    ensures { TakesSame result (take_value nulls bytes.now) }
 {
     let (kind, rest) = take_byte(bytes)?;
     match kind {
@@ -97,7 +97,7 @@ pub fn take_values(
     count: u8,
     bytes: &[u8],
 ) -> Result<(Row, &[u8]), TakeErr>
-    ensures { Takes result (take_each (take_value nulls) count bytes.now) }
+    ensures { TakesSame result (take_each (take_value nulls) count bytes.now) }
 {
     let mut values = Vec::with_capacity(alloc, count as usize)?;
     let mut rest = bytes;
@@ -111,7 +111,7 @@ pub fn take_values(
 
 /// A row; NULL only where it is spelled.
 pub fn take_row_from(alloc: Global, nulls: bool, bytes: &[u8]) -> Result<(Row, &[u8]), TakeErr>
-    ensures { Takes result (take_row nulls bytes.now) }
+    ensures { TakesSame result (take_row nulls bytes.now) }
 {
     let (count, rest) = take_byte(bytes)?;
     if count < 1 || 16 < count {

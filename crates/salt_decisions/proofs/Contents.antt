@@ -5,7 +5,7 @@ use Rattle.salt_bytes.specs.Generations.{content_of, read_or_outside}
 use Rattle.salt_bytes.specs.Log.{entries_in}
 use Rattle.salt_decisions.specs.Header.{header_of}
 use Rattle.salt_decisions.specs.Read.{HasContent, HearsAll, IsReadLog}
-use Rattle.salt_decisions.specs.Said.{Says}
+use Rattle.salt_decisions.specs.Said.{SaysTold}
 use Rattle.salt_decisions.specs.declared.header.Header.{Header}
 use Rattle.salt_decisions.specs.declared.read.Content.TheVariants.{Outside}
 use Rattle.salt_decisions.specs.declared.read.ReadLog.{ReadLog}
@@ -47,7 +47,7 @@ module _ (header : Header) (first : List ℕ) (reads : header_in first ≡ Some 
         → HearsAll d gate header.shape.parts (told_by_header (header_of header)) said true → IsReadLog e (device_of gate) conts
     read_all r g f n s cs p w h = record {
       log = record { header = header_of header; told = h.now };
-      is_of = record { format = f; generation = n; shape = s; conts = cs; parts = ap (λ x. is_number_of_parts x.parts) s ∙ p; says = Rattle.std.proofs.Common.subst (λ (x : Said). Says x h.now) (sym w) h.says };
+      is_of = record { format = f; generation = n; shape = s; conts = cs; parts = ap (λ x. is_number_of_parts x.parts) s ∙ p; says = Rattle.std.proofs.Common.subst (λ (x : Said). SaysTold x h.now) (sym w) h.says };
       entries = entries;
       is_log = Rattle.std.proofs.Common.subst (λ (x : GateLog). IsLog e x entries) (sym g) is';
       device = ap device_of g ∙ same;

@@ -1,7 +1,7 @@
 -- Things taken one behind the other: with one more, and where the next is misspelled.
 use Rattle.salt_bytes.specs.Taking.{Take, take_each}
 use Rattle.salt_codec.proofs.Values.{Took, took_fails, took_next}
-use Rattle.salt_codec.specs.Taking.{Takes, TakesAs}
+use Rattle.salt_codec.specs.Taking.{TakesSame, TakesAs}
 use Rattle.salt_codec.specs.declared.error.TakeErr.TheVariants.{Memory, Misspelled}
 use Rattle.salt_codec.specs.declared.error.TakeErr.{TakeErr}
 use Rattle.std.proofs.Common.{Err, List, Some, [], ap, refl, ℕ, ◌++◌, ◌+◌, ◌<◌, ◌≡◌, ◌∙◌, ◌∷◌}
@@ -13,7 +13,7 @@ map_push f [] x = refl
 map_push f (y ∷ xs) x = ap (λ l. f y ∷ l) (map_push f xs x)
 
 module _ {A : Type 0} (take : Take A) (n : ℕ) (bytes : List ℕ) (xs : List A) (i : ℕ) (rest : List ℕ) (low : i < n) (h : Took take n bytes xs i rest) where
-  pub each_fails : (e : TakeErr) → Takes {A = A} (Err e) (take rest) → Takes {A = List A} (Err e) (take_each take n bytes)
+  pub each_fails : (e : TakeErr) → TakesSame {A = A} (Err e) (take rest) → TakesSame {A = List A} (Err e) (take_each take n bytes)
   each_fails Misspelled none = took_fails take n bytes xs i rest low none h
   each_fails Memory none = tt
 

@@ -1,6 +1,6 @@
 -- Entries that are heard one after another.
 use Rattle.salt_decisions.specs.Read.{HearsAll, HearsOne}
-use Rattle.salt_decisions.specs.Said.{Says}
+use Rattle.salt_decisions.specs.Said.{SaysTold}
 use Rattle.salt_decisions.specs.declared.said.Said.{Said}
 use Rattle.salt_disk.proofs.CallAfterCall.{cause_on, cause_none, same_shape}
 use Rattle.salt_disk.specs.Disks.{HasCause, KeepsAll, View}
@@ -49,7 +49,7 @@ pub record IsHeardTo (d : View) (gate : GateLog) (parts : ℕ) (t : Told) (said 
   pub payloads : List (List ℕ)
   pub now : Told
   pub is_heard : heard parts (Some t) payloads ≡ Some now
-  pub says : Says said now
+  pub says : SaysTold said now
   pub stand : (entries : List (List ℕ)) → IsLog d gate entries → IsTrue d.told → payloads ≡ drop 1 (take i entries)
 
 -- how far the reading of a log has come
@@ -59,7 +59,7 @@ pub record HearsSoFar (d0 d : View) (gate0 gate : GateLog) (parts : ℕ) (said0 
   pub cause : HasCause d0 d None
   pub same : HasMoved gate0 gate
   pub logs : (entries : List (List ℕ)) → IsLog d0 gate0 entries → IsLog d gate entries
-  pub hears : (t : Told) → Says said0 t → IsHeardTo d0 gate0 parts t said i
+  pub hears : (t : Told) → SaysTold said0 t → IsHeardTo d0 gate0 parts t said i
 
 pub keeps_itself : (d : View) → KeepsAll d d None
 keeps_itself d = record { shape = same_shape d; kept = λ dev none. record { bytes = refl; images = λ c left. left }; images = λ dev none c left. left }
@@ -93,7 +93,7 @@ module _ (d0 d : View) (gate0 gate : GateLog) (parts : ℕ) (said0 said : Said) 
 
   -- one entry further
   pub hears_on : (e : View) (gate' : GateLog) (more : Said) → KeepsAll d e None → HasCause d e None → HasMoved gate gate' → ((entries : List (List ℕ)) → IsLog d gate entries → IsLog e gate' entries)
-      → ((t : Told) → Says said t → HearsOne d gate parts t more i true) → HearsSoFar d0 e gate0 gate' parts said0 more (i + 1)
+      → ((t : Told) → SaysTold said t → HearsOne d gate parts t more i true) → HearsSoFar d0 e gate0 gate' parts said0 more (i + 1)
   hears_on e gate' more keeps cause moved logs hears = record {
     first = omega (arith, h.first);
     keeps = keeps_then d0 d e None h.keeps keeps;
@@ -104,7 +104,7 @@ module _ (d0 d : View) (gate0 gate : GateLog) (parts : ℕ) (said0 said : Said) 
   }
 
   -- one that does not follow on
-  pub hears_none : (more : Said) → ((t : Told) → Says said t → HearsOne d gate parts t more i false) → (t : Told) → Says said0 t → HearsAll d0 gate0 parts t more false
+  pub hears_none : (more : Said) → ((t : Told) → SaysTold said t → HearsOne d gate parts t more i false) → (t : Told) → SaysTold said0 t → HearsAll d0 gate0 parts t more false
   hears_none more hears t says entries is told =
       let so_far = h.hears t says in
       let one = hears so_far.now so_far.says in
@@ -115,7 +115,7 @@ module _ (d0 d : View) (gate0 gate : GateLog) (parts : ℕ) (said0 said : Said) 
       ∙ heard_none parts (drop (i + 1) entries)
 
   -- all were heard
-  pub hears_all : count_of gate0 ≤ i → (t : Told) → Says said0 t → HearsAll d0 gate0 parts t said true
+  pub hears_all : count_of gate0 ≤ i → (t : Told) → SaysTold said0 t → HearsAll d0 gate0 parts t said true
   hears_all end t says =
       let so_far = h.hears t says in
       record {

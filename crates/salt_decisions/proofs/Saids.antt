@@ -3,7 +3,7 @@ use Rattle.salt_bytes.specs.Coordinator.{Boots, Decides, Defines}
 use Rattle.salt_decisions.proofs.Each.{map_push}
 use Rattle.salt_decisions.specs.Entry.{decision_of}
 use Rattle.salt_decisions.specs.Header.{numbered_of}
-use Rattle.salt_decisions.specs.Said.{HasHeard, Says, mask_of, move_of}
+use Rattle.salt_decisions.specs.Said.{HasHeard, SaysTold, mask_of, move_of}
 use Rattle.salt_decisions.specs.declared.entry.Decided.{Decided}
 use Rattle.salt_decisions.specs.declared.header.Definition.{Definition}
 use Rattle.salt_decisions.specs.declared.said.Said.{Said}
@@ -17,7 +17,7 @@ use Rattle.std.specs.Bool.{then_some}
 next_is : {A : Type 0} (n m k : ℕ) (x : A) → (n == m + 1) ≡ true → m ≡ k → then_some (n == k + 1) x ≡ Some x
 next_is n m k x fits same = ap (λ j. then_some (n == j + 1) x) (sym same) ∙ ap (λ b. then_some b x) fits
 
-module _ (s : Said) (t : Told) (h : Says s t) where
+module _ (s : Said) (t : Told) (h : SaysTold s t) where
   pub heard_boot : (boot : ℕ) → (boot == s.boot + 1) ≡ true → HasHeard true (record s { boot = boot }) (tell t (Boots boot))
   heard_boot boot fits =
       let now : Told = record t { boot = boot } in (

@@ -3,7 +3,7 @@ use Rattle.salt_bytes.specs.Coordinator.{is_number_of_parts}
 use Rattle.salt_bytes.specs.Generations as pair
 use Rattle.salt_bytes.specs.Generations.{content_of}
 use Rattle.salt_bytes.specs.Log.{entries_in}
-use Rattle.salt_decisions.specs.Said.{HasHeard, Says}
+use Rattle.salt_decisions.specs.Said.{HasHeard, SaysTold}
 use Rattle.salt_decisions.specs.declared.read.Content.TheVariants.{Blank, Log, Outside}
 use Rattle.salt_decisions.specs.declared.read.Content.{Content}
 use Rattle.salt_decisions.specs.declared.read.ReadLog.{ReadLog}
@@ -25,7 +25,7 @@ pub record HasHeardAll (d : View) (gate : GateLog) (parts : ℕ) (t : Told) (sai
   pub payloads : List (List ℕ)
   pub now : Told
   pub is_heard : heard parts (Some t) payloads ≡ Some now
-  pub says : Says said now
+  pub says : SaysTold said now
   pub stand : (entries : List (List ℕ)) → IsLog d gate entries → IsTrue d.told → payloads ≡ drop 1 entries
 
 -- or one of them is none that follows on
@@ -40,7 +40,7 @@ pub record IsOf (r : ReadLog) (log : CoordinatorLog) : Type 0 where
   pub shape : r.shape ≡ log.header.shape
   pub conts : r.conts ≡ log.header.conts
   pub parts : is_number_of_parts r.shape.parts ≡ true
-  pub says : Says r.said log.told
+  pub says : SaysTold r.said log.told
 
 -- A log was read from this device. Where the disks tell their bytes, it is the device's.
 pub record IsReadLog (d : View) (dev : ℕ) (r : ReadLog) : Type 0 where

@@ -15,7 +15,7 @@ move_of d = d.move
 abbrev pub text_of : NumberedText → List ℕ
 text_of t = t.text
 
-pub record Says (s : Said) (t : Told) : Type 0 where
+pub record SaysTold (s : Said) (t : Told) : Type 0 where
   pub boot : s.boot ≡ t.boot
   pub decisions : s.decisions ≡ t.decisions
   pub definitions : map numbered_of s.definitions ≡ t.definitions
@@ -25,5 +25,5 @@ pub record Says (s : Said) (t : Told) : Type 0 where
 
 -- with one entry more, where it follows on
 abbrev pub HasHeard : Bool → Said → Option Told → Type 0
-HasHeard true s o = (now : Told) × ((o ≡ Some now) × Says s now)
+HasHeard true s o = (now : Told) × ((o ≡ Some now) × SaysTold s now)
 HasHeard false s o = o ≡ None

@@ -3,7 +3,7 @@
 ghost use Rattle.salt_bytes.specs.Conts.{take_cont};
 ghost use Rattle.salt_bytes.specs.Numbers.{take_counted};
 ghost use Rattle.salt_bytes.specs.Taking.{take_each};
-ghost use Rattle.salt_codec.specs.Taking.{Takes};
+ghost use Rattle.salt_codec.specs.Taking.{TakesSame};
 
 use salt_codec::take::take_u64;
 use salt_codec::{TakeErr, take_cont};
@@ -18,7 +18,7 @@ fn take_each_cont(
     count: u64,
     bytes: &[u8],
 ) -> Result<(Conts, &[u8]), TakeErr>
-    ensures { Takes result (take_each (take_cont format) count bytes.now) }
+    ensures { TakesSame result (take_each (take_cont format) count bytes.now) }
 {
     let mut conts = Items::new(alloc);
     let mut rest = bytes;
@@ -32,7 +32,7 @@ fn take_each_cont(
 
 /// Continuations, behind their number.
 pub fn take_conts(alloc: Global, format: u8, bytes: &[u8]) -> Result<(Conts, &[u8]), TakeErr>
-    ensures { Takes result (take_counted (take_cont format) bytes.now) }
+    ensures { TakesSame result (take_counted (take_cont format) bytes.now) }
 {
     let (count, rest) = take_u64(bytes)?;
     take_each_cont(alloc, format, count, rest)

@@ -4,7 +4,7 @@ ghost use Rattle.salt_bytes.specs.Coordinator.{header_in, is_number_of_parts, ta
 ghost use Rattle.salt_bytes.specs.Numbers.{take_counted};
 ghost use Rattle.salt_bytes.specs.Taking.{take_each};
 ghost use Rattle.salt_decisions.specs.Header.{header_of, mark, numbered_of, take_lists, take_numbers, take_shape};
-ghost use Rattle.salt_codec.specs.Taking.{Takes, TakesAs, TakesBytes};
+ghost use Rattle.salt_codec.specs.Taking.{TakesSame, TakesAs, TakesBytes};
 ghost use Rattle.salt_place.specs.declared.placement.PlaceKind.{PlaceKind};
 ghost use Rattle.std.specs.Prelude.{IfOk, IfSome, map, option_map, true, ◌≡◌};
 
@@ -43,7 +43,7 @@ pub struct Header {
 
 /// Bytes behind their length.
 pub fn take_text(alloc: Global, bytes: &[u8]) -> Result<(Bytes, &[u8]), TakeErr>
-    ensures { Takes result (take_text bytes.now) }
+    ensures { TakesSame result (take_text bytes.now) }
 {
     let (count, rest) = take_u64(bytes)?;
     let (text, rest) = take_bytes(rest, count as usize)?;
@@ -96,7 +96,7 @@ fn take_mark(bytes: &[u8]) -> Result<(&[u8], &[u8]), TakeErr>
 }
 
 fn take_kind(bytes: &[u8]) -> Result<(PlaceKind, &[u8]), TakeErr>
-    ensures { Takes result (take_kind bytes.now) }
+    ensures { TakesSame result (take_kind bytes.now) }
 {
     let (kind, rest) = take_byte(bytes)?;
     match kind {

@@ -3,7 +3,7 @@
 ghost use Rattle.salt_bytes.specs.Coordinator.{header_in, is_number_of_parts};
 ghost use Rattle.salt_decisions.specs.Header.{header_of};
 ghost use Rattle.salt_decisions.specs.Read.{HasContent, HearsAll, HearsOne};
-ghost use Rattle.salt_decisions.specs.Said.{Says};
+ghost use Rattle.salt_decisions.specs.Said.{SaysTold};
 ghost use Rattle.salt_disk.specs.Disks.{HasCause, IsSettled, KeepsAll, OnlyFails, UnlessDown};
 ghost use Rattle.salt_gatelog.specs.Entry.{HasMoved};
 ghost use Rattle.salt_gatelog.specs.Log.{IsLog, count_of, device_of};
@@ -75,7 +75,7 @@ fn hear_one<D: Disks>(
     requires log { (entries : List (List ℕ)) × IsLog (D.view disks.old) gate.old entries }
     requires below { i < count_of gate.old }
     requires parts { parts ≤ 8 }
-    ensures heard { (t : Told) → Says said.old t → IfOk result (HearsOne (D.view disks.old) gate.old parts t said.new i) }
+    ensures heard { (t : Told) → SaysTold said.old t → IfOk result (HearsOne (D.view disks.old) gate.old parts t said.new i) }
     ensures log { (entries : List (List ℕ)) → IsLog (D.view disks.old) gate.old entries → UnlessDown (result_err result) (IsLog (D.view disks.new) gate.new entries) }
     ensures same { HasMoved gate.old gate.new }
     ensures kept { KeepsAll (D.view disks.old) (D.view disks.new) (result_err result) }
@@ -99,7 +99,7 @@ fn hear_all<D: Disks>(
 ) -> Result<bool, DiskErr>
     requires log { (entries : List (List ℕ)) × IsLog (D.view disks.old) gate.old entries }
     requires parts { parts ≤ 8 }
-    ensures heard { (t : Told) → Says said.old t → IfOk result (HearsAll (D.view disks.old) gate.old parts t said.new) }
+    ensures heard { (t : Told) → SaysTold said.old t → IfOk result (HearsAll (D.view disks.old) gate.old parts t said.new) }
     ensures log { OnOk result ((entries : List (List ℕ)) → IsLog (D.view disks.old) gate.old entries → IsLog (D.view disks.new) gate.new entries) }
     ensures same { HasMoved gate.old gate.new }
     ensures kept { KeepsAll (D.view disks.old) (D.view disks.new) (result_err result) }

@@ -2,7 +2,7 @@
 
 ghost use Rattle.salt_decisions.specs.Entry.{decision_of, entry_of};
 ghost use Rattle.salt_decisions.specs.Header.{numbered_of};
-ghost use Rattle.salt_decisions.specs.Said.{HasHeard, Says};
+ghost use Rattle.salt_decisions.specs.Said.{HasHeard, SaysTold};
 ghost use Rattle.salt_bytes.specs.Coordinator.{Boots, Decides, Defines};
 ghost use Rattle.salt_stands.specs.CoordinatorLog.{Told, tell};
 ghost use Rattle.std.specs.Prelude.{IfOk, ◌+◌, ◌==◌, ◌≡◌};
@@ -33,7 +33,7 @@ fn follows(number: u64, before: u64) -> bool
 
 impl Said {
     fn hear_boot(&mut self, boot: u64) -> bool
-        ensures { (t : Told) → Says self.old t → HasHeard result self.new (tell t (Boots boot)) }
+        ensures { (t : Told) → SaysTold self.old t → HasHeard result self.new (tell t (Boots boot)) }
     {
         if !follows(boot, self.boot) {
             return false;
@@ -43,7 +43,7 @@ impl Said {
     }
 
     fn hear_definition(&mut self, definition: Definition) -> Result<bool, AllocError>
-        ensures { (t : Told) → Says self.old t → IfOk result (λ fits. HasHeard fits self.new (tell t (Defines (numbered_of definition)))) }
+        ensures { (t : Told) → SaysTold self.old t → IfOk result (λ fits. HasHeard fits self.new (tell t (Defines (numbered_of definition)))) }
     {
         if !follows(definition.number, self.decisions) {
             return Ok(false);
@@ -54,7 +54,7 @@ impl Said {
     }
 
     fn hear_decision(&mut self, decided: Decided) -> Result<bool, AllocError>
-        ensures { (t : Told) → Says self.old t → IfOk result (λ fits. HasHeard fits self.new (tell t (Decides (decision_of decided)))) }
+        ensures { (t : Told) → SaysTold self.old t → IfOk result (λ fits. HasHeard fits self.new (tell t (Decides (decision_of decided)))) }
     {
         if !follows(decided.number, self.decisions) {
             return Ok(false);
@@ -74,7 +74,7 @@ impl Said {
 
     /// Takes one more entry, where its number is the next; else it answers false.
     pub fn hear(&mut self, entry: Entry) -> Result<bool, AllocError>
-        ensures { (t : Told) → Says self.old t → IfOk result (λ fits. HasHeard fits self.new (tell t (entry_of entry))) }
+        ensures { (t : Told) → SaysTold self.old t → IfOk result (λ fits. HasHeard fits self.new (tell t (entry_of entry))) }
     {
         match entry {
             Entry::Boots(boot) => Ok(self.hear_boot(boot)),

@@ -1,7 +1,7 @@
 -- Names are seen, one after another.
 use Rattle.law_story.proofs.Ids.{is_same_id-refl, is_same_id-sym, is_same_id-true}
 use Rattle.law_story.proofs.Lists.{either, in-cases, in-left, in-right, or_cases, or_right_true}
-use Rattle.salt_deps.specs.Walks.{Sees, SeesAll, one_if, unseen}
+use Rattle.salt_deps.specs.Walks.{SeesName, SeesAll, one_if, unseen}
 use Rattle.law_states.specs.Members.{In}
 use Rattle.salt_values.specs.Id.{has_id}
 use Rattle.salt_values.specs.Id.{is_same_id}
@@ -37,7 +37,7 @@ unseen-less (z ∷ zs) old new name (inl e) out within more =
     omega (arith, was, now, rest)
 
 pub sees-one : (name : Id) (old ahead new onward : List Id) (added : Bool) → added ≡ not (has_id name old) → ((q : Id) → has_id q new ≡ (is_same_id name q || has_id q old)) →
-    onward ≡ cond added (ahead ++ name ∷ []) ahead → Sees name old ahead new onward
+    onward ≡ cond added (ahead ++ name ∷ []) ahead → SeesName name old ahead new onward
 sees-one name old ahead new onward added is seen so = record {
   seen = seen;
   ahead_of = so ∙ (ap (λ t. cond t (ahead ++ name ∷ []) ahead) is ∙ by (has_id name old));
@@ -51,7 +51,7 @@ pub sees-none : (old ahead : List Id) → SeesAll [] old ahead old ahead
 sees-none old ahead = record { seen = λ q. refl; kept = λ q i. i; fresh = λ q h. inl h; none_else = λ q i. inl i; once = λ all h. omega arith }
 
 -- one name more
-pub sees-next : (names : List Id) (name : Id) (old ahead mid between new onward : List Id) → SeesAll names old ahead mid between → Sees name mid between new onward →
+pub sees-next : (names : List Id) (name : Id) (old ahead mid between new onward : List Id) → SeesAll names old ahead mid between → SeesName name mid between new onward →
     SeesAll (names ++ name ∷ []) old ahead new onward
 sees-next names name old ahead mid between new onward s one = by (has_id name mid) refl one.ahead_of
   where

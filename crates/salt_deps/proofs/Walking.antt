@@ -7,7 +7,7 @@ use Rattle.salt_deps.proofs.Names.{same-at}
 use Rattle.salt_deps.specs.Due.{AreComers, AreReached}
 use Rattle.salt_deps.specs.Group.{is_told}
 use Rattle.salt_deps.specs.Maps.{is_source, keys_in}
-use Rattle.salt_deps.specs.Walks.{Sees, SeesAll, unseen}
+use Rattle.salt_deps.specs.Walks.{SeesName, SeesAll, unseen}
 use Rattle.salt_values.specs.Id.{has_id, is_same_id}
 use Rattle.salt_values.specs.Order.{id_cmp}
 use Rattle.salt_values.specs.declared.id.Id.{Id}
@@ -44,7 +44,7 @@ starts-all step starts old none seen ahead empty nil s = record {
     only : (q : Id) → has_id q seen ≡ true → In q starts
     only q h = has-in q starts (either (λ e. e) (λ e. absurd (nothing q e)) (or_cases (has_id q starts) (has_id q old) (sym (s.seen q) ∙ h)))
 
-pub starts-one : (step : Id → Id → Bool) (name : Id) (old none seen ahead : List Id) → old ≡ [] → none ≡ [] → Sees name old none seen ahead → IsWalk step (name ∷ []) seen ahead
+pub starts-one : (step : Id → Id → Bool) (name : Id) (old none seen ahead : List Id) → old ≡ [] → none ≡ [] → SeesName name old none seen ahead → IsWalk step (name ∷ []) seen ahead
 starts-one step name old none seen ahead empty nil s = record {
   begun = λ q i. has-in q seen (at q i);
   led = λ c i. (c, inl (only c (in-has c seen i)), here);

@@ -15,7 +15,7 @@ unseen [] seen = 0
 unseen (z ∷ zs) seen = one_if (not (has_id z seen)) + unseen zs seen
 
 -- a name is seen, and stands last among those to go on from if it was not seen before
-pub record Sees (name : Id) (old ahead new onward : List Id) : Type 0 where
+pub record SeesName (name : Id) (old ahead new onward : List Id) : Type 0 where
   pub seen : (q : Id) → has_id q new ≡ (is_same_id name q || has_id q old)
   pub ahead_of : onward ≡ (if has_id name old then ahead else ahead ++ name ∷ [])
 

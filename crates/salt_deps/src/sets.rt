@@ -1,7 +1,7 @@
 //! Sets of names, and steps of a walk.
 
 ghost use Rattle.salt_values.specs.Id.{has_id};
-ghost use Rattle.salt_deps.specs.Walks.{Sees, SeesAll};
+ghost use Rattle.salt_deps.specs.Walks.{SeesName, SeesAll};
 ghost use Rattle.law_states.specs.Rising.{Rising};
 ghost use Rattle.salt_values.specs.declared.id.Id.{Id};
 ghost use Rattle.std.specs.Prelude.{◌≡◌, ◌&&◌, IfOk, OnOk, not};
@@ -40,7 +40,7 @@ pub fn listed(alloc: Global, set: &BTreeSet<Id>) -> Result<Vec<Id>, AllocError>
 
 /// Sees a name, from which the walk goes on if it was not seen before.
 pub fn see(name: Id, seen: &mut BTreeSet<Id>, ahead: &mut Vec<Id>) -> Result<(), AllocError>
-    ensures { OnOk result (Sees name seen.old.keys ahead.old.items seen.new.keys ahead.new.items) }
+    ensures { OnOk result (SeesName name seen.old.keys ahead.old.items seen.new.keys ahead.new.items) }
 {
     if seen.insert(name)? {
         ahead.push(name)?;

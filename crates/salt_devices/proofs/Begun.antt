@@ -10,7 +10,7 @@ use Rattle.salt_devices.specs.Filling.{FillsIn}
 use Rattle.salt_devices.specs.Holding.{IsAble}
 use Rattle.salt_devices.specs.Leaving.{CanOpen, MayCome, StandsForSomething, StandsFor, StandsStill}
 use Rattle.salt_devices.specs.Opened.{OpensAs}
-use Rattle.salt_devices.specs.Refusing.{ComesUpon, Finds, RefusedAs, Refuses}
+use Rattle.salt_devices.specs.Refusing.{ComesUpon, FindsKept, RefusedAs, RefusesDevices}
 use Rattle.salt_devices.specs.Standing.{RestsAs, StandsHeld}
 use Rattle.salt_devices.specs.declared.pending.Pending.TheVariants.{Nothing, Opening}
 use Rattle.salt_devices.specs.declared.pending.Pending.{Pending}
@@ -46,7 +46,7 @@ module _ (d e : View) (shape : Shape) (same : SameShape d e) (was now : Bool) (s
   came : (P : (ℕ → List ℕ) → Type 0) → ComesUpon e now P → ComesUpon e false P
   came P h = subst (λ (b : Bool). ComesUpon e b P) called h
 
-  pub no_more : FindsNoMore (Refuses d was shape) (Finds d was shape) (Refuses e now shape) (Finds e now shape)
+  pub no_more : FindsNoMore (RefusesDevices d was shape) (FindsKept d was shape) (RefusesDevices e now shape) (FindsKept e now shape)
   no_more = record {
     refuses_no_more = λ r h told.
         let u = came (λ image. RefusedAs shape image r) (h (same.told ∙ told)) in
@@ -58,7 +58,7 @@ module _ (d e : View) (shape : Shape) (same : SameShape d e) (was now : Bool) (s
 
 -- and stands for what the bytes stood for
 pub rests_behind : (d e : View) (shape : Shape) → SameShape d e → IsAble shape d → (started : Bool) → started ≡ true
-    → (IsTrue d.told → (image : ℕ → List ℕ) → IsImage e image → StandsStill shape d.bytes image) → (k : Kept) → Finds d started shape k → RestsAs shape false e k
+    → (IsTrue d.told → (image : ℕ → List ℕ) → IsImage e image → StandsStill shape d.bytes image) → (k : Kept) → FindsKept d started shape k → RestsAs shape false e k
 rests_behind d e shape same able started is behind k h = record {
   settled = λ now. absurd (cc now);
   rests = λ told image left.
@@ -68,7 +68,7 @@ rests_behind d e shape same able started is behind k h = record {
 }
 
 -- what rests where the devices were started is found there
-pub rests_found : (d : View) (shape : Shape) (started : Bool) → started ≡ true → (k : Kept) → RestsAs shape started d k → Finds d started shape k
+pub rests_found : (d : View) (shape : Shape) (started : Bool) → started ≡ true → (k : Kept) → RestsAs shape started d k → FindsKept d started shape k
 rests_found d shape started is k h told =
     upon_bytes d started (λ image. StandsFor shape image k) is (h.rests told d.bytes (subst (λ (b : Bool). MayCome d b d.bytes) (sym is) (λ dev low. refl)))
 
@@ -83,7 +83,7 @@ module _ (d e : View) (shape : Shape) (x : Store) (found : Found) (o : OpensAs d
     net = net_with x y o.kept.boot put;
   }
 
-  pub opened_finds : (started : Bool) → started ≡ true → Finds d started shape o.kept
+  pub opened_finds : (started : Bool) → started ≡ true → FindsKept d started shape o.kept
   opened_finds started is told = upon_bytes d started (λ image. StandsFor shape image o.kept) is (o.stood told)
 
 -- BROKEN OFF by a stop, or otherwise

@@ -17,7 +17,7 @@ use Rattle.salt_model.specs.Reaches.{in_row}
 use Rattle.salt_model.specs.Statements.{checked}
 use Rattle.salt_stands.specs.Fitting.{are_of_columns, is_cont_of, is_key_of, is_row_of, programs_defined, tables_defined}
 use Rattle.salt_devices.proofs.Limits.{arguments_length, at_every, columns_length, few_columns, few_params, few_vars, short_name}
-use Rattle.salt_devices.specs.Holding.{IsFresh, Keeps}
+use Rattle.salt_devices.specs.Holding.{IsFresh, StoreKeeps}
 use Rattle.salt_codec.specs.Entries.{CanBePut, MayStand}
 use Rattle.salt_model.specs.Kept.{Definition, Kept, OfProgram, OfTable, Rise, cont_in, schema_of}
 use Rattle.salt_model.specs.Tables.{changed_at}
@@ -196,7 +196,7 @@ short_move k u cs (Finish b) conts may = tt
 
 -- WHAT A UNIT NEEDS
 
-module _ (shape : Shape) (c : Coordinator Definition) (v : ℕ → PartView) (k : Kept) (keeps : Keeps shape c v k) (u : Id) (cs : List Change) (m : Move) (conts : List Cont) (may : MayDecide k u cs m conts)
+module _ (shape : Shape) (c : Coordinator Definition) (v : ℕ → PartView) (k : Kept) (keeps : StoreKeeps shape c v k) (u : Id) (cs : List Change) (m : Move) (conts : List Cont) (may : MayDecide k u cs m conts)
     (kept : IsSoundKept k) where
   schema_is : schema_of k ≡ tables_defined c.definitions
   schema_is = ap tables_defined keeps.definitions

@@ -8,7 +8,7 @@ use Rattle.law_definitions.specs.Texts.{definition_in}
 use Rattle.salt_stands.specs.Fitting.{is_refused, kept_in}
 use Rattle.salt_devices.proofs.Stores.{IsJudged, held_is, is_begun, no_pages_left}
 use Rattle.salt_devices.proofs.Kept.{booted_sound}
-use Rattle.salt_devices.specs.Holding.{IsHeld, Keeps}
+use Rattle.salt_devices.specs.Holding.{IsHeld, StoreKeeps}
 use Rattle.salt_devices.specs.Leaving.{LeavesEither, StandsFor}
 use Rattle.salt_disk.specs.Disks.{IsImage, KeepsOthers, SameShape, Shrinks, View}
 use Rattle.salt_disk.specs.declared.disks.DiskErr.{DiskErr}
@@ -107,6 +107,6 @@ module _ (d e : View) (shape : Shape) (x : Store) (k : Kept) (h : IsHeld d shape
   }
 
 -- what is kept does not refuse it, and so the coordinator does not
-pub may_define : (shape : Shape) (c : Coordinator Definition) (v : ℕ → PartView) (k : Kept) → Keeps shape c v k → (text : List ℕ) (def : Definition) → definition_in text ≡ Some def → MayDefine k def
+pub may_define : (shape : Shape) (c : Coordinator Definition) (v : ℕ → PartView) (k : Kept) → StoreKeeps shape c v k → (text : List ℕ) (def : Definition) → definition_in text ≡ Some def → MayDefine k def
     → commit.MayDefine reading c text def
 may_define shape c v k keeps text def reads may = record { reads = reads; accepted = ap (λ ds. is_refused ds def) (sym keeps.definitions) ∙ may.accepted }

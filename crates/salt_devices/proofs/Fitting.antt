@@ -11,7 +11,7 @@ use Rattle.salt_decisions.specs.Decisions.{IsDecisions}
 use Rattle.salt_decisions.specs.declared.kept.Kept as log
 use Rattle.salt_stands.specs.Fitting.{kept_in, tables_defined}
 use Rattle.salt_devices.proofs.Sound.{sound_kept}
-use Rattle.salt_devices.specs.Holding.{IsHeld, Keeps}
+use Rattle.salt_devices.specs.Holding.{IsHeld, StoreKeeps}
 use Rattle.salt_devices.specs.Opened.{HoldsFound, IsNewest, IsOpen}
 use Rattle.salt_disk.specs.Disks.{View}
 use Rattle.salt_found.specs.Recovered.{IsRecovered}
@@ -102,7 +102,7 @@ module _ (texts : Texts) (keyed : Keyed) where
             conts = t.conts;
           }
 
-      keeps : Keeps shape rec.c v kept_there
+      keeps : StoreKeeps shape rec.c v kept_there
       keeps = record {
         has_shape = has_shape;
         format = ap (λ (l : CoordinatorLog). l.header.format) own.log_is ∙ log_format;

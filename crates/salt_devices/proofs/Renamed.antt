@@ -8,7 +8,7 @@ use Rattle.salt_commit.specs.Stores.{IsStore, decided_by, reading}
 use Rattle.salt_commit.specs.declared.store.Store.{Store}
 use Rattle.salt_devices.proofs.Renaming.{coordinator_renamed, decided_renamed, decision_renamed, renamed, view_renamed}
 use Rattle.salt_devices.proofs.Stores.{logs_of_store}
-use Rattle.salt_devices.specs.Holding.{IsFresh, IsHeld, IsNewTo, Keeps}
+use Rattle.salt_devices.specs.Holding.{IsFresh, IsHeld, IsNewTo, StoreKeeps}
 use Rattle.salt_disk.specs.Disks.{View}
 use Rattle.salt_codec.specs.declared.prepared.PreparedUnit.{PreparedUnit}
 use Rattle.salt_model.specs.Kept.{Definition, Kept}
@@ -204,7 +204,7 @@ module _ (d : View) (mute : d.told ≡ false) (u : Id) where
       new = λ p low. ap (has_id u) (decided_for_renamed u p c.log.told.decided) ∙ none_renamed u (decided_by c p);
     }
 
-    keeps_renamed : (shape : Shape) (k : Kept) → Keeps shape c v k → Keeps shape (coordinator_renamed u c) (view_renamed u c v) k
+    keeps_renamed : (shape : Shape) (k : Kept) → StoreKeeps shape c v k → StoreKeeps shape (coordinator_renamed u c) (view_renamed u c v) k
     keeps_renamed shape k h = record {
       has_shape = h.has_shape;
       format = h.format;

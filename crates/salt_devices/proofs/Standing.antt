@@ -12,7 +12,7 @@ use Rattle.salt_devices.proofs.Started.{able_on, called, comes_again, leaves_aga
 use Rattle.salt_devices.proofs.Stores.{held_again, held_leaves}
 use Rattle.salt_devices.specs.Holding.{CanStart, FitsNet, HoldsIn, IsAble, IsHeld, IsNewTo, NetFits}
 use Rattle.salt_devices.specs.Leaving.{LeavesEither, LeavesAs, StandsFor}
-use Rattle.salt_devices.specs.Refusing.{Finds, RefusedAs, Refuses}
+use Rattle.salt_devices.specs.Refusing.{FindsKept, RefusedAs, RefusesDevices}
 use Rattle.salt_devices.specs.Remembering.{AreNumbersOf, MayFollow, Remembers, numbers_before, numbers_of}
 use Rattle.salt_devices.specs.Standing.{RestsAs, StandsHeld, StandsLeft, StandsStarted}
 use Rattle.salt_devices.specs.declared.pending.Pending.TheVariants.{Boot, Decision, Lost, Nothing, Opening}
@@ -165,7 +165,7 @@ module _ (shape : Shape) (started : Bool) (o : Option Store) (p : Pending) (d : 
     pub starts : StandsStarted shape true p e
     starts = record { able = able_on shape d e again.shape can.able; settled = settled_again d e again; started_now = refl; opens = opens_again d e again started can.settled p shape can.opens }
 
-    pub found_again : FindsNoMore (Refuses d started shape) (Finds d started shape) (Refuses e true shape) (Finds e true shape)
+    pub found_again : FindsNoMore (RefusesDevices d started shape) (FindsKept d started shape) (RefusesDevices e true shape) (FindsKept e true shape)
     found_again = record {
       refuses_no_more = λ r h. upon_again d e again started can.settled (λ image. RefusedAs shape image r) h;
       finds_no_more = λ k h. upon_again d e again started can.settled (λ image. StandsFor shape image k) h;

@@ -44,12 +44,12 @@ definition_entry text log = Defines (record { number = log.told.decisions + 1; t
 abbrev pub decision_entry : Shape → Id → List Change → Move → CoordinatorLog → CoordinatorEntry
 decision_entry shape u cs m log = Decides (record { number = log.told.decisions + 1; unit = u; mask = mask_of (shares_of shape cs); move = spell_move FORMAT m })
 
-abbrev pub Fills : View → Shape → ToWrite → ℕ → Type 0
-Fills d shape OfOpening dev = StorePassesLimit d shape dev
-Fills d shape OfBoot dev = EntryFills d next_boot dev
-Fills d shape (OfDefinition text) dev = EntryFills d (definition_entry text) dev
-Fills d shape (OfUnit u cs m) dev = EntryFills d (decision_entry shape u cs m) dev ⊎ ShareFills d shape u cs dev
+abbrev pub FillsDevice : View → Shape → ToWrite → ℕ → Type 0
+FillsDevice d shape OfOpening dev = StorePassesLimit d shape dev
+FillsDevice d shape OfBoot dev = EntryFills d next_boot dev
+FillsDevice d shape (OfDefinition text) dev = EntryFills d (definition_entry text) dev
+FillsDevice d shape (OfUnit u cs m) dev = EntryFills d (decision_entry shape u cs m) dev ⊎ ShareFills d shape u cs dev
 
 -- what is to be written would pass the limit of the device; of disks that do not tell their bytes nothing is said
 abbrev pub FillsIn : View → Shape → ToWrite → ℕ → Type 0
-FillsIn d shape w dev = IsTrue d.told → Fills d shape w dev
+FillsIn d shape w dev = IsTrue d.told → FillsDevice d shape w dev

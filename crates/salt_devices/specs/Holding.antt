@@ -40,7 +40,7 @@ pub record CanStart (shape : Shape) (started : Bool) (p : Pending) (d : View) : 
   pub opens : CanOpen p started d shape
 
 -- The coordinator and the partitions keep this, in the newest formats, each row in the partition of its key.
-pub record Keeps (shape : Shape) (c : Coordinator Definition) (v : ℕ → PartView) (k : Kept) : Type 0 where
+pub record StoreKeeps (shape : Shape) (c : Coordinator Definition) (v : ℕ → PartView) (k : Kept) : Type 0 where
   pub has_shape : c.log.header.shape ≡ shape
   pub format : c.log.header.format ≡ 3
   pub nulls : (p : ℕ) → p < partition_count c → has_nulls (v p).log.header.format ≡ true
@@ -57,7 +57,7 @@ pub record IsHeld (d : View) (shape : Shape) (x : Store) (k : Kept) : Type 0 whe
   pub c : Coordinator Definition
   pub v : ℕ → PartView
   pub is : IsStore reading d x which c v
-  pub keeps : Keeps shape c v k
+  pub keeps : StoreKeeps shape c v k
   pub kept : IsSoundKept k
 
 -- the net that commits go over, where they do, rests, and knows no unit of a later boot

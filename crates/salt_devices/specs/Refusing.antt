@@ -24,8 +24,8 @@ pub record ComesUpon (d : View) (started : Bool) (P : (ℕ → List ℕ) → Typ
   pub comes : MayCome d started image
   pub is : P image
 
-abbrev pub Refuses : View → Bool → Shape → OpenErr → Type 0
-Refuses d started shape e = IsTrue d.told → ComesUpon d started (λ image. RefusedAs shape image e)
+abbrev pub RefusesDevices : View → Bool → Shape → OpenErr → Type 0
+RefusesDevices d started shape e = IsTrue d.told → ComesUpon d started (λ image. RefusedAs shape image e)
 
-abbrev pub Finds : View → Bool → Shape → Kept → Type 0
-Finds d started shape k = IsTrue d.told → ComesUpon d started (λ image. StandsFor shape image k)
+abbrev pub FindsKept : View → Bool → Shape → Kept → Type 0
+FindsKept d started shape k = IsTrue d.told → ComesUpon d started (λ image. StandsFor shape image k)

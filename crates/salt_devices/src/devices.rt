@@ -56,7 +56,7 @@ impl Devices {
 impl Storage for Devices {
     ghost use Rattle.salt_devices.specs.Filling.{FillsIn};
     ghost use Rattle.salt_devices.specs.Holding.{CanStart, IsNewWith, net_in, setup_in};
-    ghost use Rattle.salt_devices.specs.Refusing.{Finds, Refuses};
+    ghost use Rattle.salt_devices.specs.Refusing.{FindsKept, RefusesDevices};
     ghost use Rattle.salt_devices.specs.Standing.{RestsAs, StandsHeld, StandsLeft, StandsStarted};
     ghost use Rattle.salt_devices.specs.declared.pending.Pending.TheVariants.{Opening};
 
@@ -76,9 +76,9 @@ impl Storage for Devices {
 
     ghost is_new = { λ d x u. IsNewWith d x.store u };
 
-    ghost refuses = { λ d x e. Refuses d x.started x.shape e };
+    ghost refuses = { λ d x e. RefusesDevices d x.started x.shape e };
 
-    ghost finds = { λ d x k. Finds d x.started x.shape k };
+    ghost finds = { λ d x k. FindsKept d x.started x.shape k };
 
     ghost asked = { λ x. setup_in x.shape x.over_net };
 

@@ -11,7 +11,7 @@ use Rattle.salt_eval.proofs.Points.{filter-alike, point-rows}
 use Rattle.salt_eval.proofs.Selecting.{ShownBy, then-then}
 use Rattle.salt_eval.specs.Effects.{effect_of, ensured, table_effect}
 use Rattle.salt_eval.specs.Filtered.{filtered, kept_by}
-use Rattle.salt_eval.specs.Scans.{Gives, IsKeyed, gathered, range_rows, row_list, statement_err}
+use Rattle.salt_eval.specs.Scans.{GivesMeant, IsKeyed, gathered, range_rows, row_list, statement_err}
 use Rattle.salt_eval.specs.Selects.{shown_of}
 use Rattle.salt_eval.specs.Updating.{with_change, with_update}
 use Rattle.salt_eval.specs.Views.{is_next, rows_after}
@@ -99,9 +99,9 @@ first-of-values vars (e ∷ es) row h = by (value_of (no_row vars) e) (values_of
     by (Ok v) (Ok vs) h = let same : v ∷ vs ≡ row = cc in ap (λ (r : List Value). Ok (key_of r)) same
 
 -- a check fails, and so does what waits for it
-pub check-fails : {A : Type 0} (meant : Result A Cause) (checks : Result Bool Cause) (f : Bool → Result A Cause) (e : EvalErr) (d : StatementErr) (r : Result A StatementErr) → meant ≡ and_then checks f → (told : Result Bool Cause) → checks ≡ told → IsCause e told → r ≡ Err d → d ≡ statement_err e → Gives meant r
-check-fails {A = A} meant checks f (eval.Cause c) d r is told same h got fails = subst (λ (x : Result A StatementErr). Gives meant x) (sym (got ∙ ap Err fails)) (is ∙ ap (λ x. and_then x f) (same ∙ h))
-check-fails {A = A} meant checks f eval.Memory d r is told same h got fails = subst (λ (x : Result A StatementErr). Gives meant x) (sym (got ∙ ap Err fails)) tt
+pub check-fails : {A : Type 0} (meant : Result A Cause) (checks : Result Bool Cause) (f : Bool → Result A Cause) (e : EvalErr) (d : StatementErr) (r : Result A StatementErr) → meant ≡ and_then checks f → (told : Result Bool Cause) → checks ≡ told → IsCause e told → r ≡ Err d → d ≡ statement_err e → GivesMeant meant r
+check-fails {A = A} meant checks f (eval.Cause c) d r is told same h got fails = subst (λ (x : Result A StatementErr). GivesMeant meant x) (sym (got ∙ ap Err fails)) (is ∙ ap (λ x. and_then x f) (same ∙ h))
+check-fails {A = A} meant checks f eval.Memory d r is told same h got fails = subst (λ (x : Result A StatementErr). GivesMeant meant x) (sym (got ∙ ap Err fails)) tt
 
 -- how many changes there are, and the changes
 abbrev pub counted : List Change → Result (Answer × List Change) Cause

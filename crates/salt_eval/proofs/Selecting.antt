@@ -7,7 +7,7 @@ use Rattle.salt_eval.proofs.Collected.{gathered-collected, rows-at_keys}
 use Rattle.salt_eval.proofs.Showing.{best-shown, best_in, columns-shown, count-shown, rows-shown, sum-shown}
 use Rattle.salt_eval.specs.Cells.{AreNumbersOf, cell_at, cells_at}
 use Rattle.salt_eval.specs.Filtered.{filtered}
-use Rattle.salt_eval.specs.Scans.{Gives, IsKeyed, Leaves, gathered, range_rows}
+use Rattle.salt_eval.specs.Scans.{GivesMeant, IsKeyed, LeavesMeant, gathered, range_rows}
 use Rattle.salt_eval.specs.Selects.{Filters, best_what, shown_of, sum_cell}
 use Rattle.salt_eval.specs.Shown.{best_with}
 use Rattle.salt_eval.specs.Views.{rows_after}
@@ -41,20 +41,20 @@ pub record ShownBy {S A : Type 0} (meant : Result A Cause) (got : Result S Cause
 pub when_ok : {S A : Type 0} {meant : Result A Cause} {got : Result S Cause} {finish : S → Result A Cause} → ShownBy meant got finish → (left : S) → got ≡ Ok left → meant ≡ finish left
 when_ok {finish = finish} by left h = by.is ∙ ap (λ r. and_then r finish) h
 
-failed : {S A : Type 0} (meant : Result A Cause) (got : Result S Cause) (finish : S → Result A Cause) (left : S) (e : StatementErr) → meant ≡ and_then got finish → Leaves {A = Unit {0}} got left (Err e) → Gives {A = A} meant (Err e)
+failed : {S A : Type 0} (meant : Result A Cause) (got : Result S Cause) (finish : S → Result A Cause) (left : S) (e : StatementErr) → meant ≡ and_then got finish → LeavesMeant {A = Unit {0}} got left (Err e) → GivesMeant {A = A} meant (Err e)
 failed meant got finish left (Failing c) is h = is ∙ ap (λ r. and_then r finish) h
 failed meant got finish left (View v) is h = tt
 
-pub when_err : {S A : Type 0} {meant : Result A Cause} {got : Result S Cause} {finish : S → Result A Cause} → ShownBy meant got finish → (left : S) (e d : StatementErr) (r : Result A StatementErr) → Leaves {A = Unit {0}} got left (Err e) → r ≡ Err d → d ≡ e → Gives meant r
-when_err {A = A} {meant = meant} {got = got} {finish = finish} by left e d r h is same = subst (λ (x : Result A StatementErr). Gives meant x) (sym (is ∙ ap Err same)) (failed meant got finish left e by.is h)
+pub when_err : {S A : Type 0} {meant : Result A Cause} {got : Result S Cause} {finish : S → Result A Cause} → ShownBy meant got finish → (left : S) (e d : StatementErr) (r : Result A StatementErr) → LeavesMeant {A = Unit {0}} got left (Err e) → r ≡ Err d → d ≡ e → GivesMeant meant r
+when_err {A = A} {meant = meant} {got = got} {finish = finish} by left e d r h is same = subst (λ (x : Result A StatementErr). GivesMeant meant x) (sym (is ∙ ap Err same)) (failed meant got finish left e by.is h)
 
-pub when_fails : {A : Type 0} {meant : Result A Cause} → (c : Cause) → meant ≡ Err c → (d : StatementErr) (r : Result A StatementErr) → r ≡ Err d → d ≡ Failing c → Gives meant r
-when_fails {A = A} {meant = meant} c h d r is same = subst (λ (x : Result A StatementErr). Gives meant x) (sym (is ∙ ap Err same)) h
+pub when_fails : {A : Type 0} {meant : Result A Cause} → (c : Cause) → meant ≡ Err c → (d : StatementErr) (r : Result A StatementErr) → r ≡ Err d → d ≡ Failing c → GivesMeant meant r
+when_fails {A = A} {meant = meant} c h d r is same = subst (λ (x : Result A StatementErr). GivesMeant meant x) (sym (is ∙ ap Err same)) h
 
 -- what is asked for first fails, and so does what is done with it
-pub then-fails : {A B : Type 0} (meant : Result B Cause) (first : Result A Cause) (f : A → Result B Cause) (e d : StatementErr) (r : Result B StatementErr) → meant ≡ and_then first f → Gives {A = A} first (Err e) → r ≡ Err d → d ≡ e → Gives meant r
-then-fails {B = B} meant first f (Failing c) d r is h got same = subst (λ (x : Result B StatementErr). Gives meant x) (sym (got ∙ ap Err same)) (is ∙ ap (λ x. and_then x f) h)
-then-fails {B = B} meant first f (View v) d r is h got same = subst (λ (x : Result B StatementErr). Gives meant x) (sym (got ∙ ap Err same)) tt
+pub then-fails : {A B : Type 0} (meant : Result B Cause) (first : Result A Cause) (f : A → Result B Cause) (e d : StatementErr) (r : Result B StatementErr) → meant ≡ and_then first f → GivesMeant {A = A} first (Err e) → r ≡ Err d → d ≡ e → GivesMeant meant r
+then-fails {B = B} meant first f (Failing c) d r is h got same = subst (λ (x : Result B StatementErr). GivesMeant meant x) (sym (got ∙ ap Err same)) (is ∙ ap (λ x. and_then x f) h)
+then-fails {B = B} meant first f (View v) d r is h got same = subst (λ (x : Result B StatementErr). GivesMeant meant x) (sym (got ∙ ap Err same)) tt
 
 zero-plus : (a : ℤ) → a ≡ pos 0 +ℤ a
 zero-plus a = omega (arith, ints)

@@ -21,26 +21,26 @@ statement_err (eval.Cause c) = Cause c
 statement_err eval.Memory = View Memory
 
 -- an answer tells what is meant, or its cause; want of memory tells nothing
-abbrev pub Tells : {A : Type 0} → Result A cause.Cause → Result A EvalErr → Type 0
-Tells meant result = exprs.Tells exprs.same meant result
+abbrev pub TellsMeant : {A : Type 0} → Result A cause.Cause → Result A EvalErr → Type 0
+TellsMeant meant result = exprs.TellsMeaning exprs.same meant result
 
 -- what takes a row is then what is meant, or its cause is the one that is meant; want of memory tells nothing
-abbrev pub Takes : {S A : Type 0} → Result S cause.Cause → S → Result A EvalErr → Type 0
-Takes meant left (Ok x) = meant ≡ Ok left
-Takes meant left (Err (eval.Cause c)) = meant ≡ Err c
-Takes meant left (Err eval.Memory) = ⊤
+abbrev pub TakesRow : {S A : Type 0} → Result S cause.Cause → S → Result A EvalErr → Type 0
+TakesRow meant left (Ok x) = meant ≡ Ok left
+TakesRow meant left (Err (eval.Cause c)) = meant ≡ Err c
+TakesRow meant left (Err eval.Memory) = ⊤
 
 -- the same of what looks at a view; a fault tells nothing either
-abbrev pub Leaves : {S A : Type 0} → Result S cause.Cause → S → Result A StatementErr → Type 0
-Leaves meant left (Ok x) = meant ≡ Ok left
-Leaves meant left (Err (Cause c)) = meant ≡ Err c
-Leaves meant left (Err (View e)) = ⊤
+abbrev pub LeavesMeant : {S A : Type 0} → Result S cause.Cause → S → Result A StatementErr → Type 0
+LeavesMeant meant left (Ok x) = meant ≡ Ok left
+LeavesMeant meant left (Err (Cause c)) = meant ≡ Err c
+LeavesMeant meant left (Err (View e)) = ⊤
 
 -- an answer gives what is meant, or its cause; a fault and want of memory tell nothing
-abbrev pub Gives : {A : Type 0} → Result A cause.Cause → Result A StatementErr → Type 0
-Gives meant (Ok x) = meant ≡ Ok x
-Gives meant (Err (Cause c)) = meant ≡ Err c
-Gives meant (Err (View e)) = ⊤
+abbrev pub GivesMeant : {A : Type 0} → Result A cause.Cause → Result A StatementErr → Type 0
+GivesMeant meant (Ok x) = meant ≡ Ok x
+GivesMeant meant (Err (Cause c)) = meant ≡ Err c
+GivesMeant meant (Err (View e)) = ⊤
 
 -- a fault where the count rose, and nowhere else
 abbrev pub CountsFaultsOf : {A : Type 0} → (before now : ℕ) → Result A StatementErr → Type 0

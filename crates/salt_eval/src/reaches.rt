@@ -6,7 +6,7 @@ ghost use Rattle.salt_model.specs.Reaches.{first_value, key_reached, range_of, r
 ghost use Rattle.salt_model.specs.declared.events.Cause.{Cause};
 ghost use Rattle.salt_ranges.specs.declared.range.KeyRange.{KeyRange};
 ghost use Rattle.salt_values.specs.declared.value.Value.{Value};
-ghost use Rattle.salt_eval.specs.Scans.{Tells};
+ghost use Rattle.salt_eval.specs.Scans.{TellsMeant};
 
 use salt_ast::{Bound, Expr, Statement};
 use salt_exprs::{EvalErr, value_outside};
@@ -32,7 +32,7 @@ pub fn table_in(statement: &Statement) -> Option<&Name>
 
 /// The range of a bound, or the first cause of its ends.
 pub fn range_of(alloc: Global, vars: &[Binding], bound: &Bound) -> Result<KeyRange, EvalErr>
-    ensures { Tells (range_of vars.now bound.now) result }
+    ensures { TellsMeant (range_of vars.now bound.now) result }
 {
     match bound {
         Bound::All => Ok(KeyRange { lo: None, hi: None }),
@@ -57,7 +57,7 @@ pub fn range_of(alloc: Global, vars: &[Binding], bound: &Bound) -> Result<KeyRan
 
 /// The value of the first expression, which is the key of a new row.
 fn first_value(alloc: Global, vars: &[Binding], exprs: &[Expr]) -> Result<Value, EvalErr>
-    ensures { Tells (first_value vars.now exprs.now) result }
+    ensures { TellsMeant (first_value vars.now exprs.now) result }
 {
     match exprs {
         [first, ..] => value_outside(alloc, vars, first),
@@ -72,7 +72,7 @@ fn key_reached(
     mode: Mode,
     key: Result<Key, EvalErr>,
 ) -> Result<Option<Reach>, AllocError>
-    ensures { (meant : Result Value Cause) → Tells meant key → IfOk result (λ reach. reach ≡ key_reached table mode meant) }
+    ensures { (meant : Result Value Cause) → TellsMeant meant key → IfOk result (λ reach. reach ≡ key_reached table mode meant) }
 {
     match key {
         Ok(lo) => {
@@ -94,7 +94,7 @@ fn range_reached(
     mode: Mode,
     range: Result<KeyRange, EvalErr>,
 ) -> Result<Option<Reach>, AllocError>
-    ensures { (meant : Result KeyRange Cause) → Tells meant range → IfOk result (λ reach. reach ≡ reached table mode meant) }
+    ensures { (meant : Result KeyRange Cause) → TellsMeant meant range → IfOk result (λ reach. reach ≡ reached table mode meant) }
 {
     match range {
         Ok(range) => {

@@ -7,7 +7,7 @@ ghost use Rattle.salt_model.specs.declared.events.Cause.{Cause};
 ghost use Rattle.salt_ranges.specs.declared.range.KeyRange.{KeyRange};
 ghost use Rattle.salt_values.specs.declared.value.Value.{Value};
 ghost use Rattle.salt_eval.specs.Filtered.{filtered, kept_by};
-ghost use Rattle.salt_eval.specs.Scans.{CountsFaultsOf, IsKeyed, Leaves, Takes, gathered, point_of, range_rows, row_list};
+ghost use Rattle.salt_eval.specs.Scans.{CountsFaultsOf, IsKeyed, LeavesMeant, TakesRow, gathered, point_of, range_rows, row_list};
 ghost use Rattle.salt_values.specs.Value.{key_of};
 
 use crate::error::StatementErr;
@@ -24,7 +24,7 @@ pub trait Gather {
 
     /// Takes one more row. After an error it is not used again.
     fn take(&mut self, alloc: Global, row: Row) -> Result<(), EvalErr>
-        ensures { Takes (with_row self.old row) self.new result };
+        ensures { TakesRow (with_row self.old row) self.new result };
 }
 
 /// Takes a row that the filter keeps.
@@ -34,7 +34,7 @@ fn take_kept<G: Gather>(
     gather: &mut G,
     row: Row,
 ) -> Result<(), EvalErr>
-    ensures { Takes (filtered (kept_by filter.now) G.with_row gather.old row) gather.new result }
+    ensures { TakesRow (filtered (kept_by filter.now) G.with_row gather.old row) gather.new result }
 {
     if passes(alloc, filter, row.as_slice())? {
         gather.take(alloc, row)
@@ -72,7 +72,7 @@ fn gather_one<V: RowView, G: Gather>(
     filter: &Option<Resolved<'_>>,
     gather: &mut G,
 ) -> Result<(), StatementErr>
-    ensures gathered { Leaves (gathered (filtered (kept_by filter.now) G.with_row) gather.old (row_list (row_at (place table key.now) (V.tables view.old)))) gather.new result }
+    ensures gathered { LeavesMeant (gathered (filtered (kept_by filter.now) G.with_row) gather.old (row_list (row_at (place table key.now) (V.tables view.old)))) gather.new result }
     ensures kept { V.tables view.new ≡ V.tables view.old }
     ensures source { V.shown_from view.new ≡ V.shown_from view.old }
     ensures faults { CountsFaultsOf (V.faults view.old) (V.faults view.new) result }
@@ -96,7 +96,7 @@ fn gather_all<V: RowView, G: Gather>(
     gather: &mut G,
 ) -> Result<(), StatementErr>
     requires { IsKeyed (V.tables view.old) }
-    ensures gathered { Leaves (gathered (filtered (kept_by filter.now) G.with_row) gather.old (range_rows table range.now (V.tables view.old))) gather.new result }
+    ensures gathered { LeavesMeant (gathered (filtered (kept_by filter.now) G.with_row) gather.old (range_rows table range.now (V.tables view.old))) gather.new result }
     ensures kept { V.tables view.new ≡ V.tables view.old }
     ensures source { V.shown_from view.new ≡ V.shown_from view.old }
     ensures faults { CountsFaultsOf (V.faults view.old) (V.faults view.new) result }
@@ -119,7 +119,7 @@ pub fn scan<V: RowView, G: Gather>(
     gather: &mut G,
 ) -> Result<(), StatementErr>
     requires { IsKeyed (V.tables view.old) }
-    ensures gathered { Leaves (gathered (filtered (kept_by filter.now) G.with_row) gather.old (range_rows table range.now (V.tables view.old))) gather.new result }
+    ensures gathered { LeavesMeant (gathered (filtered (kept_by filter.now) G.with_row) gather.old (range_rows table range.now (V.tables view.old))) gather.new result }
     ensures kept { V.tables view.new ≡ V.tables view.old }
     ensures source { V.shown_from view.new ≡ V.shown_from view.old }
     ensures faults { CountsFaultsOf (V.faults view.old) (V.faults view.new) result }

@@ -5,7 +5,7 @@ ghost use Rattle.salt_ast.specs.declared.trees.Expr.{Expr};
 ghost use Rattle.salt_ast.specs.declared.trees.What.TheVariants.{All, Columns, Count, Sum};
 ghost use Rattle.salt_model.specs.declared.vars.Binding.{Binding};
 ghost use Rattle.salt_eval.specs.Filtered.{kept_by};
-ghost use Rattle.salt_eval.specs.Scans.{CountsFaultsOf, Gives, IsKeyed};
+ghost use Rattle.salt_eval.specs.Scans.{CountsFaultsOf, GivesMeant, IsKeyed};
 ghost use Rattle.salt_eval.specs.Selects.{Filters, best_what, shown_of};
 
 use crate::cells::column_numbers;
@@ -32,7 +32,7 @@ fn whole_rows<V: RowView>(
 ) -> Result<Answer, StatementErr>
     requires { IsKeyed (V.tables view.old) }
     ensures answer { (vars : List Binding) (by : Option Expr) → Filters (kept_by filter.now) def.now vars by
-        → Gives (shown_of table range.now def.now vars by All (V.tables view.old)) result }
+        → GivesMeant (shown_of table range.now def.now vars by All (V.tables view.old)) result }
     ensures kept { V.tables view.new ≡ V.tables view.old }
     ensures source { V.shown_from view.new ≡ V.shown_from view.old }
     ensures faults { CountsFaultsOf (V.faults view.old) (V.faults view.new) result }
@@ -57,7 +57,7 @@ fn column_rows<V: RowView>(
 ) -> Result<Answer, StatementErr>
     requires { IsKeyed (V.tables view.old) }
     ensures answer { (vars : List Binding) (by : Option Expr) → Filters (kept_by filter.now) def.now vars by
-        → Gives (shown_of table range.now def.now vars by (Columns names.now) (V.tables view.old)) result }
+        → GivesMeant (shown_of table range.now def.now vars by (Columns names.now) (V.tables view.old)) result }
     ensures kept { V.tables view.new ≡ V.tables view.old }
     ensures source { V.shown_from view.new ≡ V.shown_from view.old }
     ensures faults { CountsFaultsOf (V.faults view.old) (V.faults view.new) result }
@@ -83,7 +83,7 @@ fn row_count<V: RowView>(
 ) -> Result<Answer, StatementErr>
     requires { IsKeyed (V.tables view.old) }
     ensures answer { (vars : List Binding) (by : Option Expr) → Filters (kept_by filter.now) def.now vars by
-        → Gives (shown_of table range.now def.now vars by Count (V.tables view.old)) result }
+        → GivesMeant (shown_of table range.now def.now vars by Count (V.tables view.old)) result }
     ensures kept { V.tables view.new ≡ V.tables view.old }
     ensures source { V.shown_from view.new ≡ V.shown_from view.old }
     ensures faults { CountsFaultsOf (V.faults view.old) (V.faults view.new) result }
@@ -105,7 +105,7 @@ fn column_sum<V: RowView>(
 ) -> Result<Answer, StatementErr>
     requires { IsKeyed (V.tables view.old) }
     ensures answer { (vars : List Binding) (by : Option Expr) → Filters (kept_by filter.now) def.now vars by
-        → Gives (shown_of table range.now def.now vars by (Sum name.now) (V.tables view.old)) result }
+        → GivesMeant (shown_of table range.now def.now vars by (Sum name.now) (V.tables view.old)) result }
     ensures kept { V.tables view.new ≡ V.tables view.old }
     ensures source { V.shown_from view.new ≡ V.shown_from view.old }
     ensures faults { CountsFaultsOf (V.faults view.old) (V.faults view.new) result }
@@ -131,7 +131,7 @@ fn best_cell<V: RowView>(
 ) -> Result<Answer, StatementErr>
     requires { IsKeyed (V.tables view.old) }
     ensures answer { (vars : List Binding) (by : Option Expr) → Filters (kept_by filter.now) def.now vars by
-        → Gives (shown_of table range.now def.now vars by (best_what is_greatest name.now) (V.tables view.old)) result }
+        → GivesMeant (shown_of table range.now def.now vars by (best_what is_greatest name.now) (V.tables view.old)) result }
     ensures kept { V.tables view.new ≡ V.tables view.old }
     ensures source { V.shown_from view.new ≡ V.shown_from view.old }
     ensures faults { CountsFaultsOf (V.faults view.old) (V.faults view.new) result }
@@ -158,7 +158,7 @@ pub fn show<V: RowView>(
 ) -> Result<Answer, StatementErr>
     requires { IsKeyed (V.tables view.old) }
     ensures answer { (vars : List Binding) (by : Option Expr) → Filters (kept_by filter.now) def.now vars by
-        → Gives (shown_of table range.now def.now vars by what.now (V.tables view.old)) result }
+        → GivesMeant (shown_of table range.now def.now vars by what.now (V.tables view.old)) result }
     ensures kept { V.tables view.new ≡ V.tables view.old }
     ensures source { V.shown_from view.new ≡ V.shown_from view.old }
     ensures faults { CountsFaultsOf (V.faults view.old) (V.faults view.new) result }

@@ -4,7 +4,7 @@ ghost use Rattle.std.specs.Prelude.{◌≡◌, ℕ, IfOk, List};
 ghost use Rattle.salt_ast.specs.declared.trees.Statement.TheVariants.{Delete, Insert, Select, SelectInto, Update};
 ghost use Rattle.salt_model.specs.Statements.{outcome_of};
 ghost use Rattle.salt_eval.specs.Effects.{IsEffect, attempted, ensured, table_effect};
-ghost use Rattle.salt_eval.specs.Scans.{CountsFaultsOf, Gives, IsKeyed};
+ghost use Rattle.salt_eval.specs.Scans.{CountsFaultsOf, GivesMeant, IsKeyed};
 ghost use Rattle.salt_eval.specs.Views.{CountsFaults};
 
 use crate::cells::cell;
@@ -36,7 +36,7 @@ fn insert<V: RowView>(
     vars: &[Binding],
     values: &[Expr],
 ) -> Result<Effect, StatementErr>
-    ensures done { (name : List ℕ) → Gives (table_effect table def.now vars.now (Insert name values.now) (V.tables view.old)) result }
+    ensures done { (name : List ℕ) → GivesMeant (table_effect table def.now vars.now (Insert name values.now) (V.tables view.old)) result }
     ensures kept { V.tables view.new ≡ V.tables view.old }
     ensures source { V.shown_from view.new ≡ V.shown_from view.old }
     ensures faults { CountsFaultsOf (V.faults view.old) (V.faults view.new) result }
@@ -71,7 +71,7 @@ fn select_into<V: RowView>(
     column: &Name,
     key: &Expr,
 ) -> Result<Effect, StatementErr>
-    ensures done { (name var : List ℕ) → Gives (table_effect table def.now vars.now (SelectInto column.now var name key.now) (V.tables view.old)) result }
+    ensures done { (name var : List ℕ) → GivesMeant (table_effect table def.now vars.now (SelectInto column.now var name key.now) (V.tables view.old)) result }
     ensures kept { V.tables view.new ≡ V.tables view.old }
     ensures source { V.shown_from view.new ≡ V.shown_from view.old }
     ensures faults { CountsFaultsOf (V.faults view.old) (V.faults view.new) result }
@@ -96,7 +96,7 @@ fn select<V: RowView>(
     rows: &Scan,
 ) -> Result<Effect, StatementErr>
     requires { IsKeyed (V.tables view.old) }
-    ensures done { (name : List ℕ) → Gives (table_effect table def.now vars.now (Select what.now name rows.now) (V.tables view.old)) result }
+    ensures done { (name : List ℕ) → GivesMeant (table_effect table def.now vars.now (Select what.now name rows.now) (V.tables view.old)) result }
     ensures kept { V.tables view.new ≡ V.tables view.old }
     ensures source { V.shown_from view.new ≡ V.shown_from view.old }
     ensures faults { CountsFaultsOf (V.faults view.old) (V.faults view.new) result }
@@ -118,7 +118,7 @@ fn update<V: RowView>(
     rows: &Scan,
 ) -> Result<Effect, StatementErr>
     requires { IsKeyed (V.tables view.old) }
-    ensures done { (name : List ℕ) → Gives (table_effect table def.now vars.now (Update name sets.now rows.now) (V.tables view.old)) result }
+    ensures done { (name : List ℕ) → GivesMeant (table_effect table def.now vars.now (Update name sets.now rows.now) (V.tables view.old)) result }
     ensures kept { V.tables view.new ≡ V.tables view.old }
     ensures source { V.shown_from view.new ≡ V.shown_from view.old }
     ensures faults { CountsFaultsOf (V.faults view.old) (V.faults view.new) result }
@@ -147,7 +147,7 @@ fn delete<V: RowView>(
     rows: &Scan,
 ) -> Result<Effect, StatementErr>
     requires { IsKeyed (V.tables view.old) }
-    ensures done { (name : List ℕ) → Gives (table_effect table def.now vars.now (Delete name rows.now) (V.tables view.old)) result }
+    ensures done { (name : List ℕ) → GivesMeant (table_effect table def.now vars.now (Delete name rows.now) (V.tables view.old)) result }
     ensures kept { V.tables view.new ≡ V.tables view.old }
     ensures source { V.shown_from view.new ≡ V.shown_from view.old }
     ensures faults { CountsFaultsOf (V.faults view.old) (V.faults view.new) result }
@@ -165,7 +165,7 @@ fn delete<V: RowView>(
 
 /// Asks whether a condition holds.
 fn ensure(alloc: Global, vars: &[Binding], condition: &Expr) -> Result<Effect, StatementErr>
-    ensures done { Gives (ensured vars.now condition.now) result }
+    ensures done { GivesMeant (ensured vars.now condition.now) result }
     ensures faults { (count : ℕ) → CountsFaultsOf count count result }
 {
     if condition_outside(alloc, vars, condition)? {
@@ -185,7 +185,7 @@ fn attempt_in<V: RowView>(
     statement: &Statement,
 ) -> Result<Effect, StatementErr>
     requires { IsKeyed (V.tables view.old) }
-    ensures done { Gives (table_effect table def.now vars.now statement.now (V.tables view.old)) result }
+    ensures done { GivesMeant (table_effect table def.now vars.now statement.now (V.tables view.old)) result }
     ensures kept { V.tables view.new ≡ V.tables view.old }
     ensures source { V.shown_from view.new ≡ V.shown_from view.old }
     ensures faults { CountsFaultsOf (V.faults view.old) (V.faults view.new) result }
@@ -215,7 +215,7 @@ fn attempt<V: RowView>(
     statement: &Statement,
 ) -> Result<Effect, StatementErr>
     requires { IsKeyed (V.tables view.old) }
-    ensures done { Gives (attempted schema.now vars.now statement.now (V.tables view.old)) result }
+    ensures done { GivesMeant (attempted schema.now vars.now statement.now (V.tables view.old)) result }
     ensures kept { V.tables view.new ≡ V.tables view.old }
     ensures source { V.shown_from view.new ≡ V.shown_from view.old }
     ensures faults { CountsFaultsOf (V.faults view.old) (V.faults view.new) result }

@@ -29,9 +29,9 @@ IsCause (Cause c) m = m ≡ Err c
 IsCause Memory m = ⊤
 
 -- an answer tells what is meant: its value, or its cause, unless memory ran out
-abbrev pub Tells : {A B : Type 0} → (A → B) → Result B cause.Cause → Result A EvalErr → Type 0
-Tells f m (Ok x) = m ≡ Ok (f x)
-Tells f m (Err e) = IsCause e m
+abbrev pub TellsMeaning : {A B : Type 0} → (A → B) → Result B cause.Cause → Result A EvalErr → Type 0
+TellsMeaning f m (Ok x) = m ≡ Ok (f x)
+TellsMeaning f m (Err e) = IsCause e m
 
 abbrev pub same : {A : Type 0} → A → A
 same x = x

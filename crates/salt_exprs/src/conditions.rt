@@ -1,7 +1,7 @@
 //! What a row has to meet: the filter of a statement and the checks of a table.
 
 ghost use Rattle.std.specs.Prelude.{[], IfOk};
-ghost use Rattle.salt_exprs.specs.Operands.{Tells, passing, same};
+ghost use Rattle.salt_exprs.specs.Operands.{TellsMeaning, passing, same};
 ghost use Rattle.salt_exprs.specs.Resolving.{ResolvesFilter, resolved_passes, visible};
 ghost use Rattle.salt_model.specs.Statements.{checked};
 
@@ -30,7 +30,7 @@ pub fn resolve_filter<'a>(
 
 /// Whether a filter, if there is one, is true of a row, and neither false nor unknown; or its first cause.
 pub fn passes(alloc: Global, filter: &Option<Resolved<'_>>, row: &[Value]) -> Result<bool, EvalErr>
-    ensures { Tells same (resolved_passes row.now filter.now) result }
+    ensures { TellsMeaning same (resolved_passes row.now filter.now) result }
 {
     match filter {
         Some(filter) => filter.holds(alloc, row),
@@ -46,7 +46,7 @@ pub fn check(
     checks: &[Expr],
     row: &[Value],
 ) -> Result<(), EvalErr>
-    ensures { Tells passing (checked (visible columns.now row.now []) checks.now) result }
+    ensures { TellsMeaning passing (checked (visible columns.now row.now []) checks.now) result }
 {
     for check in checks {
         let truth = truth_in_row(alloc, columns, row, &[], check)?;

@@ -3,7 +3,7 @@
 
 ghost use Rattle.std.specs.Prelude.{◌≡◌, Ok};
 ghost use Rattle.salt_model.specs.Eval.{eval, known, named_values, truth_of, value_named, value_of};
-ghost use Rattle.salt_exprs.specs.Operands.{Tells, datum_of, same, truth_meant};
+ghost use Rattle.salt_exprs.specs.Operands.{TellsMeaning, datum_of, same, truth_meant};
 ghost use Rattle.salt_exprs.specs.Resolving.{visible};
 
 use crate::error::EvalErr;
@@ -43,7 +43,7 @@ fn operand_in_row<'r>(
     vars: &'r [Binding],
     expr: &'r Expr,
 ) -> Result<Operand<'r>, EvalErr>
-    ensures { Tells datum_of (eval (visible columns.now row.now vars.now) expr.now) result }
+    ensures { TellsMeaning datum_of (eval (visible columns.now row.now vars.now) expr.now) result }
 {
     match expr {
         Expr::Lit(value) => Ok(Operand::Lent(value)),
@@ -79,7 +79,7 @@ pub fn value_in_row(
     vars: &[Binding],
     expr: &Expr,
 ) -> Result<Value, EvalErr>
-    ensures { Tells same (value_of (visible columns.now row.now vars.now) expr.now) result }
+    ensures { TellsMeaning same (value_of (visible columns.now row.now vars.now) expr.now) result }
 {
     match operand_in_row(alloc, columns, row, vars, expr)? {
         Operand::Lent(value) => Ok(value.copy(alloc)?),
@@ -96,7 +96,7 @@ pub fn truth_in_row(
     vars: &[Binding],
     condition: &Expr,
 ) -> Result<Truth, EvalErr>
-    ensures { Tells truth_meant (truth_of (visible columns.now row.now vars.now) condition.now) result }
+    ensures { TellsMeaning truth_meant (truth_of (visible columns.now row.now vars.now) condition.now) result }
 {
     match operand_in_row(alloc, columns, row, vars, condition)? {
         Operand::Holds(truth) => Ok(truth),

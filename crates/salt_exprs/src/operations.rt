@@ -3,7 +3,7 @@
 ghost use Rattle.std.specs.Prelude.{◌≡◌, ◌+ℤ◌, ◌-ℤ◌, ◌*ℤ◌, ◌++◌, Ok, false};
 ghost use Rattle.salt_model.specs.Eval.{Gives, int_or_overflow, joined, of_null, of_values, text_or_too_long, with_value};
 ghost use Rattle.salt_values.specs.Value.{is_null};
-ghost use Rattle.salt_exprs.specs.Operands.{Tells, datum_of, is_decided, operated, truth_meant};
+ghost use Rattle.salt_exprs.specs.Operands.{TellsMeaning, datum_of, is_decided, operated, truth_meant};
 ghost use Rattle.salt_ast.specs.declared.trees.Op.TheVariants.{Add, Join, Mul, Sub};
 
 use crate::error::EvalErr;
@@ -15,7 +15,7 @@ use salt_values::{Text, TextErr, Value};
 use std::alloc::Global;
 
 fn sum<'r>(left: i64, right: i64) -> Result<Operand<'r>, EvalErr>
-    ensures { Tells datum_of (int_or_overflow (left +ℤ right)) result }
+    ensures { TellsMeaning datum_of (int_or_overflow (left +ℤ right)) result }
 {
     match left.checked_add(right) {
         Some(number) => Ok(Operand::Made(Value::Int(number))),
@@ -24,7 +24,7 @@ fn sum<'r>(left: i64, right: i64) -> Result<Operand<'r>, EvalErr>
 }
 
 fn difference<'r>(left: i64, right: i64) -> Result<Operand<'r>, EvalErr>
-    ensures { Tells datum_of (int_or_overflow (left -ℤ right)) result }
+    ensures { TellsMeaning datum_of (int_or_overflow (left -ℤ right)) result }
 {
     match left.checked_sub(right) {
         Some(number) => Ok(Operand::Made(Value::Int(number))),
@@ -33,7 +33,7 @@ fn difference<'r>(left: i64, right: i64) -> Result<Operand<'r>, EvalErr>
 }
 
 fn product<'r>(left: i64, right: i64) -> Result<Operand<'r>, EvalErr>
-    ensures { Tells datum_of (int_or_overflow (left *ℤ right)) result }
+    ensures { TellsMeaning datum_of (int_or_overflow (left *ℤ right)) result }
 {
     match left.checked_mul(right) {
         Some(number) => Ok(Operand::Made(Value::Int(number))),
@@ -43,7 +43,7 @@ fn product<'r>(left: i64, right: i64) -> Result<Operand<'r>, EvalErr>
 
 /// Two texts, one behind the other: `TooLong` where they are more than a text holds.
 fn joined_texts<'r>(alloc: Global, left: &Text, right: &Text) -> Result<Operand<'r>, EvalErr>
-    ensures { Tells datum_of (text_or_too_long (left.now ++ right.now)) result }
+    ensures { TellsMeaning datum_of (text_or_too_long (left.now ++ right.now)) result }
 {
     let mut bytes = Vec::new(alloc);
     bytes.extend_from_slice(left.as_bytes())?;
@@ -56,7 +56,7 @@ fn joined_texts<'r>(alloc: Global, left: &Text, right: &Text) -> Result<Operand<
 }
 
 fn added<'r>(left: &Value, right: &Value) -> Result<Operand<'r>, EvalErr>
-    ensures { Tells datum_of (of_values Add left.now right.now) result }
+    ensures { TellsMeaning datum_of (of_values Add left.now right.now) result }
 {
     match (left, right) {
         (Value::Int(left), Value::Int(right)) => sum(*left, *right),
@@ -68,7 +68,7 @@ fn added<'r>(left: &Value, right: &Value) -> Result<Operand<'r>, EvalErr>
 }
 
 fn subtracted<'r>(left: &Value, right: &Value) -> Result<Operand<'r>, EvalErr>
-    ensures { Tells datum_of (of_values Sub left.now right.now) result }
+    ensures { TellsMeaning datum_of (of_values Sub left.now right.now) result }
 {
     match (left, right) {
         (Value::Int(left), Value::Int(right)) => difference(*left, *right),
@@ -80,7 +80,7 @@ fn subtracted<'r>(left: &Value, right: &Value) -> Result<Operand<'r>, EvalErr>
 }
 
 fn multiplied<'r>(left: &Value, right: &Value) -> Result<Operand<'r>, EvalErr>
-    ensures { Tells datum_of (of_values Mul left.now right.now) result }
+    ensures { TellsMeaning datum_of (of_values Mul left.now right.now) result }
 {
     match (left, right) {
         (Value::Int(left), Value::Int(right)) => product(*left, *right),
@@ -92,7 +92,7 @@ fn multiplied<'r>(left: &Value, right: &Value) -> Result<Operand<'r>, EvalErr>
 }
 
 fn joined_values<'r>(alloc: Global, left: &Value, right: &Value) -> Result<Operand<'r>, EvalErr>
-    ensures { Tells datum_of (of_values Join left.now right.now) result }
+    ensures { TellsMeaning datum_of (of_values Join left.now right.now) result }
 {
     match (left, right) {
         (Value::Text(left), Value::Text(right)) => joined_texts(alloc, left, right),
@@ -105,7 +105,7 @@ fn joined_values<'r>(alloc: Global, left: &Value, right: &Value) -> Result<Opera
 
 /// An operation on two values that are not NULL.
 fn of_values<'r>(alloc: Global, op: Op, left: &Value, right: &Value) -> Result<Operand<'r>, EvalErr>
-    ensures { Tells datum_of (of_values op left.now right.now) result }
+    ensures { TellsMeaning datum_of (of_values op left.now right.now) result }
 {
     match op {
         Op::Equal => Ok(told(left == right)),
@@ -144,7 +144,7 @@ fn of_null<'r>(op: Op) -> Operand<'r>
 }
 
 fn of_both<'r>(alloc: Global, op: Op, left: &Value, right: &Value) -> Result<Operand<'r>, EvalErr>
-    ensures { Tells datum_of (with_value op left.now (Gives right.now)) result }
+    ensures { TellsMeaning datum_of (with_value op left.now (Gives right.now)) result }
 {
     if is_null(left) || is_null(right) {
         Ok(of_null(op))
@@ -159,7 +159,7 @@ fn with_value<'r>(
     left: &Value,
     right: &Operand<'_>,
 ) -> Result<Operand<'r>, EvalErr>
-    ensures { Tells datum_of (with_value op left.now (datum_of right.now)) result }
+    ensures { TellsMeaning datum_of (with_value op left.now (datum_of right.now)) result }
 {
     match right {
         Operand::Lent(right) => of_both(alloc, op, left, right),
@@ -228,7 +228,7 @@ pub fn operate<'r>(
     left: &Operand<'_>,
     right: &Operand<'_>,
 ) -> Result<Operand<'r>, EvalErr>
-    ensures { Tells datum_of (operated op (datum_of left.now) (datum_of right.now)) result }
+    ensures { TellsMeaning datum_of (operated op (datum_of left.now) (datum_of right.now)) result }
 {
     match left {
         Operand::Lent(left) => with_value(alloc, op, left, right),

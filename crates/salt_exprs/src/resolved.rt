@@ -1,7 +1,7 @@
 //! Expressions whose names are found.
 
 ghost use Rattle.std.specs.Prelude.{◌≡◌, IfOk};
-ghost use Rattle.salt_exprs.specs.Operands.{Tells, datum_of, same, truth_meant};
+ghost use Rattle.salt_exprs.specs.Operands.{TellsMeaning, datum_of, same, truth_meant};
 ghost use Rattle.salt_exprs.specs.Resolving.{Resolves, eval_resolved, negation, null_test, operation, resolved_holds, resolved_truth, resolved_value};
 ghost use Rattle.salt_ast.specs.declared.trees.Expr.{Column, Variable};
 
@@ -40,7 +40,7 @@ pub enum Resolved<'a> {
 
 impl<'a> Resolved<'a> {
     fn operand<'r>(&'r self, alloc: Global, row: &'r [Value]) -> Result<Operand<'r>, EvalErr>
-        ensures { Tells datum_of (eval_resolved row.now self.now) result }
+        ensures { TellsMeaning datum_of (eval_resolved row.now self.now) result }
     {
         match self {
             Resolved::Given(value) => Ok(Operand::Lent(value)),
@@ -70,7 +70,7 @@ impl<'a> Resolved<'a> {
 
     /// Its value in a row, or the first cause from left to right.
     pub fn value(&self, alloc: Global, row: &[Value]) -> Result<Value, EvalErr>
-        ensures { Tells same (resolved_value row.now self.now) result }
+        ensures { TellsMeaning same (resolved_value row.now self.now) result }
     {
         match self.operand(alloc, row)? {
             Operand::Lent(value) => Ok(value.copy(alloc)?),
@@ -81,7 +81,7 @@ impl<'a> Resolved<'a> {
 
     /// Its truth value in a row, or the first cause from left to right.
     pub fn truth(&self, alloc: Global, row: &[Value]) -> Result<Truth, EvalErr>
-        ensures { Tells truth_meant (resolved_truth row.now self.now) result }
+        ensures { TellsMeaning truth_meant (resolved_truth row.now self.now) result }
     {
         match self.operand(alloc, row)? {
             Operand::Holds(truth) => Ok(truth),
@@ -92,7 +92,7 @@ impl<'a> Resolved<'a> {
 
     /// Whether it is true in a row, and neither false nor unknown, or the first cause from left to right.
     pub fn holds(&self, alloc: Global, row: &[Value]) -> Result<bool, EvalErr>
-        ensures { Tells same (resolved_holds row.now self.now) result }
+        ensures { TellsMeaning same (resolved_holds row.now self.now) result }
     {
         Ok(self.truth(alloc, row)?.is_yes())
     }

@@ -1,7 +1,7 @@
 //! What an update sets.
 
 ghost use Rattle.std.specs.Prelude.{[], ◌∷◌, ◌≡◌, OnOk, if◌then◌else◌, slice_set};
-ghost use Rattle.salt_exprs.specs.Operands.{Tells, same};
+ghost use Rattle.salt_exprs.specs.Operands.{TellsMeaning, same};
 ghost use Rattle.salt_model.specs.Reaches.{in_row};
 ghost use Rattle.salt_model.specs.Statements.{set_field, with_sets};
 
@@ -54,7 +54,7 @@ fn row_after_one(
     set: &Set,
     mut row: Row,
 ) -> Result<Row, EvalErr>
-    ensures { Tells same (with_sets def.now (in_row def.now row vars.now) (set.now ∷ []) row) result }
+    ensures { TellsMeaning same (with_sets def.now (in_row def.now row vars.now) (set.now ∷ []) row) result }
 {
     let columns = def.columns.as_slice();
     let value = value_in_row(alloc, columns, row.as_slice(), vars, &set.value)?;
@@ -70,7 +70,7 @@ fn row_after_each(
     sets: &[Set],
     old: &Row,
 ) -> Result<Row, EvalErr>
-    ensures { Tells same (with_sets def.now (in_row def.now old.now vars.now) sets.now old.now) result }
+    ensures { TellsMeaning same (with_sets def.now (in_row def.now old.now vars.now) sets.now old.now) result }
 {
     let columns = def.columns.as_slice();
     let mut row = old.copy(alloc)?;
@@ -90,7 +90,7 @@ pub fn row_after(
     sets: &[Set],
     row: Row,
 ) -> Result<Row, EvalErr>
-    ensures { Tells same (with_sets def.now (in_row def.now row vars.now) sets.now row) result }
+    ensures { TellsMeaning same (with_sets def.now (in_row def.now row vars.now) sets.now row) result }
 {
     if sets.len() == 1 {
         return row_after_one(alloc, def, vars, &sets[0], row);

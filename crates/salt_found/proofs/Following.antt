@@ -12,7 +12,7 @@ use Rattle.salt_decisions.specs.declared.kept.Kept.{Kept}
 use Rattle.salt_stands.specs.Fitting.{is_cont_of, programs_defined}
 use Rattle.salt_found.specs.Conts.{OpensConts, fits_header, fits_kept, fits_move, follow, followed, is_booted, open_conts_of}
 use Rattle.salt_found.specs.Definitions.{reading}
-use Rattle.salt_found.specs.Moves.{Follows}
+use Rattle.salt_found.specs.Moves.{LeavesConts}
 use Rattle.salt_found.specs.declared.error.ContErr.TheVariants.{Memory, NotMove}
 use Rattle.salt_found.specs.declared.error.ContErr.{ContErr}
 use Rattle.salt_model.specs.Kept.{Definition, cont_in}
@@ -167,7 +167,7 @@ module _ (ps : List ProgramDef) (k : Kept) (i : ℕ) (conts : List Cont) (so_far
 module _ (ps : List ProgramDef) (k : Kept) (i : ℕ) (conts : List Cont) (so_far : FollowedTo ps k i conts) where
   -- the move of an item
   pub one_fails : (items : List (List ℕ)) → items ≡ k.moves → (item : List ℕ) → i < length items → item ≡ get_or items i item → (mv : List ℕ) → mv ≡ item → (e : ContErr) (more : List Cont)
-      → Follows {A = ⊤} (Err e) more (follow ps k (move_in k.format mv) conts) → OpensConts (Err e) (option_and_then (then_some (fits_header ps k)) (followed ps k (Some k.conts) k.moves))
+      → LeavesConts {A = ⊤} (Err e) more (follow ps k (move_in k.format mv) conts) → OpensConts (Err e) (option_and_then (then_some (fits_header ps k)) (followed ps k (Some k.conts) k.moves))
   one_fails items all item low here mv same Memory more fails = tt
   one_fails items all item low here mv same NotMove more fails =
       ap (option_and_then (then_some (fits_header ps k)))

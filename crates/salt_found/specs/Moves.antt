@@ -6,7 +6,7 @@ use Rattle.salt_values.specs.declared.cont.Cont.{Cont}
 use Rattle.std.specs.Prelude.{Err, List, None, Ok, Option, Result, Some, true, ⊤, ◌≡◌}
 
 -- these continuations are left, and they rise
-abbrev pub Follows : {A : Type 0} → Result A ContErr → List Cont → Option (List Cont) → Type 0
-Follows (Ok x) conts going = (going ≡ Some conts) × (do_rise conts ≡ true)
-Follows (Err NotMove) conts going = going ≡ None
-Follows (Err Memory) conts going = ⊤
+abbrev pub LeavesConts : {A : Type 0} → Result A ContErr → List Cont → Option (List Cont) → Type 0
+LeavesConts (Ok x) conts going = (going ≡ Some conts) × (do_rise conts ≡ true)
+LeavesConts (Err NotMove) conts going = going ≡ None
+LeavesConts (Err Memory) conts going = ⊤

@@ -1,7 +1,7 @@
 //! Whether a move may be made of the open continuations.
 
 ghost use Rattle.salt_found.specs.Conts.{fits_move, follow};
-ghost use Rattle.salt_found.specs.Moves.{Follows};
+ghost use Rattle.salt_found.specs.Moves.{LeavesConts};
 ghost use Rattle.salt_bytes.specs.Conts.{move_in};
 ghost use Rattle.salt_model.specs.Kept.{cont_in};
 ghost use Rattle.salt_stands.specs.OpenConts.{do_rise, go_to, is_accepted_before, make_move};
@@ -78,7 +78,7 @@ pub fn follow(
     conts: &mut Conts,
     mv: &[u8],
 ) -> Result<(), ContErr>
-    ensures { do_rise conts.old ≡ true → Follows result conts.new (follow catalogue.now kept.now (move_in kept.now.format mv.now) conts.old) }
+    ensures { do_rise conts.old ≡ true → LeavesConts result conts.new (follow catalogue.now kept.now (move_in kept.now.format mv.now) conts.old) }
 {
     let Some(made) = take_move(alloc, kept.format, mv)? else {
         return Err(ContErr::NotMove);

@@ -15,25 +15,25 @@ use Rattle.salt_model.specs.Words.{first_of_list}
 use Rattle.salt_model.specs.declared.events.Event.{Event}
 use Rattle.salt_values.specs.declared.id.Id.{Id}
 use Rattle.salt_values.specs.Id.{in_order}
-use Rattle.salt_verdict.specs.Ledger.{AreFaithful, Holds, amiss_by, dishonest_by, unfaithful_by, unfaithful_in}
+use Rattle.salt_verdict.specs.Ledger.{AreFaithful, HoldsTrace, amiss_by, dishonest_by, unfaithful_by, unfaithful_in}
 use Rattle.std.proofs.Common.{List, None, Option, Some, [], ap, option_map, refl, sym, true, ◌++◌, ◌∙◌, ◌∷◌, ◌≡◌}
 use Rattle.std.specs.Option.{option_or}
 
 -- what the steps and their laws say
 pub record Known (old new : Judge) (e : Event) : Type 0 where
-  pub formed : (trace : Trace) → Holds old.ledger trace → is_formed_by trace e ≡ true
-  pub ledger : (trace : Trace) → Holds old.ledger trace → is_formed_by trace e ≡ true → Holds new.ledger (told trace e)
-  pub reads : (trace : Trace) → Holds old.ledger trace → HoldsReads old.reads trace → is_formed_by trace e ≡ true → HoldsReads new.reads (told trace e)
-  pub meetings : (trace : Trace) → Holds old.ledger trace → HoldsReads new.reads (told trace e) → HoldsMeetings old.meetings trace → is_formed_by trace e ≡ true →
+  pub formed : (trace : Trace) → HoldsTrace old.ledger trace → is_formed_by trace e ≡ true
+  pub ledger : (trace : Trace) → HoldsTrace old.ledger trace → is_formed_by trace e ≡ true → HoldsTrace new.ledger (told trace e)
+  pub reads : (trace : Trace) → HoldsTrace old.ledger trace → HoldsReads old.reads trace → is_formed_by trace e ≡ true → HoldsReads new.reads (told trace e)
+  pub meetings : (trace : Trace) → HoldsTrace old.ledger trace → HoldsReads new.reads (told trace e) → HoldsMeetings old.meetings trace → is_formed_by trace e ≡ true →
       HoldsMeetings new.meetings (told trace e)
   pub settled : AreSettled old.ledger old.reads old.settled → AreSettled new.ledger new.reads old.settled
   pub searched : AreSettled new.ledger new.reads old.settled → AreSettled new.ledger new.reads new.settled
   pub changes : AreFaithful old.ledger → unfaithful_in new.ledger ≡ unfaithful_by e new.ledger
-  pub honest : (trace : Trace) → Holds old.ledger trace → is_formed_by trace e ≡ true → Holds new.ledger (told trace e) → dishonest_by old.ledger new.ledger e ≡ dishonest trace e
+  pub honest : (trace : Trace) → HoldsTrace old.ledger trace → is_formed_by trace e ≡ true → HoldsTrace new.ledger (told trace e) → dishonest_by old.ledger new.ledger e ≡ dishonest trace e
 
 -- what is known of a trace behind an event, whatever it breaks
 pub record Told (new : Judge) (trace : Trace) : Type 0 where
-  pub ledger : Holds new.ledger trace
+  pub ledger : HoldsTrace new.ledger trace
   pub reads : HoldsReads new.reads trace
   pub meetings : HoldsMeetings new.meetings trace
 

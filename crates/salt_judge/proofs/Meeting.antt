@@ -29,7 +29,7 @@ use Rattle.salt_values.specs.declared.id.Id.{Id}
 use Rattle.salt_verdict.proofs.Active.{does_open, ends_open, may, new_unit}
 use Rattle.salt_verdict.proofs.Going.{run_same}
 use Rattle.salt_judge.proofs.Reading.{program_same}
-use Rattle.salt_verdict.specs.Ledger.{Holds}
+use Rattle.salt_verdict.specs.Ledger.{HoldsTrace}
 use Rattle.salt_judge.specs.Meetings.{HasBegun, HoldsMeetings, IsMetAfter, committed_by, counted, counts, counts_met, has_committed, is_commit, is_ending, is_given_up, is_live, live, met_as, met_by, met_of, met_told, taken_by, touch_told, touches_of, unwhole_by}
 use Rattle.salt_judge.specs.ReadAfter.{reach_by}
 use Rattle.salt_judge.specs.Reads.{HoldsReads, is_free, program_in}
@@ -210,7 +210,7 @@ listed : (a : Id) (ts : List Touch) → map (law_met a) (map touch_told ts) ≡ 
 listed a [] = refl
 listed a (t ∷ ts) = ap (λ (ms : List law.Meeting). met_told (met_as a t) ∷ ms) (listed a ts)
 
-module _ (l : Ledger) (s : Reads) (m : Meetings) (trace : Trace) (h : Holds l trace) (w : HoldsMeetings m trace) where
+module _ (l : Ledger) (s : Reads) (m : Meetings) (trace : Trace) (h : HoldsTrace l trace) (w : HoldsMeetings m trace) where
   abbrev unreleased : locks.Taken → Bool
   unreleased t = law.is_unreleased trace (program_of t.unit trace)
 

@@ -28,7 +28,7 @@ use Rattle.salt_verdict.proofs.Active.{does_open, ends_open, new_unit}
 use Rattle.salt_verdict.proofs.Going.{kind_noted, kind_same, run_same}
 use Rattle.salt_audit.proofs.Marking.{or_group}
 use Rattle.salt_verdict.proofs.Listed.{begun_listed, has_app, or_swap}
-use Rattle.salt_verdict.specs.Ledger.{Holds, run_by}
+use Rattle.salt_verdict.specs.Ledger.{HoldsTrace, run_by}
 use Rattle.salt_judge.specs.ReadAfter.{IsReadAfter, changers, is_written_within, last_by, openings_by, parts_by, put_edits, reach_by, released_by, sources_as, sources_by, writing_of, written_first}
 use Rattle.salt_audit.specs.Marks.{is_marked}
 use Rattle.salt_judge.specs.Reads.{HoldsReads, chained, freed_in, is_free, is_named, is_tied_by, program_in, program_noted, shares_program, sources_in, unsalted_by, unsalted_of, units_read, writing_told}
@@ -132,7 +132,7 @@ named_same b (Some c) = refl
 
 -- THE STEP
 
-module _ (l : Ledger) (r : Reads) (trace : Trace) (h : Holds l trace) (k : HoldsReads r trace) where
+module _ (l : Ledger) (r : Reads) (trace : Trace) (h : HoldsTrace l trace) (k : HoldsReads r trace) where
   changers_same : (o : Option Reach) → changers_in trace o ≡ changers r.last.items o
   changers_same None = refl
   changers_same (Some c) =
@@ -246,11 +246,11 @@ noted_program : (o : Option Begun) → option_and_then program_of_kind (kind_not
 noted_program None = refl
 noted_program (Some n) = refl
 
-pub program_same : (l : Ledger) (trace : Trace) (h : Holds l trace) (u : Id) → program_of u trace ≡ program_in l u
+pub program_same : (l : Ledger) (trace : Trace) (h : HoldsTrace l trace) (u : Id) → program_of u trace ≡ program_in l u
 program_same l trace h u =
     ap (option_and_then program_of_kind) (kind_same trace u (begun_in u l.state.units) (h.knows.units u)) ∙ noted_program (begun_in u l.state.units)
 
-module _ (l : Ledger) (r : Reads) (trace : Trace) (h : Holds l trace) (k : HoldsReads r trace) where
+module _ (l : Ledger) (r : Reads) (trace : Trace) (h : HoldsTrace l trace) (k : HoldsReads r trace) where
   pub linked : IsLinked l r
   linked = record {
     begun = λ v.
@@ -281,7 +281,7 @@ module _ (l : Ledger) (r : Reads) (trace : Trace) (h : Holds l trace) (k : Holds
       (λ i. if is_none (program_same l trace h a i) && not (list_all (λ (u : Id). is_program_released trace (program_same l trace h u i)) (chains_same a i)) then a ∷ [] else [])
       ∙ (λ i. if is_none (program_in l a) && not (list_all (λ (u : Id). free_same (program_in l u) i) (chained l r a)) then a ∷ [] else [])
 
-pub unsalted_exactly : (l : Ledger) (r : Reads) (trace : Trace) (e : Event) → Holds l (told trace e) → HoldsReads r (told trace e) → unsalted_by l r e ≡ unsalted trace e
+pub unsalted_exactly : (l : Ledger) (r : Reads) (trace : Trace) (e : Event) → HoldsTrace l (told trace e) → HoldsReads r (told trace e) → unsalted_by l r e ≡ unsalted trace e
 unsalted_exactly l r trace (event.Did a st x) h k = sym (unsalted_same l r (trace says event.Did a st x) h k a)
 unsalted_exactly l r trace (event.Began u kind) h k = refl
 unsalted_exactly l r trace (event.Waits u os) h k = refl

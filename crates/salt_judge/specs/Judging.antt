@@ -4,7 +4,7 @@ use Rattle.salt_audit.specs.declared.verdict.Law.TheVariants.{Honest, Salted, Wh
 use Rattle.salt_model.specs.Trace.{Trace}
 use Rattle.salt_model.specs.declared.events.Event.{Event}
 use Rattle.salt_values.specs.declared.id.Id.{Id}
-use Rattle.salt_verdict.specs.Ledger.{AreFaithful, Holds, unfaithful_by}
+use Rattle.salt_verdict.specs.Ledger.{AreFaithful, HoldsTrace, unfaithful_by}
 use Rattle.salt_judge.specs.Meetings.{HoldsMeetings, unwhole_by}
 use Rattle.salt_judge.specs.Reads.{HoldsReads}
 use Rattle.salt_judge.specs.Searching.{AreSettled}
@@ -14,7 +14,7 @@ use Rattle.std.specs.Prelude.{List, Option, ◌++◌}
 
 -- what is known is what the trace tells, and no open unit is unfaithful
 pub record HoldsAll (j : Judge) (trace : Trace) : Type 0 where
-  pub ledger : Holds j.ledger trace
+  pub ledger : HoldsTrace j.ledger trace
   pub reads : HoldsReads j.reads trace
   pub meetings : HoldsMeetings j.meetings trace
   pub faithful : AreFaithful j.ledger

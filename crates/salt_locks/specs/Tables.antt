@@ -56,9 +56,9 @@ abbrev pub owners_against : Owner → Family → Reach → List Lock → List Ow
 owners_against owner family r locks = owners_of (filter (clashes owner family r) locks)
 
 -- a lock was asked for: it stands in its place where nothing clashes, and else those that clash are told and nothing is taken
-abbrev pub Answers : ℕ → Owner → Family → Reach → List Numbered → List Numbered → Result (Unit {0}) TakeErr → Type 0
-Answers number owner family r old new (Ok u) =
+abbrev pub AnswersAsk : ℕ → Owner → Family → Reach → List Numbered → List Numbered → Result (Unit {0}) TakeErr → Type 0
+AnswersAsk number owner family r old new (Ok u) =
     (owners_against owner family r (locks_in old) ≡ []) × (new ≡ put (record { number = number; lock = lock_of owner family r }) old)
-Answers number owner family r old new (Err (Conflict owners)) =
+AnswersAsk number owner family r old new (Err (Conflict owners)) =
     (owners ≡ owners_against owner family r (locks_in old)) × ((owners ≡ []) → ⊥) × (new ≡ old)
-Answers number owner family r old new (Err Memory) = new ≡ old
+AnswersAsk number owner family r old new (Err Memory) = new ≡ old

@@ -2,7 +2,7 @@
 
 ghost use Rattle.law_states.specs.KeptLocks.{Numbered};
 ghost use Rattle.law_states.specs.Members.{In};
-ghost use Rattle.salt_locks.specs.Tables.{Answers, is_of_another, is_of_none, locks_in, owners_against, put, salted};
+ghost use Rattle.salt_locks.specs.Tables.{AnswersAsk, is_of_another, is_of_none, locks_in, owners_against, put, salted};
 ghost use Rattle.salt_locks.specs.Turns.{locks_in_turn, numbered_of};
 ghost use Rattle.salt_locks.specs.declared.table.TakeErr.TheVariants.{Memory};
 ghost use Rattle.salt_model.specs.Locks.{clashes, lock_of};
@@ -185,7 +185,7 @@ impl LockTable {
         family: Family,
         reach: &Reach,
     ) -> Result<(), TakeErr>
-        ensures { Answers number owner family reach.now self.old self.new result }
+        ensures { AnswersAsk number owner family reach.now self.old self.new result }
     {
         let owners = self.clashing(alloc, owner, family, reach)?;
         if !owners.is_empty() {

@@ -13,9 +13,9 @@ pub record Parsing : Type 0 where
   pub left : Symbols
 
 -- what a function returned, with what it left, is what reading gives
-abbrev pub Reads : {X : Type 0} → Result X ParseErr → Reader X → Parsing → Parsing → Type 0
-Reads (Ok x) reader old new = reader old.flags old.left ≡ Some (x, new.flags, new.left)
-Reads (Err err) reader old new = Fails err (reader old.flags old.left)
+abbrev pub ReadsWith : {X : Type 0} → Result X ParseErr → Reader X → Parsing → Parsing → Type 0
+ReadsWith (Ok x) reader old new = reader old.flags old.left ≡ Some (x, new.flags, new.left)
+ReadsWith (Err err) reader old new = Fails err (reader old.flags old.left)
 
 abbrev pub ReadsBuilt : Result Built ParseErr → Reader BuiltTree → Parsing → Parsing → Type 0
 ReadsBuilt (Ok b) reader old new = reader old.flags old.left ≡ Some (built_of b, new.flags, new.left)
@@ -27,6 +27,6 @@ GivesAs (Ok x) left read = read ≡ Some (x, left)
 GivesAs (Err err) left read = Fails err read
 
 -- the symbols that are left are those behind what was taken
-abbrev pub Leaves : Result (Unit {0}) ParseErr → Symbols → Option Symbols → Type 0
-Leaves (Ok _) left read = read ≡ Some left
-Leaves (Err err) left read = Fails err read
+abbrev pub LeavesSymbols : Result (Unit {0}) ParseErr → Symbols → Option Symbols → Type 0
+LeavesSymbols (Ok _) left read = read ≡ Some left
+LeavesSymbols (Err err) left read = Fails err read

@@ -2,7 +2,7 @@
 
 ghost use Rattle.std.specs.Prelude.{◌<◌, ◌≤◌, OnOk, length};
 ghost use Rattle.salt_parse.specs.Flags.{built_of};
-ghost use Rattle.salt_parse.specs.Parsing.{Reads, ReadsBuilt};
+ghost use Rattle.salt_parse.specs.Parsing.{ReadsWith, ReadsBuilt};
 ghost use Rattle.salt_parse.specs.Reading.{is_at, null_test_at, within_at};
 ghost use Rattle.salt_parse.specs.StatementReading.{value_at};
 
@@ -43,7 +43,7 @@ impl<'a> Parser<'a> {
 
     /// What a column takes: an expression, or `null`.
     pub fn value(&mut self, room: u32) -> Result<Sealed<Expr>, ParseErr>
-        ensures reads { Reads result (value_at (within_at room)) self.old self.new }
+        ensures reads { ReadsWith result (value_at (within_at room)) self.old self.new }
         ensures shrinks { OnOk result (length self.new.left < length self.old.left) }
     {
         if self.skip_key(Keyword::Null) {

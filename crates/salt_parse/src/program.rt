@@ -2,7 +2,7 @@
 
 ghost use Rattle.std.specs.Prelude.{◌≡◌, ◌<◌, ◌≤◌, OnOk, length};
 ghost use Rattle.salt_parse.specs.Lists.{counted_at};
-ghost use Rattle.salt_parse.specs.Parsing.{Reads};
+ghost use Rattle.salt_parse.specs.Parsing.{ReadsWith};
 ghost use Rattle.salt_parse.specs.ProgramReading.{base_at, block_at, body_at, branch_at, fields_within, kept_retry, number_at, on_commit_at};
 ghost use Rattle.salt_parse.specs.ProgramReading.{on_failure_at, parameters_at, part_at, parts_at, program_at, retry_at, statements_at};
 ghost use Rattle.salt_parse.specs.ProgramReading.{variables_at, way_at};
@@ -46,7 +46,7 @@ impl<'a> Parser<'a> {
         limit: LimitName,
         count: usize,
     ) -> Result<Field, ParseErr>
-        ensures reads { Reads result (counted_at most limit field_at count) self.old self.new }
+        ensures reads { ReadsWith result (counted_at most limit field_at count) self.old self.new }
         ensures shrinks { OnOk result (length self.new.left < length self.old.left) }
     {
         self.note(most <= count, limit);
@@ -55,7 +55,7 @@ impl<'a> Parser<'a> {
 
     /// Names and types with commas between them, where there may be `most` in all.
     fn fields_within(&mut self, most: usize, limit: LimitName) -> Result<Fields, ParseErr>
-        ensures { Reads result (fields_within most limit) self.old self.new }
+        ensures { ReadsWith result (fields_within most limit) self.old self.new }
     {
         let mut fields = Items::new(self.alloc());
         let first = self.counted_field(most, limit, 0)?;
@@ -69,7 +69,7 @@ impl<'a> Parser<'a> {
 
     /// What stands behind the parenthesis of the parameters, which closes it.
     fn parameters(&mut self) -> Result<Fields, ParseErr>
-        ensures { Reads result parameters_at self.old self.new }
+        ensures { ReadsWith result parameters_at self.old self.new }
     {
         if self.skip_sign(Sign::Close) {
             return Ok(Items::new(self.alloc()));
@@ -81,7 +81,7 @@ impl<'a> Parser<'a> {
 
     /// The variables, if there are some.
     fn variables(&mut self) -> Result<Fields, ParseErr>
-        ensures { Reads result variables_at self.old self.new }
+        ensures { ReadsWith result variables_at self.old self.new }
     {
         if !self.skip_key(Keyword::Var) {
             return Ok(Items::new(self.alloc()));
@@ -96,7 +96,7 @@ impl<'a> Parser<'a> {
         deeper: u32,
         count: usize,
     ) -> Result<Sealed<Statement>, ParseErr>
-        ensures reads { Reads result (counted_at most.STATEMENTS_MOST limits.Statements (statement_at (within_at room) (within_at deeper)) count) self.old self.new }
+        ensures reads { ReadsWith result (counted_at most.STATEMENTS_MOST limits.Statements (statement_at (within_at room) (within_at deeper)) count) self.old self.new }
         ensures shrinks { OnOk result (length self.new.left < length self.old.left) }
     {
         self.note(STATEMENTS_MOST <= count, LimitName::Statements);
@@ -105,7 +105,7 @@ impl<'a> Parser<'a> {
 
     /// Statements with semicolons between them.
     fn statements(&mut self, room: u32, deeper: u32) -> Result<Statements, ParseErr>
-        ensures reads { Reads result (statements_at (within_at room) (within_at deeper)) self.old self.new }
+        ensures reads { ReadsWith result (statements_at (within_at room) (within_at deeper)) self.old self.new }
         ensures shrinks { OnOk result (length self.new.left < length self.old.left) }
     {
         let mut statements = Items::new(self.alloc());
@@ -120,7 +120,7 @@ impl<'a> Parser<'a> {
 
     /// Statements in braces.
     fn block(&mut self, room: u32, deeper: u32) -> Result<Statements, ParseErr>
-        ensures reads { Reads result (block_at (within_at room) (within_at deeper)) self.old self.new }
+        ensures reads { ReadsWith result (block_at (within_at room) (within_at deeper)) self.old self.new }
         ensures shrinks { OnOk result (length self.new.left < length self.old.left) }
     {
         self.take_sign(Sign::OpenBrace)?;
@@ -131,7 +131,7 @@ impl<'a> Parser<'a> {
 
     /// The number of a part.
     fn part_number(&mut self) -> Result<u64, ParseErr>
-        ensures reads { Reads result number_at self.old self.new }
+        ensures reads { ReadsWith result number_at self.old self.new }
         ensures shrinks { OnOk result (length self.new.left < length self.old.left) }
     {
         let [Lexeme::Int(number), rest @ ..] = self.rest else {
@@ -144,7 +144,7 @@ impl<'a> Parser<'a> {
 
     /// A part to go on at, or the end.
     fn way(&mut self) -> Result<Next, ParseErr>
-        ensures reads { Reads result way_at self.old self.new }
+        ensures reads { ReadsWith result way_at self.old self.new }
         ensures shrinks { OnOk result (length self.new.left < length self.old.left) }
     {
         if self.skip_key(Keyword::End) {
@@ -156,7 +156,7 @@ impl<'a> Parser<'a> {
 
     /// How often a part is tried again.
     fn retry(&mut self) -> Result<u8, ParseErr>
-        ensures reads { Reads result retry_at self.old self.new }
+        ensures reads { ReadsWith result retry_at self.old self.new }
         ensures shrinks { OnOk result (length self.new.left < length self.old.left) }
     {
         let [Lexeme::Int(number), rest @ ..] = self.rest else {
@@ -169,7 +169,7 @@ impl<'a> Parser<'a> {
 
     /// Where the program goes on behind a commit, if this is said.
     fn on_commit(&mut self) -> Result<Option<Next>, ParseErr>
-        ensures reads { Reads result on_commit_at self.old self.new }
+        ensures reads { ReadsWith result on_commit_at self.old self.new }
         ensures shrinks { OnOk result (length self.new.left ≤ length self.old.left) }
     {
         if !self.skip_key(Keyword::Then) {
@@ -180,7 +180,7 @@ impl<'a> Parser<'a> {
 
     /// What stands behind `on failure`.
     fn branch(&mut self) -> Result<(Option<u8>, Option<Next>), ParseErr>
-        ensures reads { Reads result branch_at self.old self.new }
+        ensures reads { ReadsWith result branch_at self.old self.new }
         ensures shrinks { OnOk result (length self.new.left < length self.old.left) }
     {
         if !self.skip_key(Keyword::Retry) {
@@ -193,7 +193,7 @@ impl<'a> Parser<'a> {
 
     /// Where the program goes on behind a failure, if this is said, and how often the part is tried again before.
     fn on_failure(&mut self) -> Result<(Option<u8>, Option<Next>), ParseErr>
-        ensures reads { Reads result on_failure_at self.old self.new }
+        ensures reads { ReadsWith result on_failure_at self.old self.new }
         ensures shrinks { OnOk result (length self.new.left ≤ length self.old.left) }
     {
         if !self.skip_key(Keyword::On) {
@@ -205,7 +205,7 @@ impl<'a> Parser<'a> {
 
     /// What stands behind `part`.
     fn part(&mut self, room: u32, deeper: u32) -> Result<Sealed<PartDef>, ParseErr>
-        ensures reads { Reads result (part_at (within_at room) (within_at deeper)) self.old self.new }
+        ensures reads { ReadsWith result (part_at (within_at room) (within_at deeper)) self.old self.new }
         ensures shrinks { OnOk result (length self.new.left < length self.old.left) }
     {
         let block = self.block(room, deeper)?;
@@ -226,7 +226,7 @@ impl<'a> Parser<'a> {
         deeper: u32,
         count: usize,
     ) -> Result<Sealed<PartDef>, ParseErr>
-        ensures reads { Reads result (counted_at most.PARTS_MOST limits.Parts (part_at (within_at room) (within_at deeper)) count) self.old self.new }
+        ensures reads { ReadsWith result (counted_at most.PARTS_MOST limits.Parts (part_at (within_at room) (within_at deeper)) count) self.old self.new }
         ensures shrinks { OnOk result (length self.new.left < length self.old.left) }
     {
         self.note(PARTS_MOST <= count, LimitName::Parts);
@@ -235,7 +235,7 @@ impl<'a> Parser<'a> {
 
     /// Parts, each behind `part` but the first, whose `part` was taken.
     fn parts(&mut self, room: u32, deeper: u32) -> Result<Parts, ParseErr>
-        ensures { Reads result (parts_at (within_at room) (within_at deeper)) self.old self.new }
+        ensures { ReadsWith result (parts_at (within_at room) (within_at deeper)) self.old self.new }
     {
         let mut parts = Items::new(self.alloc());
         let first = self.counted_part(room, deeper, 0)?;
@@ -249,7 +249,7 @@ impl<'a> Parser<'a> {
 
     /// What stands behind `base`.
     fn base(&mut self, room: u32, deeper: u32) -> Result<Parts, ParseErr>
-        ensures { Reads result (base_at (within_at room) (within_at deeper)) self.old self.new }
+        ensures { ReadsWith result (base_at (within_at room) (within_at deeper)) self.old self.new }
     {
         self.take_key(Keyword::Part)?;
         self.parts(room, deeper)
@@ -257,7 +257,7 @@ impl<'a> Parser<'a> {
 
     /// What a program does.
     fn body(&mut self, room: u32, deeper: u32) -> Result<Body, ParseErr>
-        ensures { Reads result (body_at (within_at room) (within_at deeper)) self.old self.new }
+        ensures { ReadsWith result (body_at (within_at room) (within_at deeper)) self.old self.new }
     {
         if self.skip_key(Keyword::Acid) {
             return Ok(Body::Acid(self.block(room, deeper)?));
@@ -269,7 +269,7 @@ impl<'a> Parser<'a> {
     /// A program, with room for so many parentheses in its expressions, and for so many in those of INSERT.
     #[tactic(auto, unfolding(crate::specs::ProgramReading::program_at))]
     pub fn program(&mut self, room: u32, deeper: u32) -> Result<Sealed<ProgramDef>, ParseErr>
-        ensures { Reads result (program_at (within_at room) (within_at deeper)) self.old self.new }
+        ensures { ReadsWith result (program_at (within_at room) (within_at deeper)) self.old self.new }
     {
         self.take_key(Keyword::Program)?;
         let name = self.name()?;

@@ -1,7 +1,7 @@
 //! Which rows a statement is for.
 
 ghost use Rattle.std.specs.Prelude.{◌<◌, ◌≤◌, OnOk, length};
-ghost use Rattle.salt_parse.specs.Parsing.{Reads};
+ghost use Rattle.salt_parse.specs.Parsing.{ReadsWith};
 ghost use Rattle.salt_parse.specs.Reading.{conjunction_at, expression_at, sum_at, within_at};
 ghost use Rattle.salt_parse.specs.StatementReading.{and_at, between_at, bound_at, name_at, scan_at, tree_at};
 
@@ -17,7 +17,7 @@ use salt_values::Name;
 impl<'a> Parser<'a> {
     /// A name, while no limit is passed.
     pub fn name(&mut self) -> Result<Name, ParseErr>
-        ensures reads { Reads result name_at self.old self.new }
+        ensures reads { ReadsWith result name_at self.old self.new }
         ensures shrinks { OnOk result (length self.new.left < length self.old.left) }
     {
         let [Lexeme::Name(name), rest @ ..] = self.rest else {
@@ -29,7 +29,7 @@ impl<'a> Parser<'a> {
 
     /// An expression.
     pub fn whole(&mut self, room: u32) -> Result<Sealed<Expr>, ParseErr>
-        ensures reads { Reads result (tree_at (expression_at (within_at room))) self.old self.new }
+        ensures reads { ReadsWith result (tree_at (expression_at (within_at room))) self.old self.new }
         ensures shrinks { OnOk result (length self.new.left < length self.old.left) }
     {
         let Built { tree, height: _ } = self.expression(Level::Disjunction, room)?;
@@ -38,7 +38,7 @@ impl<'a> Parser<'a> {
 
     /// An expression that is no comparison.
     pub fn operand(&mut self, room: u32) -> Result<Sealed<Expr>, ParseErr>
-        ensures reads { Reads result (tree_at (sum_at (within_at room))) self.old self.new }
+        ensures reads { ReadsWith result (tree_at (sum_at (within_at room))) self.old self.new }
         ensures shrinks { OnOk result (length self.new.left < length self.old.left) }
     {
         let Built { tree, height: _ } = self.expression(Level::Sum, room)?;
@@ -47,7 +47,7 @@ impl<'a> Parser<'a> {
 
     /// An expression without `or`.
     pub fn conjunct(&mut self, room: u32) -> Result<Sealed<Expr>, ParseErr>
-        ensures reads { Reads result (tree_at (conjunction_at (within_at room))) self.old self.new }
+        ensures reads { ReadsWith result (tree_at (conjunction_at (within_at room))) self.old self.new }
         ensures shrinks { OnOk result (length self.new.left < length self.old.left) }
     {
         let Built { tree, height: _ } = self.expression(Level::Conjunction, room)?;
@@ -56,7 +56,7 @@ impl<'a> Parser<'a> {
 
     /// `and` and a filter, or nothing.
     fn and_filter(&mut self, room: u32) -> Result<Sealed<Option<Expr>>, ParseErr>
-        ensures reads { Reads result (and_at (within_at room)) self.old self.new }
+        ensures reads { ReadsWith result (and_at (within_at room)) self.old self.new }
         ensures shrinks { OnOk result (length self.new.left ≤ length self.old.left) }
     {
         if !self.skip_key(Keyword::And) {
@@ -68,7 +68,7 @@ impl<'a> Parser<'a> {
 
     /// What stands behind `where key between`.
     fn between(&mut self, room: u32) -> Result<Sealed<Scan>, ParseErr>
-        ensures reads { Reads result (between_at (within_at room)) self.old self.new }
+        ensures reads { ReadsWith result (between_at (within_at room)) self.old self.new }
         ensures shrinks { OnOk result (length self.new.left < length self.old.left) }
     {
         let low = self.operand(room)?;
@@ -83,7 +83,7 @@ impl<'a> Parser<'a> {
 
     /// What stands behind `where key`.
     fn bounded(&mut self, room: u32) -> Result<Sealed<Scan>, ParseErr>
-        ensures reads { Reads result (bound_at (within_at room)) self.old self.new }
+        ensures reads { ReadsWith result (bound_at (within_at room)) self.old self.new }
         ensures shrinks { OnOk result (length self.new.left < length self.old.left) }
     {
         if self.skip_key(Keyword::Between) {
@@ -100,7 +100,7 @@ impl<'a> Parser<'a> {
 
     /// Which rows: `where` and what stands behind it, or all rows.
     pub fn scan(&mut self, room: u32) -> Result<Sealed<Scan>, ParseErr>
-        ensures reads { Reads result (scan_at (within_at room)) self.old self.new }
+        ensures reads { ReadsWith result (scan_at (within_at room)) self.old self.new }
         ensures shrinks { OnOk result (length self.new.left ≤ length self.old.left) }
     {
         if !self.skip_key(Keyword::Where) {

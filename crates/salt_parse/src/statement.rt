@@ -1,7 +1,7 @@
 //! Statements.
 
 ghost use Rattle.std.specs.Prelude.{◌≡◌, ◌<◌, OnOk, length};
-ghost use Rattle.salt_parse.specs.Parsing.{Reads};
+ghost use Rattle.salt_parse.specs.Parsing.{ReadsWith};
 ghost use Rattle.salt_parse.specs.Reading.{within_at};
 ghost use Rattle.salt_parse.specs.StatementReading.{change_at, count_at, delete_at, enclosed_at, insert_at, into_at, is_into, names_at, only_key_at};
 ghost use Rattle.salt_parse.specs.StatementReading.{select_at, select_into_at, select_rows_at, set_at, sets_at, statement_at, update_at, values_at, what_at};
@@ -17,7 +17,7 @@ use sqlite_items::Items;
 impl<'a> Parser<'a> {
     /// What columns take, with commas between them.
     fn values(&mut self, room: u32) -> Result<Exprs, ParseErr>
-        ensures reads { Reads result (values_at (within_at room)) self.old self.new }
+        ensures reads { ReadsWith result (values_at (within_at room)) self.old self.new }
         ensures shrinks { OnOk result (length self.new.left < length self.old.left) }
     {
         let mut values = Items::new(self.alloc());
@@ -32,7 +32,7 @@ impl<'a> Parser<'a> {
 
     /// Names with commas between them.
     fn names(&mut self) -> Result<Names, ParseErr>
-        ensures reads { Reads result names_at self.old self.new }
+        ensures reads { ReadsWith result names_at self.old self.new }
         ensures shrinks { OnOk result (length self.new.left < length self.old.left) }
     {
         let mut names = Items::new(self.alloc());
@@ -45,7 +45,7 @@ impl<'a> Parser<'a> {
 
     /// A column and the value that it takes.
     fn set(&mut self, room: u32) -> Result<Sealed<Set>, ParseErr>
-        ensures reads { Reads result (set_at (within_at room)) self.old self.new }
+        ensures reads { ReadsWith result (set_at (within_at room)) self.old self.new }
         ensures shrinks { OnOk result (length self.new.left < length self.old.left) }
     {
         let column = self.name()?;
@@ -59,7 +59,7 @@ impl<'a> Parser<'a> {
 
     /// Columns and their values, with commas between them.
     fn sets(&mut self, room: u32) -> Result<Sets, ParseErr>
-        ensures reads { Reads result (sets_at (within_at room)) self.old self.new }
+        ensures reads { ReadsWith result (sets_at (within_at room)) self.old self.new }
         ensures shrinks { OnOk result (length self.new.left < length self.old.left) }
     {
         let mut sets = Items::new(self.alloc());
@@ -74,7 +74,7 @@ impl<'a> Parser<'a> {
 
     /// A name in parentheses.
     fn enclosed(&mut self) -> Result<Name, ParseErr>
-        ensures reads { Reads result enclosed_at self.old self.new }
+        ensures reads { ReadsWith result enclosed_at self.old self.new }
         ensures shrinks { OnOk result (length self.new.left < length self.old.left) }
     {
         self.take_sign(Sign::Open)?;
@@ -85,7 +85,7 @@ impl<'a> Parser<'a> {
 
     /// What stands behind `count`.
     fn count(&mut self) -> Result<What, ParseErr>
-        ensures reads { Reads result count_at self.old self.new }
+        ensures reads { ReadsWith result count_at self.old self.new }
         ensures shrinks { OnOk result (length self.new.left < length self.old.left) }
     {
         self.take_sign(Sign::Open)?;
@@ -96,7 +96,7 @@ impl<'a> Parser<'a> {
 
     /// What a SELECT shows.
     fn what(&mut self) -> Result<What, ParseErr>
-        ensures reads { Reads result what_at self.old self.new }
+        ensures reads { ReadsWith result what_at self.old self.new }
         ensures shrinks { OnOk result (length self.new.left < length self.old.left) }
     {
         if self.skip_sign(Sign::Star) {
@@ -119,7 +119,7 @@ impl<'a> Parser<'a> {
 
     /// What stands behind `insert`.
     fn insert(&mut self, room: u32) -> Result<Sealed<Statement>, ParseErr>
-        ensures reads { Reads result (insert_at (within_at room)) self.old self.new }
+        ensures reads { ReadsWith result (insert_at (within_at room)) self.old self.new }
         ensures shrinks { OnOk result (length self.new.left < length self.old.left) }
     {
         self.take_key(Keyword::Into)?;
@@ -140,7 +140,7 @@ impl<'a> Parser<'a> {
 
     /// The names behind `select` up to `from`, where `into` stands between them.
     fn into_names(&mut self) -> Result<(Name, Name), ParseErr>
-        ensures reads { Reads result into_at self.old self.new }
+        ensures reads { ReadsWith result into_at self.old self.new }
         ensures shrinks { OnOk result (length self.new.left < length self.old.left) }
     {
         let column = self.name()?;
@@ -152,7 +152,7 @@ impl<'a> Parser<'a> {
 
     /// A key alone, behind a table's name.
     fn only_key(&mut self, room: u32) -> Result<Sealed<Expr>, ParseErr>
-        ensures reads { Reads result (only_key_at (within_at room)) self.old self.new }
+        ensures reads { ReadsWith result (only_key_at (within_at room)) self.old self.new }
         ensures shrinks { OnOk result (length self.new.left < length self.old.left) }
     {
         self.take_key(Keyword::Where)?;
@@ -162,7 +162,7 @@ impl<'a> Parser<'a> {
     }
 
     fn select_into(&mut self, room: u32) -> Result<Sealed<Statement>, ParseErr>
-        ensures reads { Reads result (select_into_at (within_at room)) self.old self.new }
+        ensures reads { ReadsWith result (select_into_at (within_at room)) self.old self.new }
         ensures shrinks { OnOk result (length self.new.left < length self.old.left) }
     {
         let (column, var) = self.into_names()?;
@@ -178,7 +178,7 @@ impl<'a> Parser<'a> {
     }
 
     fn select_rows(&mut self, room: u32) -> Result<Sealed<Statement>, ParseErr>
-        ensures reads { Reads result (select_rows_at (within_at room)) self.old self.new }
+        ensures reads { ReadsWith result (select_rows_at (within_at room)) self.old self.new }
         ensures shrinks { OnOk result (length self.new.left < length self.old.left) }
     {
         let what = self.what()?;
@@ -194,7 +194,7 @@ impl<'a> Parser<'a> {
 
     /// What stands behind `select`.
     fn select(&mut self, room: u32) -> Result<Sealed<Statement>, ParseErr>
-        ensures reads { Reads result (select_at (within_at room)) self.old self.new }
+        ensures reads { ReadsWith result (select_at (within_at room)) self.old self.new }
         ensures shrinks { OnOk result (length self.new.left < length self.old.left) }
     {
         if self.is_into() {
@@ -206,7 +206,7 @@ impl<'a> Parser<'a> {
 
     /// What stands behind `update`.
     fn update(&mut self, room: u32) -> Result<Sealed<Statement>, ParseErr>
-        ensures reads { Reads result (update_at (within_at room)) self.old self.new }
+        ensures reads { ReadsWith result (update_at (within_at room)) self.old self.new }
         ensures shrinks { OnOk result (length self.new.left < length self.old.left) }
     {
         let table = self.name()?;
@@ -222,7 +222,7 @@ impl<'a> Parser<'a> {
 
     /// What stands behind `delete`.
     fn delete(&mut self, room: u32) -> Result<Sealed<Statement>, ParseErr>
-        ensures reads { Reads result (delete_at (within_at room)) self.old self.new }
+        ensures reads { ReadsWith result (delete_at (within_at room)) self.old self.new }
         ensures shrinks { OnOk result (length self.new.left < length self.old.left) }
     {
         self.take_key(Keyword::From)?;
@@ -236,7 +236,7 @@ impl<'a> Parser<'a> {
 
     /// UPDATE, DELETE or ENSURE.
     fn change(&mut self, room: u32) -> Result<Sealed<Statement>, ParseErr>
-        ensures reads { Reads result (change_at (within_at room)) self.old self.new }
+        ensures reads { ReadsWith result (change_at (within_at room)) self.old self.new }
         ensures shrinks { OnOk result (length self.new.left < length self.old.left) }
     {
         if self.skip_key(Keyword::Update) {
@@ -253,7 +253,7 @@ impl<'a> Parser<'a> {
     /// A statement, with room for so many parentheses in its expressions, and for so many in those of INSERT.
     #[tactic(auto, unfolding(crate::specs::StatementReading::statement_at))]
     pub fn statement(&mut self, room: u32, deeper: u32) -> Result<Sealed<Statement>, ParseErr>
-        ensures reads { Reads result (statement_at (within_at room) (within_at deeper)) self.old self.new }
+        ensures reads { ReadsWith result (statement_at (within_at room) (within_at deeper)) self.old self.new }
         ensures shrinks { OnOk result (length self.new.left < length self.old.left) }
     {
         if self.skip_key(Keyword::Insert) {

@@ -3,7 +3,7 @@
 ghost use Rattle.std.specs.Prelude.{◌≡◌, ◌<◌, ◌≤◌, IfNone, IsTrue, OnOk, OnSome, None, Some, false, if◌then◌else◌, length};
 ghost use Rattle.salt_ast.specs.Operators.{precedence};
 ghost use Rattle.salt_parse.specs.Flags.{BuiltTree, Flags};
-ghost use Rattle.salt_parse.specs.Parsing.{Leaves};
+ghost use Rattle.salt_parse.specs.Parsing.{LeavesSymbols};
 ghost use Rattle.salt_parse.specs.Reading.{Reader, after, next_operator, nots_at, under_nots};
 ghost use Rattle.salt_tokens.specs.Symbols.{key, sign};
 
@@ -95,7 +95,7 @@ impl<'a> Parser<'a> {
 
     /// Takes this keyword, which has to come next.
     pub fn take_key(&mut self, wanted: Keyword) -> Result<(), ParseErr>
-        ensures reads { Leaves result self.new.left (after (key wanted) self.old.left) }
+        ensures reads { LeavesSymbols result self.new.left (after (key wanted) self.old.left) }
         ensures flags { self.new.flags ≡ self.old.flags }
         ensures shrinks { OnOk result (length self.new.left < length self.old.left) }
     {
@@ -108,7 +108,7 @@ impl<'a> Parser<'a> {
 
     /// Takes this sign, which has to come next.
     pub fn take_sign(&mut self, wanted: Sign) -> Result<(), ParseErr>
-        ensures reads { Leaves result self.new.left (after (sign wanted) self.old.left) }
+        ensures reads { LeavesSymbols result self.new.left (after (sign wanted) self.old.left) }
         ensures flags { self.new.flags ≡ self.old.flags }
         ensures shrinks { OnOk result (length self.new.left < length self.old.left) }
     {

@@ -1,7 +1,7 @@
 //! Tables.
 
 ghost use Rattle.std.specs.Prelude.{◌≡◌, ◌<◌, IsTrue, None, OnOk, Some, false, if◌then◌else◌, length};
-ghost use Rattle.salt_parse.specs.Parsing.{GivesAs, Reads};
+ghost use Rattle.salt_parse.specs.Parsing.{GivesAs, ReadsWith};
 ghost use Rattle.salt_parse.specs.Reading.{within_at};
 ghost use Rattle.salt_parse.specs.TableReading.{check_at, checks_at, definition_at, field_at, field_comma, fields_at, further_column_at, kind_at, plain_column_at, table_at};
 
@@ -47,7 +47,7 @@ impl<'a> Parser<'a> {
 
     /// A name and a type.
     pub fn field(&mut self) -> Result<Field, ParseErr>
-        ensures reads { Reads result field_at self.old self.new }
+        ensures reads { ReadsWith result field_at self.old self.new }
         ensures shrinks { OnOk result (length self.new.left < length self.old.left) }
     {
         let name = self.name()?;
@@ -61,7 +61,7 @@ impl<'a> Parser<'a> {
 
     /// A column that is no key.
     fn plain_column(&mut self) -> Result<Field, ParseErr>
-        ensures reads { Reads result plain_column_at self.old self.new }
+        ensures reads { ReadsWith result plain_column_at self.old self.new }
         ensures shrinks { OnOk result (length self.new.left < length self.old.left) }
     {
         let mut field = self.field()?;
@@ -73,7 +73,7 @@ impl<'a> Parser<'a> {
 
     /// The column that stands behind so many others.
     fn further_column(&mut self, count: usize) -> Result<Field, ParseErr>
-        ensures reads { Reads result (further_column_at count) self.old self.new }
+        ensures reads { ReadsWith result (further_column_at count) self.old self.new }
         ensures shrinks { OnOk result (length self.new.left < length self.old.left) }
     {
         self.note(COLUMNS_MOST <= count, LimitName::Columns);
@@ -82,7 +82,7 @@ impl<'a> Parser<'a> {
 
     /// The key's column and further ones.
     fn fields(&mut self) -> Result<Fields, ParseErr>
-        ensures { Reads result fields_at self.old self.new }
+        ensures { ReadsWith result fields_at self.old self.new }
     {
         let mut fields = Items::new(self.alloc());
         let key = self.field()?;
@@ -97,7 +97,7 @@ impl<'a> Parser<'a> {
 
     /// The check that stands behind so many others.
     fn check(&mut self, room: u32, count: usize) -> Result<Sealed<Expr>, ParseErr>
-        ensures reads { Reads result (check_at (within_at room) count) self.old self.new }
+        ensures reads { ReadsWith result (check_at (within_at room) count) self.old self.new }
         ensures shrinks { OnOk result (length self.new.left < length self.old.left) }
     {
         self.take_key(Keyword::Check)?;
@@ -107,7 +107,7 @@ impl<'a> Parser<'a> {
 
     /// The checks, each behind a comma.
     fn checks(&mut self, room: u32) -> Result<Exprs, ParseErr>
-        ensures { Reads result (checks_at (within_at room)) self.old self.new }
+        ensures { ReadsWith result (checks_at (within_at room)) self.old self.new }
     {
         let mut checks = Items::new(self.alloc());
         while self.skip_sign(Sign::Comma) {
@@ -119,7 +119,7 @@ impl<'a> Parser<'a> {
 
     /// What stands behind `create table`.
     fn definition(&mut self, room: u32) -> Result<Sealed<TableDef>, ParseErr>
-        ensures { Reads result (definition_at (within_at room)) self.old self.new }
+        ensures { ReadsWith result (definition_at (within_at room)) self.old self.new }
     {
         let name = self.name()?;
         self.take_sign(Sign::Open)?;
@@ -136,7 +136,7 @@ impl<'a> Parser<'a> {
     /// A table, with room for so many parentheses in its checks.
     #[tactic(auto, unfolding(crate::specs::TableReading::table_at))]
     pub fn table(&mut self, room: u32) -> Result<Sealed<TableDef>, ParseErr>
-        ensures { Reads result (table_at (within_at room)) self.old self.new }
+        ensures { ReadsWith result (table_at (within_at room)) self.old self.new }
     {
         self.take_key(Keyword::Create)?;
         self.take_key(Keyword::Table)?;

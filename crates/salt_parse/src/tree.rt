@@ -1,7 +1,7 @@
 //! The trees that a whole text may spell.
 
 ghost use Rattle.std.specs.Prelude.{ℕ};
-ghost use Rattle.salt_parse.specs.Parsing.{Reads};
+ghost use Rattle.salt_parse.specs.Parsing.{ReadsWith};
 ghost use Rattle.salt_parse.specs.ProgramReading.{program_within};
 ghost use Rattle.salt_parse.specs.Reading.{Reader};
 ghost use Rattle.salt_parse.specs.StatementReading.{statement_within};
@@ -19,7 +19,7 @@ pub trait Tree: Drop {
 
     /// Reads it from what is left.
     fn read(parser: &mut Parser<'_>, room: u32, inside: u32) -> Result<Sealed<Self>, ParseErr>
-        ensures { Reads result (reading room inside) parser.old parser.new };
+        ensures { ReadsWith result (reading room inside) parser.old parser.new };
 }
 
 impl Tree for Statement {

@@ -15,7 +15,7 @@ use Rattle.salt_pool.specs.Pools.{IsPool, with_dirty, with_frame}
 use Rattle.salt_rows.proofs.Bounded.{few_in}
 use Rattle.salt_rows.proofs.Changing.{gone_there, put_again, standing_fresh}
 use Rattle.salt_rows.specs.Changing.{IsFresh}
-use Rattle.salt_rows.specs.Stores.{IsRowStore, IsStanding, Stands, StandsOnPages, page_count}
+use Rattle.salt_rows.specs.Stores.{IsRowStore, IsStanding, HasRowsStanding, StandsOnPages, page_count}
 use Rattle.salt_rows.specs.declared.store.RowStore.{RowStore}
 use Rattle.salt_values.specs.Value.{key_of}
 use Rattle.salt_values.specs.declared.value.Value.{Value}
@@ -60,7 +60,7 @@ module _ (d e1 e2 : View) (x x1 x2 : RowStore) (q : Place) (row : List Value)
   pub put_stands : (dev : ℕ) (named : List ℕ) (t : Tables) → IsRowStore d x dev named t → IsStanding e2 x2 dev named (put_row q row t)
   put_stands dev named t is = subst (IsStanding e2 x2 dev named) (put_again q row t) (puts dev named (remove_at q t) (left dev named t is) (gone_there q t))
 
-  pub put_some : StandsOnPages d x → Stands e2 x2
+  pub put_some : StandsOnPages d x → HasRowsStanding e2 x2
   put_some s = record { dev = s.dev; named = s.named; t = put_row q row s.t; is = put_stands s.dev s.named s.t s.is }
 
 -- images of calls, the second of which writes nothing

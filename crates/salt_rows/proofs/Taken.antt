@@ -6,7 +6,7 @@ use Rattle.salt_disk.specs.Disks.{KeepsAll, View}
 use Rattle.salt_model.specs.Tables.{Tables, remove_at, set_row}
 use Rattle.salt_model.specs.declared.places.Place.{Place}
 use Rattle.salt_rows.proofs.Changing.{store_without}
-use Rattle.salt_rows.specs.Stores.{IsRowStore, IsStanding, Stands, StandsOnPages}
+use Rattle.salt_rows.specs.Stores.{IsRowStore, IsStanding, HasRowsStanding, StandsOnPages}
 use Rattle.salt_rows.specs.declared.store.RowStore.{RowStore}
 use Rattle.salt_values.specs.declared.value.Value.{Value}
 use Rattle.std.proofs.Common.{Bool, Bor, IsTrue, List, None, Option, Some, ap, false, is_some, not, option_copied, refl, subst, true, ℕ, ◌≡◌, ◌∙◌}
@@ -26,7 +26,7 @@ module _ (d e1 : View) (x x1 : RowStore) (q : Place) (row : Option (List Value))
       by true e = (set_row q row t, puts dev named t is e)
       by false e = (remove_at q t, gones dev named t is e)
 
-  pub some_stands : StandsOnPages d x → Stands e1 x1
+  pub some_stands : StandsOnPages d x → HasRowsStanding e1 x1
   some_stands s = let u = either s.dev s.named s.t s.is in record { dev = s.dev; named = s.named; t = u.0; is = u.1 }
 
   module _ (e2 : View) (kept : KeepsAll d e1 None) where

@@ -69,7 +69,7 @@ pub record IsRowStore (d : View) (x : RowStore) (dev : ℕ) (named : List ℕ) (
   pub few : length (dirty_of x.pool) < frame_count
 
 -- some rows stand in it
-pub record Stands (d : View) (x : RowStore) : Type 0 where
+pub record HasRowsStanding (d : View) (x : RowStore) : Type 0 where
   pub dev : ℕ
   pub named : List ℕ
   pub t : Tables

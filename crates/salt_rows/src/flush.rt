@@ -4,7 +4,7 @@ ghost use Rattle.salt_bytes.specs.Page.{page_place};
 ghost use Rattle.salt_checkpoint.specs.Sides.{KeepsNamed, NamedSame};
 ghost use Rattle.salt_disk.specs.Disks.{FullOnly, HasCause, KeepsOthers};
 ghost use Rattle.salt_model.specs.Tables.{Tables};
-ghost use Rattle.salt_rows.specs.Stores.{HaveRows, IsClean, IsRowStore, IsStanding, Stands, device_of, page_count, sides_of};
+ghost use Rattle.salt_rows.specs.Stores.{HaveRows, IsClean, IsRowStore, IsStanding, HasRowsStanding, device_of, page_count, sides_of};
 ghost use Rattle.std.specs.Prelude.{IfOk, IsTrue, List, OnOk, true, ℕ, ◌≡◌};
 ghost use Rattle.std.specs.Result.{result_err};
 
@@ -18,7 +18,7 @@ impl RowStore {
     /// answers, each image of the device is one from before, but for sides that the header does not name. `Full` comes only where the
     /// pages together would pass the device's limit.
     pub(crate) fn flush<D: Disks>(&mut self, disks: &mut D) -> Result<(), DiskErr>
-        requires { Stands (D.view disks.old) self.old }
+        requires { HasRowsStanding (D.view disks.old) self.old }
         ensures rows { (dev : ℕ) (named : List ℕ) (t : Tables) → IsStanding (D.view disks.old) self.old dev named t → OnOk result (IsRowStore (D.view disks.new) self.new dev named t) }
         ensures clean { OnOk result (IsClean self.new) }
         ensures sides { sides_of self.new ≡ sides_of self.old }
@@ -36,7 +36,7 @@ impl RowStore {
 
     /// The same, where 64 pages are to be written.
     pub(crate) fn make_room<D: Disks>(&mut self, disks: &mut D) -> Result<(), DiskErr>
-        requires { Stands (D.view disks.old) self.old }
+        requires { HasRowsStanding (D.view disks.old) self.old }
         ensures rows { (dev : ℕ) (named : List ℕ) (t : Tables) → IsStanding (D.view disks.old) self.old dev named t → OnOk result (IsRowStore (D.view disks.new) self.new dev named t) }
         ensures sides { sides_of self.new ≡ sides_of self.old }
         ensures directory { self.new.directory ≡ self.old.directory }
@@ -58,7 +58,7 @@ impl RowStore {
     /// Writes all pages that are to be written, each to the side that the header does not name, and gives the side of each page: a
     /// header that names these has the same rows, once the device is synced. Nothing is made stable here.
     pub fn checkpoint<D: Disks>(&mut self, disks: &mut D) -> Result<Items<u8>, DiskErr>
-        requires { Stands (D.view disks.old) self.old }
+        requires { HasRowsStanding (D.view disks.old) self.old }
         ensures rows { (dev : ℕ) (named : List ℕ) (t : Tables) → IsStanding (D.view disks.old) self.old dev named t → OnOk result (IsRowStore (D.view disks.new) self.new dev named t) }
         ensures clean { OnOk result (IsClean self.new) }
         ensures sides { IfOk result (λ sides. sides ≡ sides_of self.new) }

@@ -9,7 +9,7 @@ use Rattle.salt_database.specs.declared.database.Database.TheVariants.{Closed, M
 use Rattle.salt_database.specs.declared.opening.Opening.{Opening}
 use Rattle.salt_devices.specs.Filling.{FillsIn}
 use Rattle.salt_devices.specs.Leaving.{StandsFor}
-use Rattle.salt_devices.specs.Refusing.{Finds, Refuses}
+use Rattle.salt_devices.specs.Refusing.{FindsKept, RefusesDevices}
 use Rattle.salt_devices.specs.Holding.{net_in, setup_in}
 use Rattle.salt_devices.specs.Standing.{RestsAs, StandsHeld, StandsLeft}
 use Rattle.salt_devices.specs.declared.devices.Devices.{Devices}
@@ -98,8 +98,8 @@ may-end room p status h = tt
 
 -- WHAT IS REFUSED
 
-pub refused-so : (d : View) (shape : Shape) (reason r : OpenErr) → reason ≡ r → (r ≡ open_err.Memory → ⊥) → Refuses d true shape reason ⊎ (reason ≡ open_err.Memory) → Refuses d true shape r
-refused-so d shape reason r is other (inl h) = subst (Refuses d true shape) is h
+pub refused-so : (d : View) (shape : Shape) (reason r : OpenErr) → reason ≡ r → (r ≡ open_err.Memory → ⊥) → RefusesDevices d true shape reason ⊎ (reason ≡ open_err.Memory) → RefusesDevices d true shape r
+refused-so d shape reason r is other (inl h) = subst (RefusesDevices d true shape) is h
 refused-so d shape reason r is other (inr m) = absurd (other (sym is ∙ m))
 
 -- what was not written is as it was, unless the devices failed
@@ -131,29 +131,29 @@ any-start = record { kept = nothing_kept; can_stop = false; early = false; over_
 -- WHAT WAS FOUND AT FIRST, by a shape that was not tried before
 
 module _ (command : Command) (d : View) (started0 : Bool) (shape0 : Shape) (was : started0 ≡ true) (asked0 : shape0 ≡ shape_of command) where
-  pub found-is : (k : Kept) → Finds d started0 shape0 k → Finds d true (shape_of command) k
-  found-is k h = subst (λ (b : Bool). Finds d b (shape_of command) k) was (subst (λ (s : Shape). Finds d started0 s k) asked0 h)
+  pub found-is : (k : Kept) → FindsKept d started0 shape0 k → FindsKept d true (shape_of command) k
+  found-is k h = subst (λ (b : Bool). FindsKept d b (shape_of command) k) was (subst (λ (s : Shape). FindsKept d started0 s k) asked0 h)
 
-  refuses-first : (r : OpenErr) → Refuses d started0 shape0 r → Refuses d true (shape_of command) r
-  refuses-first r h = subst (λ (b : Bool). Refuses d b (shape_of command) r) was (subst (λ (s : Shape). Refuses d started0 s r) asked0 h)
+  refuses-first : (r : OpenErr) → RefusesDevices d started0 shape0 r → RefusesDevices d true (shape_of command) r
+  refuses-first r h = subst (λ (b : Bool). RefusesDevices d b (shape_of command) r) was (subst (λ (s : Shape). RefusesDevices d started0 s r) asked0 h)
 
   -- nothing: what they stood for rests there
-  module _ (e : View) (shape : Shape) (started : Bool) (asked : shape ≡ shape0) (rests : (k : Kept) → Finds d started0 shape0 k → RestsAs shape started e k) (reason : OpenErr) (story : List Event)
-      (x : FailsToFind (Refuses d started0 shape0) (Finds d started0 shape0) (Refuses e started shape) (Finds e started shape) (FillsIn e shape) reason story)
-      (kept : (refusal : OpenErr) → IsRefusal refusal → Refuses d started0 shape0 refusal → IsTrue d.told → KeepsAll d e (open_disk_err_of reason) × (story ≡ [])) where
+  module _ (e : View) (shape : Shape) (started : Bool) (asked : shape ≡ shape0) (rests : (k : Kept) → FindsKept d started0 shape0 k → RestsAs shape started e k) (reason : OpenErr) (story : List Event)
+      (x : FailsToFind (RefusesDevices d started0 shape0) (FindsKept d started0 shape0) (RefusesDevices e started shape) (FindsKept e started shape) (FillsIn e shape) reason story)
+      (kept : (refusal : OpenErr) → IsRefusal refusal → RefusesDevices d started0 shape0 refusal → IsTrue d.told → KeepsAll d e (open_disk_err_of reason) × (story ≡ [])) where
     now : shape ≡ shape_of command
     now = asked ∙ asked0
 
-    refuses-then : (r : OpenErr) → Refuses d true (shape_of command) r → Refuses d started0 shape0 r
-    refuses-then r h = subst (λ (s : Shape). Refuses d started0 s r) (sym asked0) (subst (λ (b : Bool). Refuses d b (shape_of command) r) (sym was) h)
+    refuses-then : (r : OpenErr) → RefusesDevices d true (shape_of command) r → RefusesDevices d started0 shape0 r
+    refuses-then r h = subst (λ (s : Shape). RefusesDevices d started0 s r) (sym asked0) (subst (λ (b : Bool). RefusesDevices d b (shape_of command) r) (sym was) h)
 
-    unwritten : (status : Status) → IsStatusOf reason status → (refusal : OpenErr) → IsRefusal refusal → Refuses d true (shape_of command) refusal → IsTrue d.told → AreAsBefore (may_have_failed status) d e × (story ≡ [])
+    unwritten : (status : Status) → IsStatusOf reason status → (refusal : OpenErr) → IsRefusal refusal → RefusesDevices d true (shape_of command) refusal → IsTrue d.told → AreAsBefore (may_have_failed status) d e × (story ≡ [])
     unwritten status is r refusal h tells = let k = kept r refusal (refuses-then r h) tells in (as-before d e reason status is k.0, k.1)
 
-    finds-then : (k : Kept) → Finds d true (shape_of command) k → Finds d started0 shape0 k
-    finds-then k h = subst (λ (s : Shape). Finds d started0 s k) (sym asked0) (subst (λ (b : Bool). Finds d b (shape_of command) k) (sym was) h)
+    finds-then : (k : Kept) → FindsKept d true (shape_of command) k → FindsKept d started0 shape0 k
+    finds-then k h = subst (λ (s : Shape). FindsKept d started0 s k) (sym asked0) (subst (λ (b : Bool). FindsKept d b (shape_of command) k) (sym was) h)
 
-    was-refused : Refuses d true (shape_of command) reason ⊎ (reason ≡ open_err.Memory)
+    was-refused : RefusesDevices d true (shape_of command) reason ⊎ (reason ≡ open_err.Memory)
     was-refused = elim x.refused [ inl h ↦ inl (refuses-first reason h) | inr m ↦ inr m ]
 
     pub nothing : (status : Status) (f : Option Flight) (s : Streams) → IsStatusOf reason status → IsUnfound story → ((start : Start) → WellKept start.kept → Replays command status f s story start) →
@@ -337,7 +337,7 @@ module _ (d e : View) (x : Database Devices) where
     sound-start trace tells = subst (λ (k : Start). IsSoundKept k.kept) (sym tells.begins) sound
 
     module _ (sees : Database Devices → Option Event → State → Type 0) (drained : (texts : List (List ℕ)) → DoTheirRests (AskInOrder texts)) (shape : Shape) (early over_net : Bool) (is_early : start.early ≡ early) (over : start.over_net ≡ over_net)
-        (asked : setup_of x ≡ setup_in shape over_net) (stood : Finds d true shape start.kept) (status : Status)
+        (asked : setup_of x ≡ setup_in shape over_net) (stood : FindsKept d true shape start.kept) (status : Status)
         (y : (run : IsRun start (script_run status (database_flight x) s story)) × FoundAt e x status run.played.trace × Stops status (armed_by_lines d.armed run.played.trace) e.armed ×
         ServesBetween (sees x) start status story run.played.trace) (net : Option (List NetEvent))
         (told : Status) (same : told ≡ status) (left : IsNetLeft (over_net && ends_between told) (sees x None) (setup_of x) net) where
@@ -360,7 +360,7 @@ module _ (d e : View) (x : Database Devices) where
       }
 
     module _ (calls done : ℕ) (is_early : start.early ≡ false) (over : start.over_net ≡ false) (drained : DoTheirRests (λ lines. IsFrontOf lines (asked_by_load calls)))
-        (asked : setup_of x ≡ setup_in (shape_of (Load calls)) false) (stood : Finds d true (shape_of (Load calls)) start.kept) (old status : Status) (how : IsBehind old status)
+        (asked : setup_of x ≡ setup_in (shape_of (Load calls)) false) (stood : FindsKept d true (shape_of (Load calls)) start.kept) (old status : Status) (how : IsBehind old status)
         (summed : IsSummary status (summary_of calls done story) s.before s.now)
         (y : (run : IsPlayedLoad start (load_run old (database_flight x) calls done story)) × FoundAt e x old run.trace × Stops old (armed_by_lines d.armed run.trace) e.armed) where
       abbrev Loaded : Status → Type 0

@@ -6,7 +6,7 @@ use Rattle.salt_commit.specs.Openings.{PartPassesLimit, StorePassesLimit}
 use Rattle.salt_commit.specs.Shares.{has_changes, mask_of, shares_of}
 use Rattle.salt_decisions.specs.Opened.{FullAtFirst, first_payload}
 use Rattle.salt_devices.specs.Filling as filling
-use Rattle.salt_devices.specs.Filling.{Fills}
+use Rattle.salt_devices.specs.Filling.{FillsDevice}
 use Rattle.salt_disk.specs.Disks.{View}
 use Rattle.salt_disk.specs.declared.disks.DiskErr.TheVariants.{Full}
 use Rattle.law_states.proofs.KeptAfter.{kept-says, open-listed}
@@ -101,12 +101,12 @@ module _ (d : View) (shape : Shape) (dev : ℕ) where
         let r = open-listed s trace u ground keeps.state.units good.0 in
         ap (changes_decided (Committed n)) r.1 ∙ ap (map change_at) (sym r.3.changes) ∙ ap (λ (v : Id). changes_of v trace) r.2
 
-    decision : (u : Id) (end : End) (cs : List Change) → Good trace (Ended u end) → (w : ToWrite) → Fills d shape w dev → IsUnitWritten s u end w → changes_decided end (unit_named u s.units) ≡ cs →
+    decision : (u : Id) (end : End) (cs : List Change) → Good trace (Ended u end) → (w : ToWrite) → FillsDevice d shape w dev → IsUnitWritten s u end w → changes_decided end (unit_named u s.units) ≡ cs →
         promise.ShareFills d shape u cs dev ⊎ DecisionFills d shape trace (Ended u end) u cs dev
     decision u end cs good w fills x same = elim written [ inl f ↦ inr (decides f) | inr f ↦ inl (share-fills u cs f) ]
       where
         written : promise.EntryFills d (filling.decision_entry shape u cs x.made) dev ⊎ filling.ShareFills d shape u cs dev
-        written = subst (λ (l : List Change). Fills d shape (OfUnit u l x.made) dev) same (subst (λ (v : ToWrite). Fills d shape v dev) x.writes fills)
+        written = subst (λ (l : List Change). FillsDevice d shape (OfUnit u l x.made) dev) same (subst (λ (v : ToWrite). FillsDevice d shape v dev) x.writes fills)
 
         decides : promise.EntryFills d (filling.decision_entry shape u cs x.made) dev → DecisionFills d shape trace (Ended u end) u cs dev
         decides f = record {
@@ -119,12 +119,12 @@ module _ (d : View) (shape : Shape) (dev : ℕ) where
           fills = f;
         }
 
-    told-next : (ph : Phase) → phase trace ≡ ph → (o : Option Event) → next trace ≡ o → IfSome (Good trace) o → (w : ToWrite) → IsWrittenBy s o w → Fills d shape w dev → NextFills d shape trace ph o dev
+    told-next : (ph : Phase) → phase trace ≡ ph → (o : Option Event) → next trace ≡ o → IfSome (Good trace) o → (w : ToWrite) → IsWrittenBy s o w → FillsDevice d shape w dev → NextFills d shape trace ph o dev
     told-next Fallen is None comes good w h fills = absurd h
     told-next Fallen is (Some e) comes good w h fills = let both : None ≡ Some e = sym (nothing-fallen trace played is) ∙ comes in absurd (cc both)
     told-next ph is (Some (Ended u (Committed n))) comes good w h fills = decision u (Committed n) (changes_of u trace) good w fills h (committed u n good)
     told-next ph is (Some (Ended u (Branched n cause))) comes good w h fills = elim (decision u (Branched n cause) [] good w fills h refl) [ inl f ↦ absurd (no-share u f) | inr f ↦ f ]
-    told-next ph is (Some (Defined n text)) comes good w h fills = subst (λ (v : ToWrite). Fills d shape v dev) h fills
+    told-next ph is (Some (Defined n text)) comes good w h fills = subst (λ (v : ToWrite). FillsDevice d shape v dev) h fills
     told-next ph is o comes good w h fills = absurd h
 
 pub full-behind : (d : View) (shape : Shape) (trace : Trace) (dev : ℕ) → IsPlayed trace → IsFullBehind d shape trace dev → promise.IsFullBehind d shape trace dev
@@ -136,4 +136,4 @@ full-behind d shape trace dev played f = by f.writes
         (subst (λ (o : Option Event). IsWrittenBy f.point.state.units o f.next) (sym f.keeps.next) h) f.fills
     by (inr h) =
         subst (λ (ph : Phase). NextFills d shape trace ph (next trace) dev) (sym (f.keeps.state.units.phase ∙ h.0))
-        (inr (subst (λ (v : ToWrite). Fills d shape v dev) h.1 f.fills))
+        (inr (subst (λ (v : ToWrite). FillsDevice d shape v dev) h.1 f.fills))

@@ -2,7 +2,7 @@
 use Rattle.salt_bytes.specs.Log.{entries_in}
 use Rattle.law_definitions.specs.Texts.{definition_in}
 use Rattle.salt_stands.specs.Fitting.{kept_in}
-use Rattle.salt_devices.specs.Refusing.{RefusedAs, Refuses}
+use Rattle.salt_devices.specs.Refusing.{RefusedAs, RefusesDevices}
 use Rattle.salt_disk.specs.Disks.{SameShape}
 use Rattle.salt_model.specs.Kept.{Definition, Kept, WellKept, nothing_kept}
 use Rattle.salt_model.specs.Trace.{Trace}
@@ -82,7 +82,7 @@ module _ (reads : IsReader definition_in) (r : Run) (command : Command) (parts :
     of-numbers : (boot decisions : ℕ) → x.reason ≡ NumbersSpent boot decisions → Goes
     of-numbers boot decisions is = by r.before.devices.told refl
       where
-        of : Refuses r.before.devices true (shape_of command) (NumbersSpent boot decisions)
+        of : RefusesDevices r.before.devices true (shape_of command) (NumbersSpent boot decisions)
         of = refused-so r.before.devices (shape_of command) x.reason (NumbersSpent boot decisions) is (λ m. cc m) x.refused
 
         silent : r.before.devices.told ≡ false → (r.story ≡ []) ⊎ IsLater x.reason → Goes

@@ -1,6 +1,6 @@
 -- A run whose devices were refused is as promised.
 use Rattle.law_definitions.specs.Texts.{definition_in}
-use Rattle.salt_devices.specs.Refusing.{RefusedAs, Refuses}
+use Rattle.salt_devices.specs.Refusing.{RefusedAs, RefusesDevices}
 use Rattle.salt_model.specs.Kept.{Definition, WellKept, nothing_kept}
 use Rattle.salt_model.specs.Phases.{Fallen, Serving, phase}
 use Rattle.salt_model.specs.Played.{IsPlayed}
@@ -86,7 +86,7 @@ module _ (r : Run) (command : Command) (does : (trace : Trace) → Does command 
       (x : FindsNothing command r.before.devices r.after.devices r.status r.flight r.net (streams_of r) r.story) (empty : r.story ≡ []) where
     -- its refusal, by the bytes that were there
     module _ (reason : OpenErr) (is : x.reason ≡ reason) (some : reason ≡ open_err.Memory → ⊥) (refusal : IsRefusal reason) where
-      refused : Refuses r.before.devices true (shape_of command) reason
+      refused : RefusesDevices r.before.devices true (shape_of command) reason
       refused = refused-so r.before.devices (shape_of command) x.reason reason is some x.refused
 
       pub by-answer : (answer : Opening Definition) → ((bytes : ℕ → List ℕ) → RefusedAs (shape_of command) bytes reason → AnswersTo (shape_of command) bytes answer) →

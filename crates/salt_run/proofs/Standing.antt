@@ -3,7 +3,7 @@ use Rattle.law_definitions.specs.Texts.{definition_in}
 use Rattle.salt_commit.specs.Openings.{LeavesPages}
 use Rattle.salt_devices.proofs.Answered.{AreAlike, same_finds}
 use Rattle.salt_devices.specs.Leaving.{MayCome, StandsFor}
-use Rattle.salt_devices.specs.Refusing.{Finds, RefusedAs, Refuses}
+use Rattle.salt_devices.specs.Refusing.{FindsKept, RefusedAs, RefusesDevices}
 use Rattle.salt_disk.specs.Disks.{View}
 use Rattle.salt_model.specs.Kept.{Kept}
 use Rattle.salt_model.specs.Words.{is_empty}
@@ -73,10 +73,10 @@ module _ (d : View) (shape : Shape) (parts : IsParts shape.parts) (count : 26 �
   held-alike : (image : ℕ → List ℕ) → MayCome d true image → AreAlike shape d.bytes image
   held-alike image comes = alike d shape parts count image d.bytes comes (λ dev low. refl)
 
-  pub finds-held : (k : Kept) → Finds d true shape k → StandsFor shape d.bytes k
+  pub finds-held : (k : Kept) → FindsKept d true shape k → StandsFor shape d.bytes k
   finds-held k h = let f = h told in (same_finds shape d.bytes f.image (held-alike f.image f.comes)).finds_no_more k f.is
 
-  pub refuses-held : (e : OpenErr) → Refuses d true shape e → RefusedAs shape d.bytes e
+  pub refuses-held : (e : OpenErr) → RefusesDevices d true shape e → RefusedAs shape d.bytes e
   refuses-held e h = let f = h told in (same_finds shape d.bytes f.image (held-alike f.image f.comes)).refuses_no_more e f.is
 
 -- BY ANY READER
@@ -94,7 +94,7 @@ module _ (reads : IsReader definition_in) where
     keeps = s.keeps;
   }
 
-  pub open-as : (d : View) (shape : Shape) → IsParts shape.parts → 26 ≤ d.count → (k : Kept) → are_spent k.boot k.decisions ≡ false → Finds d true shape k → IsTrue d.told → OpenAs shape d.bytes k
+  pub open-as : (d : View) (shape : Shape) → IsParts shape.parts → 26 ≤ d.count → (k : Kept) → are_spent k.boot k.decisions ≡ false → FindsKept d true shape k → IsTrue d.told → OpenAs shape d.bytes k
   open-as d shape parts count k unspent finds told = opens shape d.bytes k (stand-for shape d.bytes k (finds-held d shape parts count told k finds)) unspent
 
   -- a refusal, as it is answered

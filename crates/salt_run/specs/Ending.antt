@@ -1,5 +1,5 @@
 -- What a run leaves of its devices, and by what they end it.
-use Rattle.salt_devices.specs.Filling.{Fills}
+use Rattle.salt_devices.specs.Filling.{FillsDevice}
 use Rattle.salt_devices.specs.Leaving.{StandsFor}
 use Rattle.salt_disk.specs.Disks.{IsImage, View}
 use Rattle.law_states.specs.Points.{KeepsPoint, Point}
@@ -32,7 +32,7 @@ pub record IsFullBehind (d : View) (shape : Shape) (trace : Trace) (dev : ℕ) :
   pub keeps : KeepsPoint point trace
   pub next : ToWrite
   pub writes : MayBeWritten point next
-  pub fills : Fills d shape next dev
+  pub fills : FillsDevice d shape next dev
 
 -- Behind a trace, where the disks tell their bytes: each image that a stop may leave of them stands for what is kept there, or, where the
 -- decision in flight is told, for that with it. By spent numbers a run ends only where it is down and they are so, and by a full device only

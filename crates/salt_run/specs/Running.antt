@@ -1,7 +1,7 @@
 -- What a run has to be: its start, its trace, what it writes, and what it leaves.
 use Rattle.salt_storage.specs.OpenErr.TheVariants as opening
 use Rattle.salt_devices.specs.Filling.{FillsIn}
-use Rattle.salt_devices.specs.Refusing.{Finds, Refuses}
+use Rattle.salt_devices.specs.Refusing.{FindsKept, RefusesDevices}
 use Rattle.salt_disk.specs.Disks.{IsImage, View}
 use Rattle.salt_devices.specs.Leaving.{StandsFor}
 use Rattle.salt_model.specs.Arming.{armed_behind, armed_by_lines}
@@ -55,7 +55,7 @@ pub record Replays (command : Command) (status : Status) (flight : Option Flight
 -- to. Each stop was armed before it came.
 pub record RunsOver (command : Command) (old new : View) (status : Status) (flight : Option Flight) (net : Option (List NetEvent)) (s : Streams) (story : List Event) : Type 0 where
   pub start : Start
-  pub stood : Finds old true (shape_of command) start.kept
+  pub stood : FindsKept old true (shape_of command) start.kept
   pub sound : IsSoundKept start.kept
   pub unspent : are_spent start.kept.boot start.kept.decisions ≡ false
   pub stops : start.can_stop ≡ old.can_stop
@@ -74,14 +74,14 @@ pub record FindsNothing (command : Command) (old new : View) (status : Status) (
   pub reason : OpenErr
   pub none : net ≡ None
   pub is : IsStatusOf reason status
-  pub refused : Refuses old true (shape_of command) reason ⊎ (reason ≡ opening.Memory)
+  pub refused : RefusesDevices old true (shape_of command) reason ⊎ (reason ≡ opening.Memory)
   pub unfound : IsUnfound story
   pub empty : (story ≡ []) ⊎ IsLater reason
   pub replays : (start : Start) → WellKept start.kept → Replays command status flight s story start
   pub armed : Stops status (armed_behind story (Some old.armed)) new.armed
-  pub rests : (k : Kept) → Finds old true (shape_of command) k → IsTrue new.told → (image : ℕ → List ℕ) → IsImage new image → StandsFor (shape_of command) image k
+  pub rests : (k : Kept) → FindsKept old true (shape_of command) k → IsTrue new.told → (image : ℕ → List ℕ) → IsImage new image → StandsFor (shape_of command) image k
   pub full : (dev : ℕ) → status ≡ DeviceFull dev → FillsIn new (shape_of command) OfOpening dev
-  pub unwritten : (refusal : OpenErr) → IsRefusal refusal → Refuses old true (shape_of command) refusal → IsTrue old.told → AreAsBefore (may_have_failed status) old new × (story ≡ [])
+  pub unwritten : (refusal : OpenErr) → IsRefusal refusal → RefusesDevices old true (shape_of command) refusal → IsTrue old.told → AreAsBefore (may_have_failed status) old new × (story ≡ [])
 
 abbrev pub Runs : Command → (old new : View) → Status → Option Flight → Option (List NetEvent) → Streams → List Event → Type 0
 Runs command old new status flight net s story =

@@ -5,7 +5,7 @@ use Rattle.std.specs.Prelude.{Err, Ok, OnOk}
 use Rattle.salt_ast.specs.Limits.{passed_in_list}
 use Rattle.salt_ast.specs.Words.{first_in}
 use Rattle.salt_ast.specs.declared.limit.LimitName.{LimitName}
-use Rattle.salt_script.specs.Literals.{Holds}
+use Rattle.salt_script.specs.Literals.{HoldsList}
 
 -- what holds anyway holds where a call succeeded
 pub on_ok : {E P Q : Type 0} (r : Result (Unit {0}) E) → (P → Q) → OnOk r P → OnOk r Q
@@ -74,16 +74,16 @@ room_passes l f (suc room) (y ∷ ys) x h lt = go (f y) h (λ g. room_passes l f
 
 module _ {A : Type 0} (limit_of : List A → Option LimitName) where
   -- a limit is passed, now or before
-  pub holds_limit : (kept read : List A) (l : LimitName) → limit_of read ≡ Some l → Holds limit_of (Some l) kept read
+  pub holds_limit : (kept read : List A) (l : LimitName) → limit_of read ≡ Some l → HoldsList limit_of (Some l) kept read
   holds_limit kept read l h = record { limit = sym h; whole = λ e. absurd cc }
 
   -- no limit is passed
-  pub holds_whole : (passed : Option LimitName) (kept read : List A) → passed ≡ None → limit_of read ≡ None → kept ≡ read → Holds limit_of passed kept read
+  pub holds_whole : (passed : Option LimitName) (kept read : List A) → passed ≡ None → limit_of read ≡ None → kept ≡ read → HoldsList limit_of passed kept read
   holds_whole passed kept read none h same = record { limit = none ∙ sym h; whole = λ e. same }
 
   -- what is told of what was read
-  pub limit_is : {passed : Option LimitName} {kept read : List A} {o : Option LimitName} → Holds limit_of passed kept read → passed ≡ o → limit_of read ≡ o
+  pub limit_is : {passed : Option LimitName} {kept read : List A} {o : Option LimitName} → HoldsList limit_of passed kept read → passed ≡ o → limit_of read ≡ o
   limit_is h e = sym h.limit ∙ e
 
-  pub whole_is : {passed : Option LimitName} {kept read : List A} → Holds limit_of passed kept read → passed ≡ None → kept ≡ read
+  pub whole_is : {passed : Option LimitName} {kept read : List A} → HoldsList limit_of passed kept read → passed ≡ None → kept ≡ read
   whole_is h e = h.whole e

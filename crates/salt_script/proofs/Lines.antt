@@ -28,7 +28,7 @@ use Rattle.salt_parse.specs.declared.error.ParseErr.TheVariants.{Limit, Memory, 
 use Rattle.salt_parse.proofs.Whole.{statement_deepens}
 use Rattle.salt_script.proofs.Acts.{IsSettled}
 use Rattle.salt_script.specs.Answers.{GivesOrLimit}
-use Rattle.salt_script.specs.Forms.{Begins, a_program, a_table, a_turn, all_turns, an_act, go_begins, line_begins, name_begins, no_line, show_begins}
+use Rattle.salt_script.specs.Forms.{LineStart, a_program, a_table, a_turn, all_turns, an_act, go_begins, line_begins, name_begins, no_line, show_begins}
 use Rattle.salt_script.specs.Forms.{pairs as begins_pairs, showing_bases, showing_locks}
 use Rattle.salt_script.specs.Literals.{pairs_at, pairs_passed}
 use Rattle.salt_script.specs.Spelled.{DeepAct, DeepLine, ShallowAct, ShallowLine, act_limit, line_arming}
@@ -119,7 +119,7 @@ abbrev arming : Armed → Symbol
 arming Stops = key word.Crash
 arming Twists = name (codes "net")
 
-data BegunAs : Symbols → Begins → Type 0 where
+data BegunAs : Symbols → LineStart → Type 0 where
   as_table : {us : Symbols} → BegunAs (key word.Create ∷ us) a_table
   as_program : {us : Symbols} → BegunAs (key word.Program ∷ us) a_program
   as_act : {s : ℕ} {us : Symbols} → BegunAs (sign mark.At ∷ int s ∷ us) (an_act s us)
@@ -157,7 +157,7 @@ view (name n ∷ us) = name_view n us
 view (sign mark.At ∷ int s ∷ us) = as_act
 view _ = as_none
 
-begun : (ts : Symbols) (b : Begins) → line_begins ts ≡ b → BegunAs ts b
+begun : (ts : Symbols) (b : LineStart) → line_begins ts ≡ b → BegunAs ts b
 begun ts b e = subst (BegunAs ts) e (view ts)
 
 -- ---- what neither stands before other tokens nor holds expressions

@@ -15,7 +15,7 @@ use Rattle.salt_parse.proofs.Whole.{row_program, row_statement, row_table}
 use Rattle.salt_parse.specs.Settling.{DeepProgram, DeepStatement, DeepTable}
 use Rattle.salt_script.proofs.Calls.{call_complete}
 use Rattle.salt_script.proofs.Lines.{pairs_complete}
-use Rattle.salt_script.specs.Forms.{ActBegins, Begins, a_call, a_program, a_statement, a_table, a_turn, a_word, act_begins, all_turns, an_act, line_begins}
+use Rattle.salt_script.specs.Forms.{ActBegins, LineStart, a_call, a_program, a_statement, a_table, a_turn, a_word, act_begins, all_turns, an_act, line_begins}
 use Rattle.salt_script.specs.Forms.{no_line, pairs as begins_pairs, showing_bases, showing_locks}
 use Rattle.salt_script.specs.Literals.{pairs_at}
 use Rattle.salt_script.specs.Spelled.{DeepAct, DeepLine, call_at, line_arming as armed_line}
@@ -55,7 +55,7 @@ one_act_of ts a_statement x y d e = d.1 ∙ ap act.Do (row_statement ts d.0 e.0 
 row_act : (ts : Symbols) (x y : Act) → DeepAct ts x → DeepAct ts y → x ≡ y
 row_act ts x y d e = one_act_of ts (act_begins ts) x y (act_of ts x d) (act_of ts y e)
 
-abbrev IsLineOf : Symbols → Begins → Line → Type 0
+abbrev IsLineOf : Symbols → LineStart → Line → Type 0
 IsLineOf ts a_table x = (d : TableDef) × (x ≡ line.Table d) × DeepTable ts d
 IsLineOf ts a_program x = (p : ProgramDef) × (x ≡ line.Program p) × DeepProgram ts p
 IsLineOf ts (an_act s us) x = (a : Act) × (x ≡ line.Session s a) × DeepAct us a
@@ -77,7 +77,7 @@ line_of _ _ form.of_show_bases = refl
 line_of _ _ (form.of_crash {stops = xs} d) = (xs, refl, pairs_complete d)
 line_of _ _ (form.of_net {pairs = xs} d) = (xs, refl, pairs_complete d)
 
-one_line_of : (ts : Symbols) (b : Begins) (x y : Line) → IsLineOf ts b x → IsLineOf ts b y → x ≡ y
+one_line_of : (ts : Symbols) (b : LineStart) (x y : Line) → IsLineOf ts b x → IsLineOf ts b y → x ≡ y
 one_line_of ts a_table x y d e = d.1 ∙ ap line.Table (row_table ts d.0 e.0 d.2 e.2) ∙ sym e.1
 one_line_of ts a_program x y d e = d.1 ∙ ap line.Program (row_program ts d.0 e.0 d.2 e.2) ∙ sym e.1
 one_line_of ts (an_act s us) x y d e = d.1 ∙ ap (line.Session s) (row_act us d.0 e.0 d.2 e.2) ∙ sym e.1

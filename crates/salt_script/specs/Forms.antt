@@ -17,28 +17,28 @@ use Rattle.std.specs.Prelude.{Err, List, Ok, Result, [], codes, if◌then◌else
 use Rattle.std.specs.Str.{bytes_eq}
 
 -- a line: by the keyword or the name, or a session's act
-pub data Begins : Type 0 where
-  a_table : Begins
-  a_program : Begins
-  an_act : (session : ℕ) → Symbols → Begins
-  a_turn : (boot seq : ℕ) → Begins
-  all_turns : Begins
-  showing_locks : Begins
-  showing_bases : Begins
-  pairs : Armed → Symbols → Begins
-  no_line : Begins
+pub data LineStart : Type 0 where
+  a_table : LineStart
+  a_program : LineStart
+  an_act : (session : ℕ) → Symbols → LineStart
+  a_turn : (boot seq : ℕ) → LineStart
+  all_turns : LineStart
+  showing_locks : LineStart
+  showing_bases : LineStart
+  pairs : Armed → Symbols → LineStart
+  no_line : LineStart
 
-abbrev pub go_begins : Symbols → Begins
+abbrev pub go_begins : Symbols → LineStart
 go_begins (int boot ∷ sign mark.Dot ∷ int seq ∷ []) = a_turn boot seq
 go_begins (key word.All ∷ []) = all_turns
 go_begins _ = no_line
 
-abbrev pub show_begins : Symbols → Begins
+abbrev pub show_begins : Symbols → LineStart
 show_begins (key word.Locks ∷ []) = showing_locks
 show_begins (key word.Bases ∷ []) = showing_bases
 show_begins _ = no_line
 
-abbrev pub word_begins : Keyword → Symbols → Begins
+abbrev pub word_begins : Keyword → Symbols → LineStart
 word_begins word.Create ts = a_table
 word_begins word.Program ts = a_program
 word_begins word.Go ts = go_begins ts
@@ -47,17 +47,17 @@ word_begins word.Crash ts = pairs armed.Stops ts
 word_begins _ ts = no_line
 
 -- `net` is a name, of tables too
-abbrev pub name_begins : List ℕ → Symbols → Begins
+abbrev pub name_begins : List ℕ → Symbols → LineStart
 name_begins n ts = if bytes_eq n (codes "net") then pairs armed.Twists ts else no_line
 
-abbrev pub line_begins : Symbols → Begins
+abbrev pub line_begins : Symbols → LineStart
 line_begins (key k ∷ ts) = word_begins k ts
 line_begins (name n ∷ ts) = name_begins n ts
 line_begins (sign mark.At ∷ int session ∷ ts) = an_act session ts
 line_begins _ = no_line
 
 -- what the program's form stands for
-abbrev pub begun_by : Form → Begins
+abbrev pub begun_by : Form → LineStart
 begun_by form_is.Table = a_table
 begun_by form_is.Program = a_program
 begun_by (form_is.Session session ts) = an_act session (symbols_in ts.now)

@@ -53,12 +53,12 @@ IsValueOf (Ok v) w = (v ≡ w) × (value_passed w ≡ None)
 IsValueOf (Err l) w = value_passed w ≡ Some l
 
 -- the first limit that what was read passes, and, while it passes none, what was read
-pub record Holds {A : Type 0} (limit_of : List A → Option LimitName) (passed : Option LimitName) (kept read : List A) : Type 0 where
+pub record HoldsList {A : Type 0} (limit_of : List A → Option LimitName) (passed : Option LimitName) (kept read : List A) : Type 0 where
   pub limit : passed ≡ limit_of read
   pub whole : passed ≡ None → kept ≡ read
 
 abbrev pub HoldsArgs : Args → List Value → Type 0
-HoldsArgs args vs = Holds (first_in value_passed) args.passed args.row vs
+HoldsArgs args vs = HoldsList (first_in value_passed) args.passed args.row vs
 
 -- the next literal was taken
 pub record IsTaken (old new : Args) : Type 0 where
@@ -96,7 +96,7 @@ abbrev pub pairs_passed : Armed → List (ℕ × ℕ) → Option LimitName
 pairs_passed armed pairs = passed_in_list PAIRS_MOST limit.Pairs (pair_passed armed) pairs
 
 abbrev pub HoldsPairs : Arming → List (ℕ × ℕ) → Type 0
-HoldsPairs arming read = Holds (pairs_passed arming.armed) arming.passed arming.pairs read
+HoldsPairs arming read = HoldsList (pairs_passed arming.armed) arming.passed arming.pairs read
 
 -- the next pair was taken
 pub record IsPairTaken (old new : Arming) : Type 0 where

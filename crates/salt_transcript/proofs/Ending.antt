@@ -4,7 +4,7 @@ use Rattle.salt_audit.proofs.Clashing.{one_line}
 use Rattle.salt_audit.proofs.OneMore.{printable_more}
 use Rattle.salt_audit.specs.Retelling.{retold}
 use Rattle.salt_audit.specs.Verdicts.{found_in, sound}
-use Rattle.salt_audit.specs.Transcripts.{Begins, IsLeft, IsVerdict, SoFar, all_told, breaks, is_unformed, lines_so_far, no_text, tables_told, text_so_far}
+use Rattle.salt_audit.specs.Transcripts.{BeginsWith, IsLeft, IsVerdict, SoFar, all_told, breaks, is_unformed, lines_so_far, no_text, tables_told, text_so_far}
 use Rattle.salt_audit.specs.declared.verdict.Law.{Law}
 use Rattle.salt_audit.specs.declared.verdict.Verdict.TheVariants.{Broken, NotText, Unformed, Yes}
 use Rattle.salt_events.specs.Lines.{GoesOn}
@@ -22,7 +22,7 @@ use Rattle.salt_values.specs.declared.id.Id.{Id}
 use Rattle.std.proofs.Common.{List, [], ap, append_assoc, arith, false, length, refl, subst, suc, sym, true, ℕ, ◌+◌, ◌++◌, ◌<◌, ◌^◌, ◌∙◌, ◌∷◌, ◌≡◌}
 use Rattle.std.proofs.lemmas.List.{length-append}
 
-begun : (r : Reader) (s : SoFar) (bytes rest : List ℕ) → HasRead r s → bytes ≡ text_so_far s ++ rest → Begins bytes s rest
+begun : (r : Reader) (s : SoFar) (bytes rest : List ℕ) → HasRead r s → bytes ≡ text_so_far s ++ rest → BeginsWith bytes s rest
 begun r s bytes rest h e = record { text = e; events = h.printable; items = h.showable }
 
 left_unless : (items : List Item) (rest : List ℕ) → is_all_told items rest ≡ false → IsLeft items rest
@@ -42,9 +42,9 @@ whole r s bytes rest h e told =
     let none = none_left r.items rest told in
     let b = begun r s bytes rest h e in
     let items : s.items ≡ [] = sym h.items ∙ none.0 in
-    let at : Begins bytes (record { story = s.story; items = [] }) [] =
-    subst (λ (l : List ℕ). Begins bytes (record { story = s.story; items = [] }) l) none.1
-    (subst (λ (is : List Item). Begins bytes (record { story = s.story; items = is }) rest) items b) in
+    let at : BeginsWith bytes (record { story = s.story; items = [] }) [] =
+    subst (λ (l : List ℕ). BeginsWith bytes (record { story = s.story; items = [] }) l) none.1
+    (subst (λ (is : List Item). BeginsWith bytes (record { story = s.story; items = is }) rest) items b) in
     subst (λ (n : ℕ). IsVerdict bytes (Yes n)) (sym h.events) (all_told s.story at h.told.found)
 
 -- A LINE THAT IS NO TEXT
@@ -94,7 +94,7 @@ module _ (laws : Laws) (r : Reader) (s : SoFar) (bytes : List ℕ) (h : HasRead 
 -- behind what is read
 begun_more : (r : Reader) (s : SoFar) (event : Event) (line bytes more : List ℕ) → HasRead r s → IsPrintable (tables_told s.story) event →
     text_so_far (record { story = s.story ++ event ∷ []; items = [] }) ≡ text_so_far s ++ (line ++ 10 ∷ []) → bytes ≡ text_so_far s ++ (line ++ (10 ∷ more)) →
-    Begins bytes (record { story = s.story ++ event ∷ []; items = [] }) more
+    BeginsWith bytes (record { story = s.story ++ event ∷ []; items = [] }) more
 begun_more r s event line bytes more h printable text e =
     let all = e
     ∙ ap (λ (l : List ℕ). text_so_far s ++ l) (sym (append_assoc line (10 ∷ []) more))
@@ -103,7 +103,7 @@ begun_more r s event line bytes more h printable text e =
     record { text = all; events = printable_more (retold []) s.story event h.printable printable; items = tt }
 
 -- and so far bytes are sound no more
-stops_behind : (laws : Laws) (s : SoFar) (event : Event) (line bytes more behind : List ℕ) → Begins bytes (record { story = s.story ++ event ∷ []; items = [] }) more →
+stops_behind : (laws : Laws) (s : SoFar) (event : Event) (line bytes more behind : List ℕ) → BeginsWith bytes (record { story = s.story ++ event ∷ []; items = [] }) more →
     (found_in (s.story ++ event ∷ []) ≡ sound → ⊥) → bytes ≡ text_so_far s ++ (line ++ (10 ∷ more)) → IsSoundTo bytes behind → length more < length behind
 stops_behind laws s event line bytes more behind g amiss e to =
     let before = before_amiss laws bytes (record { story = s.story ++ event ∷ []; items = [] }) more amiss g to.so_far (to.line ++ behind) to.found to.begins in

@@ -5,7 +5,7 @@ use Rattle.salt_audit.proofs.Clashing.{AreLines, LinesAreWhole, are_lines, clash
 use Rattle.salt_audit.proofs.OneVerdict.{printable_app, sound_front}
 use Rattle.salt_audit.specs.Retelling.{retold, told, told_on}
 use Rattle.salt_audit.specs.Stories.{IsFrontOf}
-use Rattle.salt_audit.specs.Transcripts.{ArePrintableOn, Begins, IsLongest, IsShowable, SoFar, tables_told, text_on}
+use Rattle.salt_audit.specs.Transcripts.{ArePrintableOn, BeginsWith, IsLongest, IsShowable, SoFar, tables_told, text_on}
 use Rattle.salt_audit.specs.Verdicts.{found_in, sound}
 use Rattle.salt_events.specs.Lines.{an_event, an_item, counts}
 use Rattle.salt_model.specs.After.{kept}
@@ -171,7 +171,7 @@ abbrev so : List Event → List Item → SoFar
 so story items = record { story = story; items = items }
 
 -- behind a story, where one goes on with it
-behind : (bytes : List ℕ) (a : List Event) (is js : List Item) (c : List Event) (r s : List ℕ) → Begins bytes (so a is) r → Begins bytes (so (a ++ c) js) s →
+behind : (bytes : List ℕ) (a : List Event) (is js : List Item) (c : List Event) (r s : List ℕ) → BeginsWith bytes (so a is) r → BeginsWith bytes (so (a ++ c) js) s →
     flat_map (item_text (tables_told a)) is ++ r ≡ text_on (retold a) c ++ (flat_map (item_text (tables_told (a ++ c))) js ++ s)
 behind bytes a is js c r s g h =
     let left = append_assoc (text_on (retold []) a) (flat_map (item_text (tables_told a)) is) r in
@@ -181,7 +181,7 @@ behind bytes a is js c r s g h =
     append_cancel_left (text_on (retold []) a) _ _ (sym left ∙ (sym g.text ∙ h.text) ∙ right)
 
 -- behind the same story
-beside : (bytes : List ℕ) (a : List Event) (is js : List Item) (r s : List ℕ) → Begins bytes (so a is) r → Begins bytes (so a js) s →
+beside : (bytes : List ℕ) (a : List Event) (is js : List Item) (r s : List ℕ) → BeginsWith bytes (so a is) r → BeginsWith bytes (so a js) s →
     flat_map (item_text (tables_told a)) is ++ r ≡ flat_map (item_text (tables_told a)) js ++ s
 beside bytes a is js r s g h =
     append_cancel_left (text_on (retold []) a) _ _
@@ -204,16 +204,16 @@ pub record Laws : Type 0 where
   pub named : SoundAreNamed
 
 module _ (laws : Laws) (bytes : List ℕ) (a : List Event) (is : List Item) (sized : IsSized (length is)) (rest : List ℕ) (sure : found_in a ≡ sound)
-    (g : Begins bytes (so a is) rest) (nowhere : GoesOnNowhere (tables_told a) is rest) where
+    (g : BeginsWith bytes (so a is) rest) (nowhere : GoesOnNowhere (tables_told a) is rest) where
   lines_are : (js : List Item) → Every (IsShowable (tables_told a)) js → AreLines (tables_told a) js
   lines_are js h = are_lines laws.whole (tables_told a) (laws.named a sure) js h
 
-  same_story : (js : List Item) (less : List ℕ) → Begins bytes (so a js) less → length rest ≤ length less
+  same_story : (js : List Item) (less : List ℕ) → BeginsWith bytes (so a js) less → length rest ≤ length less
   same_story js less h =
       items_stuck (tables_told a) is rest nowhere is js less (lines_are is g.items) (lines_are js h.items) h.items (beside bytes a is js rest less g h)
 
   -- a story that goes on with this one
-  further : (c : Event) (cs : List Event) (js : List Item) (less : List ℕ) → Begins bytes (so (a ++ c ∷ cs) js) less → ⊥
+  further : (c : Event) (cs : List Event) (js : List Item) (less : List ℕ) → BeginsWith bytes (so (a ++ c ∷ cs) js) less → ⊥
   further c cs js less h =
       let schema = tables_told a in
       let z = text_on (told (retold a) c) cs ++ (flat_map (item_text (tables_told (a ++ c ∷ cs))) js ++ less) in
@@ -224,7 +224,7 @@ module _ (laws : Laws) (bytes : List ℕ) (a : List Event) (is : List Item) (siz
 
 -- a story that this one goes on with
 nearer : (laws : Laws) (bytes : List ℕ) (b : List Event) (c : Event) (cs : List Event) (is js : List Item) (rest less : List ℕ) → found_in b ≡ sound →
-    Begins bytes (so (b ++ c ∷ cs) is) rest → Begins bytes (so b js) less → length rest < length less
+    BeginsWith bytes (so (b ++ c ∷ cs) is) rest → BeginsWith bytes (so b js) less → length rest < length less
 nearer laws bytes b c cs is js rest less sure g h =
     let schema = tables_told b in
     let z = text_on (told (retold b) c) cs ++ (flat_map (item_text (tables_told (b ++ c ∷ cs))) is ++ rest) in
@@ -237,7 +237,7 @@ nearer laws bytes b c cs is js rest less sure g h =
     unless (length rest) (length less)
     (λ (no_more : length less ≤ length rest). clash laws.whole schema named js c less z h.items p text (omega (arith, first, second, no_more)))
 
-pub longest : (laws : Laws) (bytes : List ℕ) (s : SoFar) (rest : List ℕ) → IsSized (length s.items) → found_in s.story ≡ sound → Begins bytes s rest →
+pub longest : (laws : Laws) (bytes : List ℕ) (s : SoFar) (rest : List ℕ) → IsSized (length s.items) → found_in s.story ≡ sound → BeginsWith bytes s rest →
     GoesOnNowhere (tables_told s.story) s.items rest → IsLongest bytes rest
 longest laws bytes s rest sized sure g nowhere t less h =
     by (laws.agree s.story t.story (flat_map (item_text (tables_told s.story)) s.items ++ rest) (flat_map (item_text (tables_told t.story)) t.items ++ less) g.events h.events sure
@@ -245,20 +245,20 @@ longest laws bytes s rest sized sure g nowhere t less h =
     ∙ append_assoc (text_on (retold []) t.story) (flat_map (item_text (tables_told t.story)) t.items) less))
   where
     at_same : s.story ≡ t.story → length rest ≤ length less
-    at_same e = same_story laws bytes s.story s.items sized rest sure g nowhere t.items less (subst (λ (a : List Event). Begins bytes (so a t.items) less) (sym e) h)
+    at_same e = same_story laws bytes s.story s.items sized rest sure g nowhere t.items less (subst (λ (a : List Event). BeginsWith bytes (so a t.items) less) (sym e) h)
 
     by : IsFrontOf s.story t.story ⊎ IsFrontOf t.story s.story → length rest ≤ length less
     by (inl ([], e)) = at_same (sym (append-nil s.story) ∙ sym e)
-    by (inl (c ∷ cs, e)) = absurd (further laws bytes s.story s.items sized rest sure g nowhere c cs t.items less (subst (λ (b : List Event). Begins bytes (so b t.items) less) e h))
+    by (inl (c ∷ cs, e)) = absurd (further laws bytes s.story s.items sized rest sure g nowhere c cs t.items less (subst (λ (b : List Event). BeginsWith bytes (so b t.items) less) e h))
     by (inr ([], e)) = at_same (e ∙ append-nil t.story)
     by (inr (c ∷ cs, e)) =
         let front = sound_front t.story (c ∷ cs) (subst (λ (b : List Event). found_in b ≡ sound) e sure) in
-        let near = nearer laws bytes t.story c cs s.items t.items rest less front (subst (λ (b : List Event). Begins bytes (so b s.items) rest) e g) h in
+        let near = nearer laws bytes t.story c cs s.items t.items rest less front (subst (λ (b : List Event). BeginsWith bytes (so b s.items) rest) e g) h in
         omega (arith, near)
 
 -- no sound story reaches behind an event that is amiss
-pub before_amiss : (laws : Laws) (bytes : List ℕ) (s : SoFar) (more : List ℕ) → (found_in s.story ≡ sound → ⊥) → Begins bytes s more →
-    (t : SoFar) (less : List ℕ) → found_in t.story ≡ sound → Begins bytes t less → length more < length less
+pub before_amiss : (laws : Laws) (bytes : List ℕ) (s : SoFar) (more : List ℕ) → (found_in s.story ≡ sound → ⊥) → BeginsWith bytes s more →
+    (t : SoFar) (less : List ℕ) → found_in t.story ≡ sound → BeginsWith bytes t less → length more < length less
 before_amiss laws bytes s more amiss g t less sure h =
     by (laws.agree t.story s.story (flat_map (item_text (tables_told t.story)) t.items ++ less) (flat_map (item_text (tables_told s.story)) s.items ++ more) h.events g.events sure
     (sym (append_assoc (text_on (retold []) t.story) (flat_map (item_text (tables_told t.story)) t.items) less) ∙ (sym h.text ∙ g.text)
@@ -266,5 +266,5 @@ before_amiss laws bytes s more amiss g t less sure h =
   where
     by : IsFrontOf t.story s.story ⊎ IsFrontOf s.story t.story → length more < length less
     by (inl ([], e)) = absurd (amiss (subst (λ (b : List Event). found_in b ≡ sound) (sym (e ∙ append-nil t.story)) sure))
-    by (inl (c ∷ cs, e)) = nearer laws bytes t.story c cs s.items t.items more less sure (subst (λ (b : List Event). Begins bytes (so b s.items) more) e g) h
+    by (inl (c ∷ cs, e)) = nearer laws bytes t.story c cs s.items t.items more less sure (subst (λ (b : List Event). BeginsWith bytes (so b s.items) more) e g) h
     by (inr (front, e)) = absurd (amiss (sound_front s.story front (subst (λ (b : List Event). found_in b ≡ sound) e sure)))

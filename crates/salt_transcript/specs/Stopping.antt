@@ -1,6 +1,6 @@
 -- Where the reading of bytes stops: at the line that gives the verdict, or where too many came.
 use Rattle.law_texts.specs.EventLines.{Inline}
-use Rattle.salt_audit.specs.Transcripts.{Begins, IsVerdict, SoFar}
+use Rattle.salt_audit.specs.Transcripts.{BeginsWith, IsVerdict, SoFar}
 use Rattle.salt_audit.specs.Verdicts.{found_in, sound}
 use Rattle.salt_audit.specs.declared.verdict.Verdict.{Verdict}
 use Rattle.salt_transcript.specs.declared.source.TheConstants.{TRANSCRIPT_MOST}
@@ -10,7 +10,7 @@ use Rattle.std.specs.Prelude.{List, length, ℕ, ◌+◌, ◌++◌, ◌<◌, ◌
 pub record IsSoundTo (bytes behind : List ℕ) : Type 0 where
   pub so_far : SoFar
   pub line : List ℕ
-  pub begins : Begins bytes so_far (line ++ behind)
+  pub begins : BeginsWith bytes so_far (line ++ behind)
   pub found : found_in so_far.story ≡ sound
   pub inline : Inline line
 

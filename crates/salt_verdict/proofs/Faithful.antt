@@ -13,13 +13,13 @@ use Rattle.salt_model.specs.declared.events.Event.{Event}
 use Rattle.salt_values.specs.declared.id.Id.{Id}
 use Rattle.salt_verdict.proofs.Active.{does_open, ends_open}
 use Rattle.salt_verdict.proofs.Listed.{agreeing}
-use Rattle.salt_verdict.specs.Ledger.{Holds, amiss_by, dishonest_by, is_unfaithful, replays_by, unfaithful_in}
+use Rattle.salt_verdict.specs.Ledger.{HoldsTrace, amiss_by, dishonest_by, is_unfaithful, replays_by, unfaithful_in}
 use Rattle.salt_verdict.specs.declared.ledger.Ledger.{Ledger}
 use Rattle.std.proofs.Common.{Bool, List, [], ap, false, if◌then◌else◌, not, refl, sym, true, ◌++◌, ◌∙◌, ◌∷◌, ◌≡◌}
 use Rattle.std.specs.List.{filter}
 use Rattle.std.specs.Prelude.{is_some}
 
-module _ (l : Ledger) (trace : Trace) (h : Holds l trace) where
+module _ (l : Ledger) (trace : Trace) (h : HoldsTrace l trace) where
   replay_same : (u : Id) → is_open trace u ≡ true → replays trace u ≡ replays_by l u
   replay_same u runs = λ i. same_all is_same_answer (h.answers u runs i) (serial (h.knows.schema i) (h.tables i) (h.vars u runs i) (h.done u runs i)).answers
 
@@ -52,6 +52,6 @@ module _ (l : Ledger) (trace : Trace) (h : Holds l trace) where
   amiss_same (event.Armed pairs) f = refl
   amiss_same (event.Shown items) f = refl
 
-pub dishonest_same : (before after : Ledger) (trace : Trace) (e : Event) → Holds before trace → is_formed_by trace e ≡ true → Holds after (told trace e) →
+pub dishonest_same : (before after : Ledger) (trace : Trace) (e : Event) → HoldsTrace before trace → is_formed_by trace e ≡ true → HoldsTrace after (told trace e) →
     dishonest_by before after e ≡ dishonest trace e
 dishonest_same before after trace e h f k = λ i. unfaithful_same after (told trace e) k i ++ amiss_same before trace h e f i

@@ -37,7 +37,7 @@ use Rattle.salt_verdict.specs.After.{IsAfter, act_by, active_by, conts_after, fr
 use Rattle.salt_verdict.specs.Goings.{begun_with, conts_kept, conts_noted, moved_with}
 use Rattle.salt_verdict.specs.Variables.{vars_begun, vars_called, vars_going, vars_placed}
 use Rattle.salt_verdict.specs.declared.ledger.Act.{Act}
-use Rattle.salt_verdict.specs.Ledger.{Holds, act_in, answers_in, done_in, run_by, vars_in}
+use Rattle.salt_verdict.specs.Ledger.{HoldsTrace, act_in, answers_in, done_in, run_by, vars_in}
 use Rattle.salt_verdict.specs.Made.{tables_made}
 use Rattle.salt_verdict.specs.declared.ledger.Ledger.{Ledger}
 use Rattle.std.proofs.Common.{Bool, List, None, Option, Some, [], ap, false, if◌then◌else◌, map, option_and_then, option_map, refl, sym, true, true≢false, ℕ, ◌++◌, ◌∙◌, ◌∷◌, ◌≡◌}
@@ -94,7 +94,7 @@ record Tells (u : Id) (t : Trace) (o : Option Act) : Type 0 where
   done : is_open t u ≡ true → done_of u t ≡ done_in o
   answers : is_open t u ≡ true → answers_of u t ≡ answers_in o
 
-module _ (l : Ledger) (trace : Trace) (h : Holds l trace) where
+module _ (l : Ledger) (trace : Trace) (h : HoldsTrace l trace) where
   pub run_same : (u : Id) → is_open trace u ≡ true → run_of u trace ≡ run_by l u
   run_same u runs = λ i. serial (h.knows.schema i) (h.tables i) (h.vars u runs i) (h.done u runs i)
 
@@ -298,7 +298,7 @@ module _ (l : Ledger) (trace : Trace) (h : Holds l trace) where
   active_on : (e : Event) → is_formed_by trace e ≡ true → open_units (told trace e) ≡ active_by e l.active.items
   active_on e f = open_units_on trace e f ∙ ap (active_by e) h.active
 
-  pub holds_on : (m : Ledger) (e : Event) → is_formed_by trace e ≡ true → Knows (record m.state { conts = conts_by e l.state }) (told trace e) → IsAfter l m e → Holds m (told trace e)
+  pub holds_on : (m : Ledger) (e : Event) → is_formed_by trace e ≡ true → Knows (record m.state { conts = conts_by e l.state }) (told trace e) → IsAfter l m e → HoldsTrace m (told trace e)
   holds_on m e f knows after =
       let conts : (kept (told trace e)).conts ≡ m.state.conts = conts_on e f ∙ sym after.conts in
       record {

@@ -30,5 +30,5 @@ outcome_now again = record { answers = again.answers; vars = again.unit.vars; ed
 abbrev pub outcome_of_run : UnitRun → Outcome
 outcome_of_run run = record { answers = run.answers; vars = run.vars; edits = run.changes.list }
 
-pub record Gives (again : Again) (run : UnitRun) : Type 0 where
+pub record GivesOutcome (again : Again) (run : UnitRun) : Type 0 where
   pub outcome : outcome_now again ≡ outcome_of_run run

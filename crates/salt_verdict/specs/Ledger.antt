@@ -83,7 +83,7 @@ abbrev pub dishonest_by : (before after : Ledger) → Event → List Id
 dishonest_by before after e = unfaithful_in after ++ amiss_by before e
 
 -- what is known is what the trace tells; of what units have done, that of the open ones
-pub record Holds (l : Ledger) (trace : Trace) : Type 0 where
+pub record HoldsTrace (l : Ledger) (trace : Trace) : Type 0 where
   pub knows : Knows l.state trace
   pub tables : tables_after trace ≡ tables_made l.rows
   pub conts : (kept trace).conts ≡ l.state.conts

@@ -2,7 +2,7 @@
 
 ghost use Rattle.salt_eval.specs.Scans.{IsKeyed};
 ghost use Rattle.salt_model.specs.Statements.{serial};
-ghost use Rattle.salt_verdict.specs.Again.{Gives};
+ghost use Rattle.salt_verdict.specs.Again.{GivesOutcome};
 ghost use Rattle.std.specs.Prelude.{IfOk, ◌≡◌};
 
 use crate::keys::leaves_keys;
@@ -35,7 +35,7 @@ pub fn do_again<V: RowView>(
     done: &[Statement],
 ) -> Result<Again, ViewErr>
     requires { IsKeyed (V.tables view.old) }
-    ensures { IfOk result (λ again. Gives again (serial schema.now (V.tables view.old) vars done.now)) }
+    ensures { IfOk result (λ again. GivesOutcome again (serial schema.now (V.tables view.old) vars done.now)) }
 {
     edits_make_the_tables();
     let mut unit = OpenUnit::new(alloc, Id { boot: 0, seq: 0 }, vars);

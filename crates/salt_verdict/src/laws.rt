@@ -6,7 +6,7 @@ ghost use Rattle.salt_audit.specs.Retelling.{told};
 ghost use Rattle.salt_model.specs.Trace.{Trace};
 ghost use Rattle.salt_model.specs.declared.events.Event.{Event};
 ghost use Rattle.salt_verdict.specs.After.{IsAfter};
-ghost use Rattle.salt_verdict.specs.Ledger.{AreFaithful, Holds, dishonest_by, unfaithful_by, unfaithful_in};
+ghost use Rattle.salt_verdict.specs.Ledger.{AreFaithful, HoldsTrace, dishonest_by, unfaithful_by, unfaithful_in};
 ghost use Rattle.salt_verdict.specs.declared.ledger.Ledger.{Ledger};
 ghost use Rattle.law_states.specs.Overlays.{with_edits};
 ghost use Rattle.salt_ast.specs.declared.trees.Statement.{Statement};
@@ -21,7 +21,7 @@ use salt_audit::knowledge_goes_on;
 
 /// The units that break honest by what is known before an event that is formed and behind it are those that break it in the trace.
 pub fn honest_is_exact()
-    ensures { (before after : Ledger) (trace : Trace) (e : Event) → Holds before trace → is_formed_by trace e ≡ true → Holds after (told trace e) → dishonest_by before after e ≡ dishonest trace e }
+    ensures { (before after : Ledger) (trace : Trace) (e : Event) → HoldsTrace before trace → is_formed_by trace e ≡ true → HoldsTrace after (told trace e) → dishonest_by before after e ≡ dishonest trace e }
 {}
 
 /// Where no open unit was unfaithful before an event, those that are so behind it are among those whose replay it may change.
@@ -31,7 +31,7 @@ pub fn changes_tell_the_unfaithful()
 
 /// What is known behind an event is what the trace with it tells, where what was known before it is what the trace told.
 pub fn holding_goes_on()
-    ensures { (l m : Ledger) (trace : Trace) (e : Event) → Holds l trace → is_formed_by trace e ≡ true → IsAfter l m e → Holds m (told trace e) }
+    ensures { (l m : Ledger) (trace : Trace) (e : Event) → HoldsTrace l trace → is_formed_by trace e ≡ true → IsAfter l m e → HoldsTrace m (told trace e) }
 {
     knowledge_goes_on();
 }

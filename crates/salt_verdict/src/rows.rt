@@ -29,7 +29,7 @@ impl Rows {
     ghost use Rattle.law_states.specs.Overlays.{with_edits};
     ghost use Rattle.salt_model.specs.Statements.{serial};
     ghost use Rattle.salt_model.specs.Tables.{no_rows};
-    ghost use Rattle.salt_verdict.specs.Again.{Gives};
+    ghost use Rattle.salt_verdict.specs.Again.{GivesOutcome};
     ghost use Rattle.salt_verdict.specs.Made.{tables_made};
     ghost use Rattle.std.specs.Prelude.{IfOk, OnOk};
 
@@ -64,7 +64,7 @@ impl Rows {
         vars: Vars,
         done: &[Statement],
     ) -> Result<Again, ViewErr>
-        ensures { IfOk result (λ again. Gives again (serial schema.now (tables_made self.now) vars done.now)) }
+        ensures { IfOk result (λ again. GivesOutcome again (serial schema.now (tables_made self.now) vars done.now)) }
     {
         rows_stay_at_their_keys();
         let none: Tables = BTreeMap::new(alloc);

@@ -3,7 +3,7 @@
 ghost use Rattle.salt_audit.specs.Retelling.{retold};
 ghost use Rattle.salt_cont.specs.Catalogues.{AllLeadOn};
 ghost use Rattle.salt_values.specs.declared.id.Id.{Id};
-ghost use Rattle.salt_verdict.specs.Ledger.{Holds, act_in};
+ghost use Rattle.salt_verdict.specs.Ledger.{HoldsTrace, act_in};
 ghost use Rattle.std.specs.Prelude.{None, [], ◌≡◌};
 
 use crate::ledger::{Acts, Ledger};
@@ -21,7 +21,7 @@ fn no_acts(alloc: Global) -> Acts
 
 /// Nothing is told before the first event.
 pub fn nothing_told(alloc: Global) -> Ledger
-    ensures holds { Holds result (retold []) }
+    ensures holds { HoldsTrace result (retold []) }
     ensures leads { AllLeadOn result.state.catalogue }
 {
     Ledger {

@@ -6,7 +6,7 @@ ghost use Rattle.salt_model.specs.declared.events.End.TheVariants.{Committed};
 ghost use Rattle.salt_model.specs.declared.events.Event.TheVariants.{Began, Did, Ended};
 ghost use Rattle.salt_values.specs.declared.id.Id.{Id};
 ghost use Rattle.salt_verdict.specs.After.{IsAfter, act_by, active_by, commit_in, commit_of, order_by};
-ghost use Rattle.salt_verdict.specs.Again.{Gives};
+ghost use Rattle.salt_verdict.specs.Again.{GivesOutcome};
 ghost use Rattle.salt_verdict.specs.Ledger.{act_in, run_by};
 ghost use Rattle.std.specs.Prelude.{IfOk, None, OnOk, [], true, ◌++◌, ◌∷◌, ◌≡◌};
 
@@ -55,7 +55,7 @@ fn commit_in(event: &Event) -> Option<Commit>
 
 /// What a unit's statements give where they are done again.
 pub fn run_again(alloc: Global, ledger: &Ledger, unit: Id) -> Result<Again, ViewErr>
-    ensures { IfOk result (λ again. Gives again (run_by ledger.now unit)) }
+    ensures { IfOk result (λ again. GivesOutcome again (run_by ledger.now unit)) }
 {
     let schema = &ledger.state.schema;
     match act_of(&ledger.acts, unit) {

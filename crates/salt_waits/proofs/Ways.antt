@@ -7,7 +7,7 @@ use Rattle.salt_model.specs.Waiting.{edges_in}
 use Rattle.salt_values.specs.Id.{is_same_id}
 use Rattle.salt_values.specs.declared.id.Id.{Id}
 use Rattle.salt_waits.proofs.Circles.{listed, place_of}
-use Rattle.salt_waits.specs.Victims.{Waits, at_once, graph_of, through}
+use Rattle.salt_waits.specs.Victims.{WaitsFor, at_once, graph_of, through}
 use Rattle.salt_waits.specs.declared.units.WaitUnit.{WaitUnit}
 use Rattle.std.specs.List.{list_any}
 use Rattle.std.proofs.Common.{⊎_elim, Bool, Contains, List, Some, [], ap, cond, false, inl, inr, map, refl, slice_get, subst, suc, sym, true, zero, ℕ, ◌∷◌, ◌≡◌, ◌∙◌, ◌⊎◌}
@@ -62,15 +62,15 @@ own_edges (v ∷ vs) distinct u h = by (own_edges vs (distinct.1) u) (is_same_id
     by more true e (inr h) = absurd (distinct.0 (subst (λ n. In n (map (λ (u : WaitUnit). u.unit) vs)) (is_same_id-true u.unit v.unit e) (into-map (λ (u : WaitUnit). u.unit) u vs h)))
     by more false e (inr h) = more h
 
-pub leads_waits : (list : List WaitUnit) (u w : WaitUnit) → In u list → In w list → {n : Id} → In n u.edges → Leads (edges_in (graph_of list)) n w.unit → Waits list u w
+pub leads_waits : (list : List WaitUnit) (u w : WaitUnit) → In u list → In w list → {n : Id} → In n u.edges → Leads (edges_in (graph_of list)) n w.unit → WaitsFor list u w
 leads_waits list u w in_u in_w {n} h here = at_once (from_in list u in_u) (from_in list w in_w) (among_named w.unit u.edges h)
 leads_waits list u w in_u in_w {n} h (on {b = b} step more) = by (λ v in_v next. leads_waits list v w in_v in_w next more) (at_name list n)
   where
-    by : ((v : WaitUnit) → In v list → In b v.edges → Waits list v w) → (edges_in (graph_of list) n ≡ []) ⊎ ((v : WaitUnit) × In v list × (v.unit ≡ n) × (edges_in (graph_of list) n ≡ v.edges)) → Waits list u w
+    by : ((v : WaitUnit) → In v list → In b v.edges → WaitsFor list v w) → (edges_in (graph_of list) n ≡ []) ⊎ ((v : WaitUnit) × In v list × (v.unit ≡ n) × (edges_in (graph_of list) n ≡ v.edges)) → WaitsFor list u w
     by rest (inl none) = absurd (subst (In b) none step)
     by rest (inr v) = through (from_in list u in_u) (from_in list v.0 v.1) (among_named v.0.unit u.edges (subst (λ x. In x u.edges) (sym v.2) h)) (rest v.0 v.1 (subst (In b) v.3 step))
 
-pub waits_leads : (list : List WaitUnit) → AreDistinct (map (λ (u : WaitUnit). u.unit) list) → {u w : WaitUnit} → Waits list u w → (n : Id) × In n u.edges × Leads (edges_in (graph_of list)) n w.unit
+pub waits_leads : (list : List WaitUnit) → AreDistinct (map (λ (u : WaitUnit). u.unit) list) → {u w : WaitUnit} → WaitsFor list u w → (n : Id) × In n u.edges × Leads (edges_in (graph_of list)) n w.unit
 waits_leads list distinct {u = u} {w = w} (at_once in_u in_w named) = (w.unit, named_among w.unit u.edges named, here)
 waits_leads list distinct {u = u} (through {v = v} in_u in_v named more) =
     let rest = waits_leads list distinct more in

@@ -11,14 +11,14 @@ abbrev pub names : WaitUnit → WaitUnit → Bool
 names u v = list_any (λ name. is_same_id name v.unit) u.edges
 
 -- one of the units waits for another of them, at once or through others
-pub data Waits (list : List WaitUnit) : WaitUnit → WaitUnit → Type 0 where
-  at_once : {u v : WaitUnit} → Contains list u → Contains list v → IsTrue (names u v) → Waits list u v
-  through : {u v w : WaitUnit} → Contains list u → Contains list v → IsTrue (names u v) → Waits list v w → Waits list u w
+pub data WaitsFor (list : List WaitUnit) : WaitUnit → WaitUnit → Type 0 where
+  at_once : {u v : WaitUnit} → Contains list u → Contains list v → IsTrue (names u v) → WaitsFor list u v
+  through : {u v w : WaitUnit} → Contains list u → Contains list v → IsTrue (names u v) → WaitsFor list v w → WaitsFor list u w
 
 -- a unit waits for itself
 pub record IsOnCycle (list : List WaitUnit) (u : WaitUnit) : Type 0 where
   pub listed : Contains list u
-  pub back : Waits list u u
+  pub back : WaitsFor list u u
 
 -- the unit that is given up: on a cycle; an ACID one if there is an ACID one on a cycle; of those of its kind on a cycle the youngest
 pub record IsVictim (list : List WaitUnit) (u : WaitUnit) : Type 0 where

@@ -1,7 +1,7 @@
 -- What is given is what is spelled.
 use Rattle.salt_words.proofs.Forms.{by-two, in-one, name-alone, one_word}
 use Rattle.salt_words.proofs.Givens.{none-alone, none-given, one-given, two-given}
-use Rattle.salt_words.specs.Spelling.{Spells, early_alone, in_one, in_two, net_alone, nothing}
+use Rattle.salt_words.specs.Spelling.{SpellsSettings, early_alone, in_one, in_two, net_alone, nothing}
 use Rattle.salt_promise.specs.Words.{Given, all_given, begins_with_dash, ends_early, given, given_by, given_in, given_to, goes_over_net, is_equals_sign, name_of, value_in}
 use Rattle.salt_promise.specs.declared.command.Setting.TheVariants.{Folder, Parts, Place}
 use Rattle.salt_promise.specs.declared.command.Setting.{Setting}
@@ -16,7 +16,7 @@ use Rattle.std.specs.Str.{bytes_eq}
 
 -- ---- what is spelled is given
 
-pub given-spelled : {words : List (List ℕ)} {gs : List Given} → Spells words gs → all_given words ≡ Some gs
+pub given-spelled : {words : List (List ℕ)} {gs : List Given} → SpellsSettings words gs → all_given words ≡ Some gs
 unfolding all_given one_word
 given-spelled nothing = refl
 given-spelled (in_one setting value {words} h) =
@@ -93,44 +93,44 @@ behind g (Some ys) gs e = (ys, refl, cc)
 behind g None gs e = absurd cc
 
 abbrev Reads : List (List ℕ) → Type 0
-Reads words = (gs : List Given) → all_given words ≡ Some gs → Spells words gs
+Reads words = (gs : List Given) → all_given words ≡ Some gs → SpellsSettings words gs
 
 -- what a word spells that gives this
 Begins : List ℕ → Given → Type 0
-Begins word g = (words : List (List ℕ)) (gs : List Given) → Spells words gs → Spells (word ∷ words) (g ∷ gs)
+Begins word g = (words : List (List ℕ)) (gs : List Given) → SpellsSettings words gs → SpellsSettings (word ∷ words) (g ∷ gs)
 
 word-spelled : (word : List ℕ) (g : Given) (t u : Bool) → bytes_eq word (codes "--early") ≡ t → bytes_eq word (codes "--net") ≡ u →
     (if t then Some ends_early else if u then Some goes_over_net else value_in word) ≡ Some g → Begins word g
 unfolding Begins one_word
 word-spelled word g true u e f h = λ words gs spells.
     let is : ends_early ≡ g = cc in
-    subst (λ g. Spells (word ∷ words) (g ∷ gs)) is (subst (λ w. Spells (w ∷ words) (ends_early ∷ gs)) (sym ((bytes_eq-Decides word (codes "--early")).0 e)) (early_alone spells))
+    subst (λ g. SpellsSettings (word ∷ words) (g ∷ gs)) is (subst (λ w. SpellsSettings (w ∷ words) (ends_early ∷ gs)) (sym ((bytes_eq-Decides word (codes "--early")).0 e)) (early_alone spells))
 word-spelled word g false true e f h = λ words gs spells.
     let is : goes_over_net ≡ g = cc in
-    subst (λ g. Spells (word ∷ words) (g ∷ gs)) is (subst (λ w. Spells (w ∷ words) (goes_over_net ∷ gs)) (sym ((bytes_eq-Decides word (codes "--net")).0 f)) (net_alone spells))
+    subst (λ g. SpellsSettings (word ∷ words) (g ∷ gs)) is (subst (λ w. SpellsSettings (w ∷ words) (goes_over_net ∷ gs)) (sym ((bytes_eq-Decides word (codes "--net")).0 f)) (net_alone spells))
 word-spelled word g false false e f h = λ words gs spells.
     let cut = cut-by word g (position is_equals_sign word) refl h in
-    subst (λ g. Spells (word ∷ words) (g ∷ gs)) cut.same
-    (subst (λ w. Spells (w ∷ words) (given cut.setting cut.value ∷ gs)) (sym cut.spelled) (in_one cut.setting cut.value spells))
+    subst (λ g. SpellsSettings (word ∷ words) (g ∷ gs)) cut.same
+    (subst (λ w. SpellsSettings (w ∷ words) (given cut.setting cut.value ∷ gs)) (sym cut.spelled) (in_one cut.setting cut.value spells))
 
 one-spelled : (word : List ℕ) (words : List (List ℕ)) (g : Given) → given_in word ≡ Some g → Reads words → Reads (word ∷ words)
 unfolding Begins
 one-spelled word words g e reads = λ gs h.
     let b = behind g (all_given words) gs (sym (one-given word words g e) ∙ h) in
     let spells = word-spelled word g (bytes_eq word (codes "--early")) (bytes_eq word (codes "--net")) refl refl e words b.0 (reads b.0 b.1) in
-    subst (λ gs. Spells (word ∷ words) gs) b.2 spells
+    subst (λ gs. SpellsSettings (word ∷ words) gs) b.2 spells
 
 two-spelled : (word next : List ℕ) (words : List (List ℕ)) (g : Given) → given_in word ≡ None → given_by word next ≡ Some g → Reads words → Reads (word ∷ next ∷ words)
 two-spelled word next words g e f reads = λ gs h.
     let b = behind g (all_given words) gs (sym (two-given word next words g e f) ∙ h) in
     let t = told-by word next g (begins_with_dash next) refl f in
-    subst (λ gs. Spells (word ∷ next ∷ words) gs) b.2
-    (subst (λ w. Spells (w ∷ next ∷ words) (g ∷ b.0)) (sym t.1.name)
-    (subst (λ g. Spells (name_of t.1.setting ∷ next ∷ words) (g ∷ b.0)) t.1.same (in_two t.1.setting next t.0 (reads b.0 b.1))))
+    subst (λ gs. SpellsSettings (word ∷ next ∷ words) gs) b.2
+    (subst (λ w. SpellsSettings (w ∷ next ∷ words) (g ∷ b.0)) (sym t.1.name)
+    (subst (λ g. SpellsSettings (name_of t.1.setting ∷ next ∷ words) (g ∷ b.0)) t.1.same (in_two t.1.setting next t.0 (reads b.0 b.1))))
 
 reads-nothing : Reads []
 unfolding all_given
-reads-nothing = λ gs e. let is : [] ≡ gs = cc in subst (λ gs. Spells [] gs) is nothing
+reads-nothing = λ gs e. let is : [] ≡ gs = cc in subst (λ gs. SpellsSettings [] gs) is nothing
 
 alone-reads : (word : List ℕ) (o : Option Given) → given_in word ≡ o → Reads (word ∷ [])
 alone-reads word (Some g) e = one-spelled word [] g e reads-nothing
@@ -146,5 +146,5 @@ spelled-given [] = reads-nothing
 spelled-given (word ∷ []) = alone-reads word (given_in word) refl
 spelled-given (word ∷ next ∷ words) = two-reads word next words (given_in word) (given_by word next) refl refl (spelled-given (next ∷ words)) (spelled-given words)
 
-pub spelled : (words : List (List ℕ)) (gs : List Given) → (all_given words ≡ Some gs) ↔ Spells words gs
+pub spelled : (words : List (List ℕ)) (gs : List Given) → (all_given words ≡ Some gs) ↔ SpellsSettings words gs
 spelled words gs = (spelled-given words gs, given-spelled)

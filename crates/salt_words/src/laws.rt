@@ -1,13 +1,13 @@
 //! What holds of the words of commands.
 
-ghost use Rattle.salt_words.specs.Spelling.{Spells};
+ghost use Rattle.salt_words.specs.Spelling.{SpellsSettings};
 ghost use Rattle.salt_promise.specs.Words.{Given, all_given, begins_with_dash, command_said, folder_named, name_of};
 ghost use Rattle.salt_promise.specs.declared.command.Setting.{Setting};
 ghost use Rattle.std.specs.Prelude.{◌++◌, ◌∷◌, ◌↔◌, ◌≡◌, IsSome, List, Some, codes, false, ℕ};
 
 /// What words give to settings is what they spell, and they spell it in one way only.
 pub fn settings_are_spelled()
-    ensures { (words : List (List ℕ)) (gs : List Given) → (all_given words ≡ Some gs) ↔ Spells words gs }
+    ensures { (words : List (List ℕ)) (gs : List Given) → (all_given words ≡ Some gs) ↔ SpellsSettings words gs }
 {}
 
 /// The order of settings makes no difference.

@@ -1,7 +1,7 @@
 use Rattle.salt_eval.proofs.Attempts.{attempted-known, attempted-unknown}
 use Rattle.salt_eval.proofs.Tabled.{number-found}
 use Rattle.salt_eval.proofs.statements.attempt.Goals as goal
-use Rattle.salt_eval.specs.Scans.{Gives}
+use Rattle.salt_eval.specs.Scans.{GivesMeant}
 use Rattle.salt_model.specs.Reaches.{table_in}
 use Rattle.std.proofs.Common.{None, Some, ap, refl, slice_get, subst, sym, ◌∙◌, ◌≡◌}
 use Rattle.std.specs.Option.{option_copied}
@@ -31,7 +31,7 @@ returns g c =
     attempted-known c.args.vars.now (g.V.RowView.tables c.args.view.now) c.args.schema.now c.args.statement.now c.in-Some.name.now names c.in-Some-number.number c.in-Some-table.def.now (sym c.number.ensures ∙ c.in-Some-number.is)
     (sym c.table.ensures.value ∙ ap option_copied c.in-Some-table.is) in
     record {
-      done = subst (λ meant. Gives meant c.attempt_in.result) (sym known) c.attempt_in.ensures.done;
+      done = subst (λ meant. GivesMeant meant c.attempt_in.result) (sym known) c.attempt_in.ensures.done;
       kept = c.attempt_in.ensures.kept;
       source = c.attempt_in.ensures.source;
       faults = c.attempt_in.ensures.faults;

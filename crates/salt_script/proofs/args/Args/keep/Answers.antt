@@ -5,7 +5,7 @@ use Rattle.salt_ast.specs.Words.{first_in}
 use Rattle.salt_ast.specs.declared.limit.LimitName.{LimitName}
 use Rattle.salt_script.proofs.Keeping.{first_behind, holds_limit, holds_whole, limit_is, on_ok, whole_is}
 use Rattle.salt_script.proofs.args.Args.keep.Goals as goal
-use Rattle.salt_script.specs.Literals.{Holds, IsValueOf}
+use Rattle.salt_script.specs.Literals.{HoldsList, IsValueOf}
 use Rattle.salt_values.specs.declared.value.Value.{Value}
 
 -- the limits of those that were read, and of one more
@@ -15,7 +15,7 @@ joined vs w h k = first_behind value_passed vs w ∙ (λ t. option_or (h t) (k t
 
 pub returns-in-Some-default-clause-holds : goal.returns-in-Some-default-clause-holds
 returns-in-Some-default-clause-holds c = λ vs w h is.
-    subst (λ (p : Option LimitName). Holds (first_in value_passed) p c.args.self.now.row (vs ++ w ∷ [])) (sym c.in-Some-default.is-0)
+    subst (λ (p : Option LimitName). HoldsList (first_in value_passed) p c.args.self.now.row (vs ++ w ∷ [])) (sym c.in-Some-default.is-0)
     (holds_limit (first_in value_passed) c.args.self.now.row (vs ++ w ∷ []) c.in-Some-default._limit
     (first_behind value_passed vs w ∙ ap (λ (o : Option LimitName). option_or o (value_passed w)) (limit_is (first_in value_passed) h c.in-Some-default.is-0)))
 

@@ -3,7 +3,7 @@ use Rattle.salt_ast.specs.declared.limit.LimitName.{LimitName}
 use Rattle.salt_ast.specs.declared.limit.LimitName.TheVariants as limit
 use Rattle.salt_script.proofs.Keeping.{full_passes, holds_limit, holds_whole, limit_is, on_ok, room_passes, still_passed, whole_is, within_room}
 use Rattle.salt_script.proofs.pairs.Arming.keep.Goals as goal
-use Rattle.salt_script.specs.Literals.{Holds, pair_passed, pairs_passed}
+use Rattle.salt_script.specs.Literals.{HoldsList, pair_passed, pairs_passed}
 use Rattle.std.specs.Prelude.{false, is_some, true}
 
 some_is : (o : Option LimitName) → is_some o ≡ true → (l : LimitName) × (o ≡ Some l)
@@ -19,7 +19,7 @@ returns-then-is_some-clause-holds c = λ pairs h.
     let passed = pairs_passed c.args.self.now.armed in
     let more = pairs ++ (c.args.first, c.args.second) ∷ [] in
     let some = some_is c.args.self.now.passed (sym c.is_some.ensures ∙ c.if-is_some.true) in
-    subst (λ (p : Option LimitName). Holds passed p c.args.self.now.pairs more) (sym some.1)
+    subst (λ (p : Option LimitName). HoldsList passed p c.args.self.now.pairs more) (sym some.1)
     (holds_limit passed c.args.self.now.pairs more some.0
     (still_passed limit.Pairs (pair_passed c.args.self.now.armed) 8 pairs (c.args.first, c.args.second) some.0 (limit_is passed h some.1)))
 
