@@ -1,4 +1,7 @@
 -- What fits the tables fits the definitions.
+use Rattle.salt_model.specs.Reaches.{in_row}
+use Rattle.salt_model.specs.Statements.{checked}
+use Rattle.std.specs.Prelude.{is_ok}
 use Rattle.salt_ast.specs.declared.trees.ColType.TheVariants as kind
 use Rattle.salt_ast.specs.declared.trees.ColType.{ColType}
 use Rattle.salt_ast.specs.declared.trees.Field.{Field}
@@ -12,7 +15,7 @@ use Rattle.salt_parts.proofs.Lists.{past_end}
 use Rattle.salt_parts.specs.Judging.{HasTables, fits_part}
 use Rattle.salt_place.specs.declared.placement.Shape.{Shape}
 use Rattle.salt_stands.specs.Coordinator.{Coordinator}
-use Rattle.salt_stands.specs.Fitting.{are_of_columns, definitions_reading, is_key_of, is_of_column, is_row_of, passes_checks, tables_defined}
+use Rattle.salt_stands.specs.Fitting.{are_of_columns, definitions_reading, is_key_of, is_of_column, is_row_of, tables_defined}
 use Rattle.salt_stands.specs.Partition.{is_sound_change, is_sound_to, part_of_key}
 use Rattle.salt_stands.specs.Tables.{change_of_row}
 use Rattle.salt_values.specs.Value.{key_of}
@@ -48,7 +51,7 @@ of_columns (f ∷ fs) (v ∷ vs) = ap (λ b. b && are_of_columns fs vs) (of_type
 
 row_of : (o : Option TableDef) (row : List Value) → is_row_of o row ≡ meets_found o row
 row_of None row = refl
-row_of (Some d) row = ap (λ b. b && passes_checks d row) (of_columns d.columns row)
+row_of (Some d) row = ap (λ b. b && is_ok (checked (in_row d row []) d.checks)) (of_columns d.columns row)
 
 lower : (a b : ℕ) → a < b → nat_lt a b ≡ true
 lower a b h = grind (arith, nat_tests)

@@ -1,4 +1,6 @@
 -- What a partition's log and its pages are judged as, one after the other.
+use Rattle.salt_model.specs.Words.{and_then}
+use Rattle.std.specs.Option.{ok_or}
 use Rattle.salt_ast.specs.declared.trees.TableDef.{TableDef}
 use Rattle.salt_bytes.specs.Formats.{has_nulls}
 use Rattle.salt_bytes.specs.Generations.{BothBlank, Counts, Faulty, LogB, Pair, WhichLog}
@@ -28,7 +30,6 @@ use Rattle.salt_stands.specs.Pieces.{PartStands, PartView}
 use Rattle.salt_stands.specs.Reading.{Reading}
 use Rattle.salt_stands.specs.Stands.{logs_of}
 use Rattle.salt_stands.specs.Tables.{change_of_row}
-use Rattle.salt_stands.specs.Words.{if_sound, or_fault}
 use Rattle.salt_values.specs.declared.id.Id.{Id}
 use Rattle.std.proofs.Common.{Bool, Err, IsTrue, List, None, Option, Some, [], ap, false, refl, subst, sym, true, ℕ, ◌≡◌, ◌∙◌}
 use Rattle.std.specs.Bool.{then_some}
@@ -45,12 +46,12 @@ module _ (read : List ℕ → Option Definition) (c : Coordinator Definition) (p
   us = decided_in c.log p
 
   unsound_at : (which : WhichLog) (log : PartitionLog) → is_sound_log r c p log ≡ false → judge_part r c p pages (Counts which log) ≡ Err (device_of (part_device p) which)
-  unsound_at which log bad = ap (λ b. if_sound (λ (sound : PartitionLog). or_fault (pages_device p) (option_map (part_tables us sound) (rows_of_pages r c p sound pages))) (or_fault (device_of (part_device p) which) (then_some b log))) bad
+  unsound_at which log bad = ap (λ b. and_then (ok_or (then_some b log) (device_of (part_device p) which)) (λ (sound : PartitionLog). ok_or (option_map (part_tables us sound) (rows_of_pages r c p sound pages)) (pages_device p))) bad
 
   pageless_at : (which : WhichLog) (log : PartitionLog) → is_sound_log r c p log ≡ true → rows_of_pages r c p log pages ≡ None → judge_part r c p pages (Counts which log) ≡ Err (pages_device p)
   pageless_at which log good none =
-      ap (λ b. if_sound (λ (sound : PartitionLog). or_fault (pages_device p) (option_map (part_tables us sound) (rows_of_pages r c p sound pages))) (or_fault (device_of (part_device p) which) (then_some b log))) good
-      ∙ ap (λ o. or_fault (pages_device p) (option_map (part_tables us log) o)) none
+      ap (λ b. and_then (ok_or (then_some b log) (device_of (part_device p) which)) (λ (sound : PartitionLog). ok_or (option_map (part_tables us sound) (rows_of_pages r c p sound pages)) (pages_device p))) good
+      ∙ ap (λ o. ok_or (option_map (part_tables us log) o) (pages_device p)) none
 
   -- the log's own fault
   log_fails : (pair : Pair PartitionLog) (dev : ℕ) → log_fault c.log.told.boot us p pair ≡ Some dev → judge_part r c p pages pair ≡ Err dev
