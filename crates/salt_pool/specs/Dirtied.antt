@@ -4,6 +4,13 @@ use Rattle.salt_pool.specs.declared.places.Dirty.{Dirty}
 use Rattle.std.specs.List.{list_any}
 use Rattle.std.specs.Prelude.{Bool, List, [], cond, nat_eq, nat_lt, suc, ℕ, ⊤, ◌&&◌, ◌∷◌, ◌≤◌}
 
+-- its number, and the side that it goes to
+abbrev pub dirty_page : Dirty → ℕ
+dirty_page d = d.page
+
+abbrev pub dirty_side : Dirty → ℕ
+dirty_side d = d.side
+
 abbrev pub is_dirty : List Dirty → ℕ → Bool
 is_dirty ds page = list_any (λ d. nat_eq d.page page) ds
 

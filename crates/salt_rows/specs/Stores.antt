@@ -4,7 +4,7 @@ use Rattle.salt_bytes.specs.Spellable.{Every}
 use Rattle.salt_disk.specs.Disks.{View}
 use Rattle.salt_model.specs.Tables.{Tables, no_rows, with_changes}
 use Rattle.salt_model.specs.declared.places.Place.{Place}
-use Rattle.salt_pool.specs.Dirtied.{is_dirty}
+use Rattle.salt_pool.specs.Dirtied.{dirty_page, dirty_side, is_dirty}
 use Rattle.salt_pool.specs.Frames.{frame_count}
 use Rattle.salt_pool.specs.Pools as pools
 use Rattle.salt_pool.specs.Pools.{IsPool, codec_of, dirty_of, frame_of, frames_of, length_of}
@@ -24,7 +24,7 @@ IsSide side = side ≤ 1
 
 -- a page that is to be written stands in the list of sides, and is written to the side that the header does not name
 abbrev pub IsSpare : (named sides : List ℕ) → Dirty → Type 0
-IsSpare named sides d = (d.page < length sides) × (d.side ≡ spare_side named d.page) × (get_or sides d.page 0 ≡ d.side)
+IsSpare named sides d = (dirty_page d < length sides) × (dirty_side d ≡ spare_side named (dirty_page d)) × (get_or sides (dirty_page d) 0 ≡ dirty_side d)
 
 -- What holds of pages in memory, whatever the disks tell: which are framed, which are to be written and where, and how long the
 -- device is at least.
