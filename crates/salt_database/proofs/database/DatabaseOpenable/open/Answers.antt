@@ -20,7 +20,8 @@ returns-clause-opens g c = ok-with c.open.result _ _ _ (λ next opens sent room 
     let l = closed-lies g.S.Storage.asked g.S.Storage.net _ _ _ room p c.args.self.now o c.in-Closed.is lies in
     let h = opens room p sound fallen l.0 in
     let same = sym c.open.ensures.within.asked in
-    opens-at g.S.Storage.asked g.S.Storage.net _ _ _ c.open.new.self room p c.args.story.now c.open.new.story next h
+    let now = g.D.Disks.view c.open.new.disks in
+    opens-at g.S.Storage.asked g.S.Storage.net (g.S.Storage.holds now) (g.S.Storage.is_new now) now.can_stop c.open.new.self room p c.args.story.now c.open.new.story next h
     (opens-net room p sound o.in_flight l.0.flies h.has next h.stands.comes (g.S.Storage.asked c.open.new.self.storage) (g.S.Storage.net c.open.new.self.storage) (l.1.over ∙ ap (λ q. q.over_net) same)
     (sent ∙ begun-found (g.S.Storage.asked o.storage) _ o.found o.stage p.state found l.1 ∙ ap net_begun same)))
     c.open.ensures.opens c.open.ensures.sent

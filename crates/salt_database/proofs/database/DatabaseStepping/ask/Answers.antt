@@ -8,9 +8,11 @@ ask-requires-clause-stands g c =
     (s.0, s.1, open-idle g.S.Storage.asked g.S.Storage.net _ _ _ c.args.self.now c.in-Open.engine s.0 c.in-Open.is s.2)
 
 pub returns-clause-moves : goal.returns-clause-moves
-returns-clause-moves g c = IfOk-weaker c.ask.result _ _ (λ next moves p sound at.
+returns-clause-moves g c =
+    let now = g.D.Disks.view c.ask.new.disks in
+    IfOk-weaker c.ask.result _ _ (λ next moves p sound at.
     let m = moves p sound (open-idle g.S.Storage.asked g.S.Storage.net _ _ _ c.args.self.now c.in-Open.engine p c.in-Open.is at) in
-    (m.0, m.1, at-open g.S.Storage.asked g.S.Storage.net _ _ _ c.ask.new.self c.args.line.now next m.0 m.2)) c.ask.ensures.moves
+    (m.0, m.1, at-open g.S.Storage.asked g.S.Storage.net (g.S.Storage.holds now) (g.S.Storage.is_new now) now.can_stop c.ask.new.self c.args.line.now next m.0 m.2)) c.ask.ensures.moves
 
 pub returns-clause-halts : goal.returns-clause-halts
 returns-clause-halts g c = IfErr-weaker c.ask.result _ _ (λ halt halts p sound at. halts p sound (open-idle g.S.Storage.asked g.S.Storage.net _ _ _ c.args.self.now c.in-Open.engine p c.in-Open.is at)) c.ask.ensures.halts

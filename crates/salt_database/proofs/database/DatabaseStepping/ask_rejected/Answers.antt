@@ -7,9 +7,11 @@ pub ask_rejected-requires : goal.ask_rejected-requires
 ask_rejected-requires g c = let s = c.requires in (s.0, s.1, open-idle g.S.Storage.asked g.S.Storage.net _ _ _ c.args.self.now c.in-Open.engine s.0 c.in-Open.is s.2)
 
 pub returns-clause-moves : goal.returns-clause-moves
-returns-clause-moves g c = IfOk-weaker c.ask_rejected.result _ _ (λ next moves p sound at.
+returns-clause-moves g c =
+    let now = g.D.Disks.view c.ask_rejected.new.disks in
+    IfOk-weaker c.ask_rejected.result _ _ (λ next moves p sound at.
     let m = moves p sound (open-idle g.S.Storage.asked g.S.Storage.net _ _ _ c.args.self.now c.in-Open.engine p c.in-Open.is at) in
-    (m.0, m.1, at-open g.S.Storage.asked g.S.Storage.net _ _ _ c.ask_rejected.new.self Nothing next m.0 m.2)) c.ask_rejected.ensures.moves
+    (m.0, m.1, at-open g.S.Storage.asked g.S.Storage.net (g.S.Storage.holds now) (g.S.Storage.is_new now) now.can_stop c.ask_rejected.new.self Nothing next m.0 m.2)) c.ask_rejected.ensures.moves
 
 pub returns-clause-halts : goal.returns-clause-halts
 returns-clause-halts g c =

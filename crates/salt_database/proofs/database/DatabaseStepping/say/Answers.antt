@@ -8,9 +8,11 @@ say-requires-clause-stands g c =
     (s.0, s.1, open-at g.S.Storage.asked g.S.Storage.net _ _ _ c.args.self.now c.in-Open.engine c.args.line.now _ s.0 c.in-Open.is s.2)
 
 pub returns-clause-moves : goal.returns-clause-moves
-returns-clause-moves g c = IfOk-weaker c.say.result _ _ (λ next moves p sound at.
+returns-clause-moves g c =
+    let now = g.D.Disks.view c.say.new.disks in
+    IfOk-weaker c.say.result _ _ (λ next moves p sound at.
     let m = moves p sound (open-at g.S.Storage.asked g.S.Storage.net _ _ _ c.args.self.now c.in-Open.engine c.args.line.now _ p c.in-Open.is at) in
-    (m.0, m.1, at-open g.S.Storage.asked g.S.Storage.net _ _ _ c.say.new.self c.args.line.now next m.0 m.2)) c.say.ensures.moves
+    (m.0, m.1, at-open g.S.Storage.asked g.S.Storage.net (g.S.Storage.holds now) (g.S.Storage.is_new now) now.can_stop c.say.new.self c.args.line.now next m.0 m.2)) c.say.ensures.moves
 
 pub say-requires-clause-callable : goal.say-requires-clause-callable
 say-requires-clause-callable g c = c.requires.callable

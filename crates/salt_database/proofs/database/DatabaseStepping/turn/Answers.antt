@@ -8,9 +8,11 @@ turn-requires-clause-stands g c =
     (s.0, s.1, open-at g.S.Storage.asked g.S.Storage.net _ _ _ c.args.self.now c.in-Open.engine c.args.line.now _ s.0 c.in-Open.is s.2, s.3)
 
 pub returns-clause-moves : goal.returns-clause-moves
-returns-clause-moves g c = IfOk-weaker c.turn.result _ _ (λ next moves p sound at turn.
+returns-clause-moves g c =
+    let now = g.D.Disks.view c.turn.new.disks in
+    IfOk-weaker c.turn.result _ _ (λ next moves p sound at turn.
     let m = moves p sound (open-at g.S.Storage.asked g.S.Storage.net _ _ _ c.args.self.now c.in-Open.engine c.args.line.now _ p c.in-Open.is at) turn in
-    (m.0, m.1, at-open g.S.Storage.asked g.S.Storage.net _ _ _ c.turn.new.self c.args.line.now next m.0 m.2)) c.turn.ensures.moves
+    (m.0, m.1, at-open g.S.Storage.asked g.S.Storage.net (g.S.Storage.holds now) (g.S.Storage.is_new now) now.can_stop c.turn.new.self c.args.line.now next m.0 m.2)) c.turn.ensures.moves
 
 pub returns-clause-halts : goal.returns-clause-halts
 returns-clause-halts g c =

@@ -48,7 +48,7 @@ returns-in_ok-scheduler-clause-moves g c = λ p sound at.
     let ends = sym c.ends_opening.ensures ∙ c.if-ends_opening.true in
     let h = opened-at _ _ _ _ _ p.state there at.state.0.seen in
     let serves = subst (λ (books : Books). ServesBehind e books (λ s. StandsForState y s)) c.into_books.ensures c.in_ok-scheduler.ensures.serves in
-    ended-at (g.S.Storage.holds now) (g.S.Storage.is_new now) _ y e p h.0 _ _ _ (ended x e p sound h.0 h.1 at.comes at.opening _ ends serves) h.2 at.state.0.can_stop refl
+    ended-at (g.S.Storage.holds now) (g.S.Storage.is_new now) (record c.args.self.now { in_flight = None }) y e p h.0 _ _ _ (ended x e p sound h.0 h.1 at.comes at.opening _ ends serves) h.2 at.state.0.can_stop refl
     at.state.0.line refl refl
 
 pub returns-in_ok-scheduler-clause-less : goal.returns-in_ok-scheduler-clause-less
