@@ -16,8 +16,8 @@ use Rattle.salt_model.specs.Words.{Every}
 use Rattle.law_openings.specs.Draining.{CanDrain, LeadsOn, StandsAtPart}
 use Rattle.salt_program.specs.Refusals.{parts_in}
 use Rattle.salt_storage.specs.Storing.{IsSpelledDefinition}
-use Rattle.salt_tokens.specs.Symbols.{Symbols}
-use Rattle.salt_tokens.specs.declared.sign.Sign.{Sign}
+use Rattle.salt_ast.specs.Symbols.{Symbols}
+use Rattle.salt_ast.specs.declared.sign.Sign.{Sign}
 use Rattle.law_types.specs.Typed.{IsContOf, IsProperProgram, IsTyped}
 use Rattle.salt_values.specs.declared.cont.Cont.{Cont}
 use Rattle.std.proofs.Common.{arith, subst}

@@ -17,8 +17,8 @@ use Rattle.salt_model.specs.Words.{Every}
 use Rattle.salt_parse.specs.Settling.{DeepProgram, DeepTable, ShallowProgram, ShallowTable}
 use Rattle.salt_program.specs.Refusals.{parts_in}
 use Rattle.law_decisions.specs.Spelled.{IsSpelledAsked, IsSpelledLine}
-use Rattle.salt_tokens.specs.Pieces.{Lexes, Piece}
-use Rattle.salt_tokens.specs.Symbols.{Symbols, symbols_of}
+use Rattle.salt_ast.specs.Pieces.{Lexes, Piece}
+use Rattle.salt_ast.specs.Symbols.{Symbols, symbols_of}
 use Rattle.salt_values.specs.declared.limits.TheConstants.{DEPTH_MOST, PARAMETERS_MOST, PARTS_MOST, VARIABLES_MOST}
 use Rattle.std.proofs.Common.{arith, subst, suc, sym, zero}
 use Rattle.std.specs.Option.{option_or}

@@ -19,11 +19,11 @@ use Rattle.salt_parse.specs.StatementReading.{statement_within}
 use Rattle.salt_parse.specs.TableReading.{table_within}
 use Rattle.salt_parse.specs.declared.error.ParseErr.TheVariants.{Limit, Memory, Syntax}
 use Rattle.salt_parse.specs.declared.error.ParseErr.{ParseErr}
-use Rattle.salt_tokens.proofs.TokenLaws.{lex_complete, lex_sound}
-use Rattle.salt_tokens.specs.Pieces.{Lexes, Piece}
-use Rattle.salt_tokens.specs.Scanning.{lex}
-use Rattle.salt_tokens.specs.Spelling.{same_bytes}
-use Rattle.salt_tokens.specs.Symbols.{Symbols, symbols_of}
+use Rattle.salt_ast.proofs.TokenLaws.{lex_complete, lex_sound}
+use Rattle.salt_ast.specs.Pieces.{Lexes, Piece}
+use Rattle.salt_ast.specs.Scanning.{lex}
+use Rattle.salt_ast.specs.TokenSpelling.{same_bytes}
+use Rattle.salt_ast.specs.Symbols.{Symbols, symbols_of}
 use Rattle.std.proofs.Common.{Bool, Err, List, None, Ok, Option, Result, Some, [], ap, arith, eqb, false, refl, subst, sym, true, ℕ, ◌&&◌, ◌≡◌, ◌∙◌, ◌∷◌}
 use Rattle.std.proofs.lemmas.Bool.{eqb-true}
 use Rattle.std.specs.Bool.{then_some}

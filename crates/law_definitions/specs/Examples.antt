@@ -5,8 +5,8 @@ use Rattle.salt_model.specs.Kept.{OfTable}
 use Rattle.salt_parse.specs.Lists.{following_at}
 use Rattle.salt_parse.specs.Reading.{after, atom_at, left_at, nots_at, once_at, tail_at, text_at, within_at}
 use Rattle.salt_parse.specs.TableReading.{table_at}
-use Rattle.salt_tokens.specs.Scanning.{first_at, lex, quoted_at}
-use Rattle.salt_tokens.specs.Spelling.{keyword_of, sign_of}
+use Rattle.salt_ast.specs.Scanning.{first_at, lex, quoted_at}
+use Rattle.salt_ast.specs.TokenSpelling.{keyword_of, sign_of}
 use Rattle.std.specs.Prelude.{None, Some, [], codes, false, refl, true, ◌∷◌, ◌≡◌}
 
 table_read : definition_in (codes "create table t (id int key, v int null)") ≡ Some (OfTable (record {

@@ -5,8 +5,7 @@ ghost use Rattle.salt_ast.specs.declared.trees.Statement.{Statement};
 ghost use Rattle.salt_model.specs.Kept.{Definition};
 ghost use Rattle.std.specs.Prelude.{List, Some, ℕ, ◌↔◌, ◌≡◌};
 
-use salt_ast::{canonical_program, canonical_statement, canonical_table};
-use salt_tokens::quoted_text;
+use salt_ast::{canonical_program, canonical_statement, canonical_table, quoted_text};
 
 /// A text is read as a definition exactly where it is its canonical text, some text spells it, and no limit is passed.
 pub fn definitions_are_read()

@@ -32,7 +32,7 @@ use Rattle.salt_model.specs.declared.events.UnitKind.{UnitKind}
 use Rattle.salt_model.specs.declared.events.UnitKind.TheVariants.{First, Later}
 use Rattle.law_openings.specs.Draining.{AreEarlier, CanDrain, DrainsAt, LeadsOn, Stands, StandsAtPart, cuts_in, done_now, is_earlier, is_within, opening_stage, statements_left, units_to_cut}
 use Rattle.salt_model.specs.Rests.{rest_of_cont, rests_of, statements_in}
-use Rattle.salt_tokens.specs.Spelling.{same_bytes}
+use Rattle.salt_ast.specs.TokenSpelling.{same_bytes}
 use Rattle.salt_values.specs.Id.{is_same_id}
 use Rattle.salt_values.specs.declared.cont.Cont.{Cont}
 use Rattle.salt_values.specs.declared.id.Id.{Id}

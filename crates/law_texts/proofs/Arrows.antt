@@ -1,15 +1,15 @@
 -- Where the first arrow outside quotes stands: behind a statement.
 use Rattle.law_texts.specs.Arrow.{Place, after, dash, inside, next, onward, open_place}
 use Rattle.law_texts.proofs.Quiet.{Quiet, is_greater, is_minus}
-use Rattle.salt_tokens.specs.Bytes.{is_blank, is_digit, is_letter, is_word}
-use Rattle.salt_tokens.specs.Pieces.{First, IsToken, Lexes, Piece, EachPasses, blank, doubled, ended, token}
-use Rattle.salt_tokens.specs.Spelling.{keyword_of, sign_of, sign_spelling}
-use Rattle.salt_tokens.specs.Symbols.{Symbol, symbols_of, sign, sign_symbol, symbol_by, word_symbol}
-use Rattle.salt_tokens.specs.declared.keyword.Keyword.{Keyword}
-use Rattle.salt_tokens.specs.declared.sign.Sign.TheVariants as mark
-use Rattle.salt_tokens.specs.declared.sign.Sign.{Sign}
-use Rattle.salt_tokens.specs.declared.token.TokenKind.TheVariants as kind
-use Rattle.salt_tokens.specs.declared.token.TokenKind.{TokenKind}
+use Rattle.salt_ast.specs.Bytes.{is_blank, is_digit, is_letter, is_word}
+use Rattle.salt_ast.specs.Pieces.{First, IsToken, Lexes, Piece, EachPasses, blank, doubled, ended, token}
+use Rattle.salt_ast.specs.TokenSpelling.{keyword_of, sign_of, sign_spelling}
+use Rattle.salt_ast.specs.Symbols.{Symbol, symbols_of, sign, sign_symbol, symbol_by, word_symbol}
+use Rattle.salt_ast.specs.declared.keyword.Keyword.{Keyword}
+use Rattle.salt_ast.specs.declared.sign.Sign.TheVariants as mark
+use Rattle.salt_ast.specs.declared.sign.Sign.{Sign}
+use Rattle.salt_ast.specs.declared.token.TokenKind.TheVariants as kind
+use Rattle.salt_ast.specs.declared.token.TokenKind.{TokenKind}
 use Rattle.std.proofs.Common.{Bool, List, None, Option, Some, [], ap, append_assoc, cond, eqb, false, refl, subst, sym, true, true≢false, ℕ, ◌&&◌}
 use Rattle.std.proofs.Common.{◌++◌, ◌∙◌, ◌∷◌, ◌≡◌}
 use Rattle.std.proofs.lemmas.Bool.{eqb-true}

@@ -11,13 +11,13 @@ use Rattle.salt_model.specs.Words.{Every}
 use Rattle.law_texts.proofs.Names.{no_sign, word_is}
 use Rattle.law_texts.proofs.Numbering.{first_fresh}
 use Rattle.salt_model.specs.Naming.{IsName, IsNaming, table_names}
-use Rattle.salt_tokens.specs.Pieces.{IsToken, Lexes, Piece, blank, ended, token}
-use Rattle.salt_tokens.specs.Spelling.{keyword_of, same_bytes, sign_of}
+use Rattle.salt_ast.specs.Pieces.{IsToken, Lexes, Piece, blank, ended, token}
+use Rattle.salt_ast.specs.TokenSpelling.{keyword_of, same_bytes, sign_of}
 use Rattle.std.specs.Option.{option_or}
-use Rattle.salt_tokens.specs.Symbols.{HasSymbols, Symbols, Symbol, key, name, symbols_of, symbol_by, word_symbol}
-use Rattle.salt_tokens.specs.declared.keyword.Keyword.TheVariants as word
-use Rattle.salt_tokens.specs.declared.token.TokenKind.TheVariants as kind
-use Rattle.salt_tokens.specs.declared.token.TokenKind.{TokenKind}
+use Rattle.salt_ast.specs.Symbols.{HasSymbols, Symbols, Symbol, key, name, symbols_of, symbol_by, word_symbol}
+use Rattle.salt_ast.specs.declared.keyword.Keyword.TheVariants as word
+use Rattle.salt_ast.specs.declared.token.TokenKind.TheVariants as kind
+use Rattle.salt_ast.specs.declared.token.TokenKind.{TokenKind}
 use Rattle.std.proofs.Common.{Bool, List, None, Option, Some, [], append-nil, cond, false, inl, inr, refl, subst, sym, true, true≢false, ℕ, ◌++◌, ◌∷◌}
 use Rattle.std.proofs.Common.{◌≡◌, ◌⊎◌, ◌||◌}
 

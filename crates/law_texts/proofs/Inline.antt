@@ -11,13 +11,13 @@ use Rattle.law_texts.proofs.Arrows.{other}
 use Rattle.law_texts.proofs.Clear.{run_one}
 use Rattle.law_texts.proofs.Numbers.{decimal_digits}
 use Rattle.law_texts.proofs.Statements.{shallow}
-use Rattle.salt_tokens.specs.Bytes.{is_blank, is_digit, is_letter, is_printable, is_word}
-use Rattle.salt_tokens.specs.Pieces.{First, IsToken, Lexes, Piece, EachPasses, blank, doubled, ended, token}
-use Rattle.salt_tokens.specs.Spelling.{sign_spelling}
-use Rattle.salt_tokens.specs.declared.sign.Sign.TheVariants as mark
-use Rattle.salt_tokens.specs.declared.sign.Sign.{Sign}
-use Rattle.salt_tokens.specs.declared.token.TokenKind.TheVariants as token_kind
-use Rattle.salt_tokens.specs.declared.token.TokenKind.{TokenKind}
+use Rattle.salt_ast.specs.Bytes.{is_blank, is_digit, is_letter, is_printable, is_word}
+use Rattle.salt_ast.specs.Pieces.{First, IsToken, Lexes, Piece, EachPasses, blank, doubled, ended, token}
+use Rattle.salt_ast.specs.TokenSpelling.{sign_spelling}
+use Rattle.salt_ast.specs.declared.sign.Sign.TheVariants as mark
+use Rattle.salt_ast.specs.declared.sign.Sign.{Sign}
+use Rattle.salt_ast.specs.declared.token.TokenKind.TheVariants as token_kind
+use Rattle.salt_ast.specs.declared.token.TokenKind.{TokenKind}
 use Rattle.salt_values.specs.declared.id.Id.{Id}
 use Rattle.std.proofs.Common.{Bool, List, [], ap, cond, decimal, eqb, false, inl, inr, not, refl, subst, sym, true, ℕ}
 use Rattle.std.proofs.Common.{◌&&◌, ◌++◌, ◌∷◌, ◌≡◌}

@@ -42,8 +42,8 @@ use Rattle.law_texts.specs.Below.{LawsBelow}
 use Rattle.law_texts.specs.EventLines.{Inline, ended, event_lines, is_inline, item_line, lines_text}
 use Rattle.salt_model.specs.Naming.{IsName, IsNaming}
 use Rattle.salt_model.specs.Sized.{IsSizedAnswer, IsSizedEvent, IsSizedItem, IsSizedKind, IsSizedRow, IsValueIn}
-use Rattle.salt_tokens.specs.Bytes.{is_printable}
-use Rattle.salt_tokens.specs.Pieces.{EachPasses, doubled}
+use Rattle.salt_ast.specs.Bytes.{is_printable}
+use Rattle.salt_ast.specs.Pieces.{EachPasses, doubled}
 use Rattle.salt_values.specs.Text as text
 use Rattle.salt_values.specs.Value.{IsValue}
 use Rattle.salt_values.specs.declared.id.Id.{Id}

@@ -1,14 +1,14 @@
 -- Names.
 use Rattle.salt_model.specs.Naming.{IsName}
 use Rattle.law_texts.proofs.Clear.{Clear, Stops, run_one}
-use Rattle.salt_tokens.specs.Bytes.{is_letter, is_word}
-use Rattle.salt_tokens.specs.Pieces.{First, IsToken, Lexes, NotNext, Piece, EachPasses, blank, ended, token}
-use Rattle.salt_tokens.specs.Spelling.{keyword_of, sign_of}
-use Rattle.salt_tokens.specs.Symbols.{name, symbols_of, sign_symbol, symbol_by, word_symbol}
-use Rattle.salt_tokens.specs.declared.keyword.Keyword.{Keyword}
-use Rattle.salt_tokens.specs.declared.sign.Sign.{Sign}
-use Rattle.salt_tokens.specs.declared.token.TokenKind.{TokenKind}
-use Rattle.salt_tokens.specs.declared.token.TokenKind.TheVariants as kind
+use Rattle.salt_ast.specs.Bytes.{is_letter, is_word}
+use Rattle.salt_ast.specs.Pieces.{First, IsToken, Lexes, NotNext, Piece, EachPasses, blank, ended, token}
+use Rattle.salt_ast.specs.TokenSpelling.{keyword_of, sign_of}
+use Rattle.salt_ast.specs.Symbols.{name, symbols_of, sign_symbol, symbol_by, word_symbol}
+use Rattle.salt_ast.specs.declared.keyword.Keyword.{Keyword}
+use Rattle.salt_ast.specs.declared.sign.Sign.{Sign}
+use Rattle.salt_ast.specs.declared.token.TokenKind.{TokenKind}
+use Rattle.salt_ast.specs.declared.token.TokenKind.TheVariants as kind
 use Rattle.std.proofs.Common.{Bool, List, None, Option, Some, [], false, refl, subst, true, ℕ, ◌==◌, ◌||◌, ◌∷◌, ◌≡◌}
 
 pub word_is : (text n : List ℕ) (found : Option Keyword) → word_symbol text found ≡ name n → text ≡ n

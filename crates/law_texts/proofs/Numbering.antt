@@ -5,7 +5,7 @@ use Rattle.salt_ast.specs.declared.trees.TableDef.{TableDef}
 use Rattle.salt_model.specs.EventTexts.{table_name}
 use Rattle.salt_model.specs.Words.{Every}
 use Rattle.salt_model.specs.Naming.{IsName, IsNaming, table_names}
-use Rattle.salt_tokens.specs.Spelling.{same_bytes}
+use Rattle.salt_ast.specs.TokenSpelling.{same_bytes}
 use Rattle.std.proofs.Common.{Bool, List, None, Option, Some, [], ap, arith, cond, eq-eqb, false, length, refl, suc, sym, true, true≢false, zero, ℕ}
 use Rattle.std.proofs.Common.{◌<◌, ◌∙◌, ◌∷◌, ◌≡◌, ◌||◌}
 

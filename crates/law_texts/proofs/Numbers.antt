@@ -4,8 +4,8 @@ use Rattle.salt_model.specs.EventTexts.{owner_text, unit_text}
 use Rattle.salt_model.specs.declared.events.Owner.TheVariants as owner
 use Rattle.law_texts.proofs.Clear.{Clear, Stops, Tells, differ, first, run_one}
 use Rattle.salt_model.specs.Sized.{IsSized, IsSizedId, IsSizedOwner, IsSizedPair, IsSizedPart, IsSizedSession}
-use Rattle.salt_tokens.specs.Bytes.{is_digit, is_letter}
-use Rattle.salt_tokens.specs.Pieces.{NotNext, EachPasses}
+use Rattle.salt_ast.specs.Bytes.{is_digit, is_letter}
+use Rattle.salt_ast.specs.Pieces.{NotNext, EachPasses}
 use Rattle.std.proofs.Common.{Bool, List, [], ap, arith, cond, eqb, false, length, refl, suc, true, zero, ℕ, ◌%◌, ◌++◌, ◌/◌, ◌<◌, ◌==◌, ◌||◌, ◌∷◌}
 use Rattle.std.proofs.Common.{◌≡◌, ◌≤◌}
 use Rattle.std.proofs.lemmas.Bool.Decides.{nat_tests}

@@ -11,12 +11,12 @@ use Rattle.salt_ast.specs.declared.trees.Expr.{Expr}
 use Rattle.salt_model.specs.Naming.{IsName, IsNaming}
 use Rattle.salt_model.specs.Printable.{IsPrintableStory, IsSpelled, IsSpelledProgram, IsSpelledTable}
 use Rattle.law_texts.specs.Samples.{definition_story, insert_null, null_story, program, schema, select_all, t, table}
-use Rattle.salt_tokens.proofs.TokenLaws.{lex_sound}
-use Rattle.salt_tokens.specs.Pieces.{Lexes, Piece}
-use Rattle.salt_tokens.specs.Scanning.{first_at, lex}
-use Rattle.salt_tokens.specs.Spelling.{keyword_of, sign_of}
-use Rattle.salt_tokens.specs.Symbols.{Symbols, int}
-use Rattle.salt_tokens.specs.declared.token.TokenKind.TheVariants as kind
+use Rattle.salt_ast.proofs.TokenLaws.{lex_sound}
+use Rattle.salt_ast.specs.Pieces.{Lexes, Piece}
+use Rattle.salt_ast.specs.Scanning.{first_at, lex}
+use Rattle.salt_ast.specs.TokenSpelling.{keyword_of, sign_of}
+use Rattle.salt_ast.specs.Symbols.{Symbols, int}
+use Rattle.salt_ast.specs.declared.token.TokenKind.TheVariants as kind
 use Rattle.salt_values.specs.declared.limits.TheConstants.{PARENTHESES_MOST}
 use Rattle.std.proofs.Common.{List, Some, [], arith, codes, inl, inr, pos, refl, ℕ, ◌-◌, ◌∷◌, ◌≡◌}
 

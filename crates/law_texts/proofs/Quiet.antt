@@ -6,9 +6,9 @@ use Rattle.salt_ast.specs.Statements.{ColumnValue, FollowingBy, IsAnd, IsName, I
 use Rattle.salt_ast.specs.declared.trees.Expr.{Expr}
 use Rattle.salt_ast.specs.declared.trees.Scan.{Scan}
 use Rattle.salt_ast.specs.declared.trees.Statement.{Statement}
-use Rattle.salt_tokens.specs.Symbols.{Symbols, Symbol, sign}
-use Rattle.salt_tokens.specs.declared.sign.Sign.TheVariants as mark
-use Rattle.salt_tokens.specs.declared.sign.Sign.{Sign}
+use Rattle.salt_ast.specs.Symbols.{Symbols, Symbol, sign}
+use Rattle.salt_ast.specs.declared.sign.Sign.TheVariants as mark
+use Rattle.salt_ast.specs.declared.sign.Sign.{Sign}
 use Rattle.std.proofs.Common.{Bool, List, Option, [], append_assoc, false, refl, suc, true, zero, ℕ, ◌&&◌, ◌++◌, ◌∷◌, ◌≡◌}
 
 abbrev pub is_minus : Symbol → Bool

@@ -7,7 +7,7 @@ use Rattle.law_texts.proofs.Arrows.{lexed_after}
 use Rattle.law_texts.specs.Arrow.{after, open_place}
 use Rattle.law_texts.proofs.Quiet.{Quiet, statement_calm, within_firm}
 use Rattle.law_texts.specs.Below.{LawsBelow}
-use Rattle.salt_tokens.specs.Symbols.{symbols_of}
+use Rattle.salt_ast.specs.Symbols.{symbols_of}
 use Rattle.salt_values.specs.declared.limits.TheConstants.{DEPTH_MOST}
 use Rattle.std.proofs.Common.{List, [], ap, append-nil, false, subst, sym, ℕ, ◌++◌, ◌∙◌, ◌∷◌, ◌≡◌}
 use Rattle.std.proofs.lemmas.List.{append_cancel_right}

@@ -4,8 +4,8 @@ use Rattle.salt_ast.specs.ProgramTexts.{row_text}
 use Rattle.law_texts.proofs.Clear.{Clear, Tells, differ, listed_one}
 use Rattle.law_texts.proofs.Numbers.{decimal_begins, decimal_clear, not_quote}
 use Rattle.salt_model.specs.Sized.{IsSizedRow}
-use Rattle.salt_tokens.specs.Pieces.{NotNext, doubled}
-use Rattle.salt_tokens.specs.Bytes.{is_digit}
+use Rattle.salt_ast.specs.Pieces.{NotNext, doubled}
+use Rattle.salt_ast.specs.Bytes.{is_digit}
 use Rattle.salt_values.specs.Value.{IsValue}
 use Rattle.salt_values.specs.declared.value.Value.TheVariants as value
 use Rattle.salt_values.specs.declared.value.Value.{Value}

@@ -8,9 +8,9 @@ use Rattle.salt_ast.specs.declared.programs.ProgramDef.{ProgramDef}
 use Rattle.salt_ast.specs.declared.trees.Statement.{Statement}
 use Rattle.salt_ast.specs.declared.trees.TableDef.{TableDef}
 use Rattle.salt_parse.specs.Settling.{DeepStatement, ShallowStatement}
-use Rattle.salt_tokens.specs.Spelling.{sign_of, sign_spelling}
-use Rattle.salt_tokens.specs.Symbols.{Symbols}
-use Rattle.salt_tokens.specs.declared.sign.Sign.{Sign}
+use Rattle.salt_ast.specs.TokenSpelling.{sign_of, sign_spelling}
+use Rattle.salt_ast.specs.Symbols.{Symbols}
+use Rattle.salt_ast.specs.declared.sign.Sign.{Sign}
 use Rattle.std.specs.Prelude.{List, None, Some, ℕ, ◌≡◌}
 
 -- of signs, and of the texts of statements, tables and programs

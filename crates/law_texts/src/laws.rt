@@ -14,9 +14,8 @@ ghost use Rattle.law_texts.specs.Arrow.{behind_arrow};
 ghost use Rattle.law_texts.specs.Below.{LawsBelow};
 ghost use Rattle.law_texts.specs.EventLines.{Inline, event_lines, lines_text};
 
-use salt_ast::{canonical_program, canonical_statement, canonical_table};
+use salt_ast::{canonical_program, canonical_statement, canonical_table, sign_spellings};
 use salt_parse::{one_statement, row_statement};
-use salt_tokens::sign_spellings;
 
 /// What the laws of the crates below say.
 fn laws_below()

@@ -19,7 +19,7 @@ use Rattle.salt_model.specs.Words.{Every}
 use Rattle.salt_model.specs.declared.events.UnitKind.TheVariants as kind
 use Rattle.salt_model.specs.declared.events.UnitKind.{UnitKind}
 use Rattle.salt_model.specs.declared.vars.Binding.{Binding}
-use Rattle.salt_tokens.specs.Spelling.{same_bytes}
+use Rattle.salt_ast.specs.TokenSpelling.{same_bytes}
 use Rattle.law_types.proofs.Arguments.{joined, kept-behind, zeros-typed}
 use Rattle.law_types.proofs.Words.{both}
 use Rattle.law_types.specs.Typed.{AreApart, AreVariables, IsContOf, IsKindFor, IsProperProgram, IsTyped, IsTypedRun, scope_of_kind, scope_of_program}

@@ -9,7 +9,7 @@ use Rattle.salt_model.specs.Kept.{Definition, Kept, OfProgram, OfTable, program_
 use Rattle.salt_model.specs.Tables.{Entry}
 use Rattle.salt_model.specs.Words.{Every}
 use Rattle.salt_model.specs.declared.places.Place.{Place}
-use Rattle.salt_tokens.specs.Spelling.{same_bytes}
+use Rattle.salt_ast.specs.TokenSpelling.{same_bytes}
 use Rattle.law_types.proofs.Judged.{program-proper, program-stays, table-proper}
 use Rattle.law_types.specs.Typed.{AreRowsOf, IsContOf, IsProperProgram, IsProperTable, IsRowAt, IsTyped, has_key}
 use Rattle.salt_values.specs.declared.cont.Cont.{Cont}

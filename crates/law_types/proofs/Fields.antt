@@ -9,7 +9,7 @@ use Rattle.law_story.proofs.Ids.{and_left, and_right}
 use Rattle.law_story.proofs.Lists.{or_left_true, or_right_true}
 use Rattle.salt_model.specs.Eval.{named_values}
 use Rattle.salt_model.specs.Statements.{set_field, set_var}
-use Rattle.salt_tokens.specs.Spelling.{same_bytes}
+use Rattle.salt_ast.specs.TokenSpelling.{same_bytes}
 use Rattle.law_types.specs.Typed.{AreVariables}
 use Rattle.salt_values.specs.declared.value.Value.{Value}
 use Rattle.std.proofs.Common.{ap, subst}

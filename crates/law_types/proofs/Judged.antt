@@ -12,7 +12,7 @@ use Rattle.salt_ast.specs.declared.trees.TableDef.{TableDef}
 use Rattle.law_story.proofs.Every.{every-map}
 use Rattle.law_story.proofs.Ids.{and_left, and_right}
 use Rattle.salt_model.specs.Words.{Every}
-use Rattle.salt_tokens.specs.Spelling.{same_bytes}
+use Rattle.salt_ast.specs.TokenSpelling.{same_bytes}
 use Rattle.law_types.specs.Typed.{IsProperProgram, IsProperTable, has_key}
 use Rattle.std.proofs.Common.{sym, ◌∙◌}
 use Rattle.std.specs.Bool.{then_some}

@@ -15,7 +15,7 @@ use Rattle.salt_model.specs.Trace.{Asked, Tree}
 use Rattle.salt_model.specs.Words.{Every}
 use Rattle.salt_model.specs.declared.events.Cause.{Cause}
 use Rattle.salt_model.specs.declared.vars.Binding.{Binding}
-use Rattle.salt_tokens.specs.Symbols.{Symbols}
+use Rattle.salt_ast.specs.Symbols.{Symbols}
 use Rattle.law_types.proofs.Values.{expression-given, taken}
 use Rattle.law_types.specs.Played.{HasKey}
 use Rattle.law_types.specs.Typed.{AreVariables, has_key, is_datum_of}

@@ -14,7 +14,7 @@ use Rattle.salt_model.specs.Eval.{Datum, Gives, Holds, No, Truth, Unknown, Visib
 use Rattle.salt_model.specs.Words.{and_then}
 use Rattle.salt_model.specs.declared.events.Cause.{Cause}
 use Rattle.salt_model.specs.declared.events.Cause.TheVariants.{Overflow, TooLong}
-use Rattle.salt_tokens.specs.Spelling.{same_bytes}
+use Rattle.salt_ast.specs.TokenSpelling.{same_bytes}
 use Rattle.law_types.specs.Typed.{is_datum_of}
 use Rattle.salt_values.specs.Value.{is_null}
 use Rattle.salt_values.specs.declared.limits.TheConstants.{TEXT_MOST}

@@ -33,7 +33,7 @@ use Rattle.salt_values.specs.declared.value.Value.{Value}
 use Rattle.salt_model.specs.declared.locks.Lock.{Lock}
 use Rattle.salt_model.specs.declared.locks.Reach.{Reach}
 use Rattle.law_types.specs.Growing.{Grows}
-use Rattle.salt_tokens.specs.Spelling.{same_bytes}
+use Rattle.salt_ast.specs.TokenSpelling.{same_bytes}
 use Rattle.salt_values.specs.declared.id.Id.{Id}
 use Rattle.std.proofs.Common.{ap, append-nil, arith, inl, inr, length-append, subst, sym, ◌∙◌}
 use Rattle.std.specs.Bool.{then_some}

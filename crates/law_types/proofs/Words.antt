@@ -8,7 +8,7 @@ use Rattle.law_story.proofs.Lists.{In}
 use Rattle.salt_model.specs.Reaches.{table_from}
 use Rattle.salt_model.specs.Words.{Every, and_then}
 use Rattle.salt_model.specs.declared.events.Cause.{Cause}
-use Rattle.salt_tokens.specs.Spelling.{same_bytes}
+use Rattle.salt_ast.specs.TokenSpelling.{same_bytes}
 use Rattle.std.proofs.Common.{ap, arith, inl, inr, subst}
 use Rattle.std.specs.Prelude.{Bool, Err, List, None, Ok, Option, Result, Some, [], cond, false, refl, suc, true, zero, ℕ, ◌&&◌, ◌+◌, ◌∷◌, ◌≡◌, slice_get}
 

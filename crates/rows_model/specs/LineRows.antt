@@ -7,10 +7,10 @@ use Rattle.salt_ast.specs.declared.lines.Line.TheVariants as line
 use Rattle.salt_model.specs.Lines.{Asks, has_other_byte, is_idle, is_line, is_long, passes}
 use Rattle.salt_model.specs.Trace.{Rejected, Tree}
 use Rattle.salt_model.specs.declared.events.Refusal.TheVariants as refused
-use Rattle.salt_tokens.specs.Spelling.{keyword_of, sign_of}
-use Rattle.salt_tokens.specs.Pieces.{Lexes, Piece, blank, ended, token}
-use Rattle.salt_tokens.specs.declared.sign.Sign.TheVariants as mark
-use Rattle.salt_tokens.specs.declared.token.TokenKind.TheVariants as kind
+use Rattle.salt_ast.specs.TokenSpelling.{keyword_of, sign_of}
+use Rattle.salt_ast.specs.Pieces.{Lexes, Piece, blank, ended, token}
+use Rattle.salt_ast.specs.declared.sign.Sign.TheVariants as mark
+use Rattle.salt_ast.specs.declared.token.TokenKind.TheVariants as kind
 use Rattle.std.proofs.Common.{lit<, lit≤}
 use Rattle.std.specs.Prelude.{List, [], codes, refl, suc, zero, ℕ, ◌++◌, ◌∷◌}
 

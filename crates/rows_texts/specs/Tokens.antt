@@ -1,11 +1,11 @@
 -- The tokens of bytes, and what they stand for.
-use Rattle.salt_tokens.specs.Pieces.{Piece}
-use Rattle.salt_tokens.specs.Scanning.{first_at, lex, quoted_at}
-use Rattle.salt_tokens.specs.Spelling.{keyword_of, keyword_spelling, sign_of, sign_spelling}
-use Rattle.salt_tokens.specs.Symbols.{Symbols, int, key, largest_int, name, sign, symbols_of, text}
-use Rattle.salt_tokens.specs.declared.keyword.Keyword.TheVariants.{Count, Retry, Rollback, Select}
-use Rattle.salt_tokens.specs.declared.sign.Sign.TheVariants.{AtMost, Bars, Close, Open, Star, Unequal}
-use Rattle.salt_tokens.specs.declared.token.TokenKind.TheVariants as kind
+use Rattle.salt_ast.specs.Pieces.{Piece}
+use Rattle.salt_ast.specs.Scanning.{first_at, lex, quoted_at}
+use Rattle.salt_ast.specs.TokenSpelling.{keyword_of, keyword_spelling, sign_of, sign_spelling}
+use Rattle.salt_ast.specs.Symbols.{Symbols, int, key, largest_int, name, sign, symbols_of, text}
+use Rattle.salt_ast.specs.declared.keyword.Keyword.TheVariants.{Count, Retry, Rollback, Select}
+use Rattle.salt_ast.specs.declared.sign.Sign.TheVariants.{AtMost, Bars, Close, Open, Star, Unequal}
+use Rattle.salt_ast.specs.declared.token.TokenKind.TheVariants as kind
 use Rattle.std.specs.Prelude.{List, None, Option, Some, [], codes, map, option_map, refl, ℕ, ◌++◌, ◌∷◌, ◌≡◌}
 
 -- ---- bytes, and their tokens: each is the longest that begins there

@@ -11,11 +11,11 @@ use Rattle.salt_ast.specs.Trees.{letters, negation, null_test, number, operation
 use Rattle.salt_ast.specs.declared.trees.Expr.{Binary', Column, Expr, IsNull', Lit, Not', Variable, end_of-Expr, more_of-Expr}
 use Rattle.salt_ast.specs.declared.trees.Op.{Op}
 use Rattle.salt_ast.specs.declared.trees.Op.TheVariants as op
-use Rattle.salt_tokens.specs.Bytes.{is_printable}
-use Rattle.salt_tokens.specs.Pieces.{EachPasses}
-use Rattle.salt_tokens.specs.Symbols.{Symbols, Symbol, int, key, name, sign, text}
-use Rattle.salt_tokens.specs.declared.keyword.Keyword.TheVariants as word
-use Rattle.salt_tokens.specs.declared.sign.Sign.TheVariants as mark
+use Rattle.salt_ast.specs.Bytes.{is_printable}
+use Rattle.salt_ast.specs.Pieces.{EachPasses}
+use Rattle.salt_ast.specs.Symbols.{Symbols, Symbol, int, key, name, sign, text}
+use Rattle.salt_ast.specs.declared.keyword.Keyword.TheVariants as word
+use Rattle.salt_ast.specs.declared.sign.Sign.TheVariants as mark
 use Rattle.std.proofs.Common.{Bool, List, [], append_assoc, arith, codes, false, neg_ℤ, pos, refl, suc, sym, true, zero, ℕ, ◌++◌, ◌<◌, ◌^◌, ◌∷◌, ◌≤◌}
 
 -- the canonical text is read as the expression, wherever one open parenthesis less than it is high is allowed

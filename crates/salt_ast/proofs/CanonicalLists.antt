@@ -6,10 +6,10 @@ use Rattle.salt_ast.specs.TokenLaws.{TokenLaws}
 use Rattle.salt_ast.specs.Programs.{AnyListed, Several, and_more, last_one, no_items, some_items}
 use Rattle.salt_ast.specs.Statements.{Following, FollowingBy, Listed, ListedBy, items, no_more, one_more}
 use Rattle.salt_ast.specs.Texts.{between_commas, preceded}
-use Rattle.salt_tokens.specs.Spelling.{sign_spelling}
-use Rattle.salt_tokens.specs.Symbols.{Symbols, sign}
-use Rattle.salt_tokens.specs.declared.sign.Sign.{Sign}
-use Rattle.salt_tokens.specs.declared.sign.Sign.TheVariants as mark
+use Rattle.salt_ast.specs.TokenSpelling.{sign_spelling}
+use Rattle.salt_ast.specs.Symbols.{Symbols, sign}
+use Rattle.salt_ast.specs.declared.sign.Sign.{Sign}
+use Rattle.salt_ast.specs.declared.sign.Sign.TheVariants as mark
 use Rattle.std.proofs.Common.{List, [], append-nil, append_assoc, codes, sym, ℕ, ◌++◌, ◌∷◌}
 
 pub preceded_stops : {A : Type 0} (before : List ℕ) → ((rest : List ℕ) → Stops (before ++ rest)) → (text : A → List ℕ) (xs : List A) (rest : List ℕ) →

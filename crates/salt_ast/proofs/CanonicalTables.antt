@@ -14,9 +14,9 @@ use Rattle.salt_ast.specs.Tables.{IsCheck, IsColumn, IsField, IsTable, int_field
 use Rattle.salt_ast.specs.Texts.{expr_text, field_text, preceded, table_text}
 use Rattle.salt_ast.specs.declared.trees.Expr.{Expr}
 use Rattle.salt_ast.specs.declared.trees.TableDef.{TableDef}
-use Rattle.salt_tokens.specs.Symbols.{Symbols, key, name, sign}
-use Rattle.salt_tokens.specs.declared.keyword.Keyword.TheVariants as word
-use Rattle.salt_tokens.specs.declared.sign.Sign.TheVariants as mark
+use Rattle.salt_ast.specs.Symbols.{Symbols, key, name, sign}
+use Rattle.salt_ast.specs.declared.keyword.Keyword.TheVariants as word
+use Rattle.salt_ast.specs.declared.sign.Sign.TheVariants as mark
 use Rattle.std.proofs.Common.{List, None, [], ap, append_assoc, codes, refl, subst, ℕ, ◌++◌, ◌∷◌, ◌≡◌}
 
 -- ---- checks

@@ -1,15 +1,15 @@
 -- Bytes that are read as the same symbols, whatever comes behind them.
 use Rattle.salt_ast.specs.Spelling.{Spells}
 use Rattle.salt_ast.specs.TokenLaws.{TokenLaws}
-use Rattle.salt_tokens.specs.Bytes.{is_digit, is_printable, is_word}
-use Rattle.salt_tokens.specs.Pieces.{EndsToken, IsToken, Lexes, NotNext, EachPasses, blank, ended, quoted, token}
-use Rattle.salt_tokens.specs.Spelling.{keyword_of, keyword_spelling, sign_of, sign_spelling}
-use Rattle.salt_tokens.specs.Symbols.{HasSymbols, Symbols, Symbol, int, key, name, sign, sign_symbol, symbol_by, text, word_symbol}
-use Rattle.salt_tokens.specs.declared.keyword.Keyword.{Keyword}
-use Rattle.salt_tokens.specs.declared.sign.Sign.{Sign}
-use Rattle.salt_tokens.specs.declared.sign.Sign.TheVariants as mark
-use Rattle.salt_tokens.specs.declared.token.TokenKind.{TokenKind}
-use Rattle.salt_tokens.specs.declared.token.TokenKind.TheVariants as kind
+use Rattle.salt_ast.specs.Bytes.{is_digit, is_printable, is_word}
+use Rattle.salt_ast.specs.Pieces.{EndsToken, IsToken, Lexes, NotNext, EachPasses, blank, ended, quoted, token}
+use Rattle.salt_ast.specs.TokenSpelling.{keyword_of, keyword_spelling, sign_of, sign_spelling}
+use Rattle.salt_ast.specs.Symbols.{HasSymbols, Symbols, Symbol, int, key, name, sign, sign_symbol, symbol_by, text, word_symbol}
+use Rattle.salt_ast.specs.declared.keyword.Keyword.{Keyword}
+use Rattle.salt_ast.specs.declared.sign.Sign.{Sign}
+use Rattle.salt_ast.specs.declared.sign.Sign.TheVariants as mark
+use Rattle.salt_ast.specs.declared.token.TokenKind.{TokenKind}
+use Rattle.salt_ast.specs.declared.token.TokenKind.TheVariants as kind
 use Rattle.std.proofs.Common.{List, None, [], ap, append_assoc, codes, false, is_some, refl, rules, subst, sym, ℕ, ◌++◌, ◌<◌, ◌^◌, ◌∙◌, ◌∷◌, ◌≡◌}
 use Rattle.std.proofs.lemmas.List.{append-nil}
 use Rattle.std.specs.Fmt.{decimal}

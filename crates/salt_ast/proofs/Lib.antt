@@ -1,3 +1,9 @@
+pub mod Digits
+pub mod Lexing
+pub mod Quoted
+pub mod SpellingLaws
+pub mod Steps
+pub mod TokenLaws
 pub mod Joins
 pub mod Loops
 pub mod Quotes

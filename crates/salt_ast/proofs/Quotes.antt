@@ -3,7 +3,7 @@ use Rattle.salt_ast.specs.Words.{is_no_quote}
 use Rattle.salt_ast.proofs.Joins.{Prints-nil, ◌⨾◌}
 use Rattle.salt_ast.specs.Prints.{Prints}
 use Rattle.salt_ast.specs.declared.printer.Printer.{Printer}
-use Rattle.salt_tokens.specs.Pieces.{doubled}
+use Rattle.salt_ast.specs.Pieces.{doubled}
 use Rattle.std.proofs.Common.{Bool, List, Option, [], add-one, ap, append_assoc, arith, cond, drop, false, if◌then◌else◌, length, length-drop, length-take, not, one-add, refl, subst, suc, sym, take, true, ℕ, ◌+◌, ◌++◌, ◌-◌, ◌<◌, ◌∙◌, ◌∷◌, ◌≡◌, ◌≤◌}
 use Rattle.std.proofs.Math.Seq.{take-length}
 use Rattle.std.proofs.lemmas.List.Sums.{prefix_len-le-length}

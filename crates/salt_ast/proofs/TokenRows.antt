@@ -3,14 +3,14 @@ use Rattle.salt_ast.proofs.Each.{Each}
 use Rattle.salt_ast.proofs.Fragments.{IsNameWord, IsReadAs, text_spells}
 use Rattle.salt_ast.specs.TokenLaws.{TokenLaws}
 use Rattle.salt_ast.specs.Spelling.{Spells}
-use Rattle.salt_tokens.specs.Bytes.{is_printable}
-use Rattle.salt_tokens.specs.Pieces.{IsToken, Lexes, Piece, EachPasses, blank, ended, token}
-use Rattle.salt_tokens.specs.Spelling.{keyword_of, sign_of}
-use Rattle.salt_tokens.specs.Symbols.{Symbol, Symbols, int, key, largest_int, name, symbols_of, sign, sign_symbol, symbol_by, text, word_symbol}
-use Rattle.salt_tokens.specs.declared.keyword.Keyword.{Keyword}
-use Rattle.salt_tokens.specs.declared.sign.Sign.{Sign}
-use Rattle.salt_tokens.specs.declared.token.TokenKind.{TokenKind}
-use Rattle.salt_tokens.specs.declared.token.TokenKind.TheVariants as kind
+use Rattle.salt_ast.specs.Bytes.{is_printable}
+use Rattle.salt_ast.specs.Pieces.{IsToken, Lexes, Piece, EachPasses, blank, ended, token}
+use Rattle.salt_ast.specs.TokenSpelling.{keyword_of, sign_of}
+use Rattle.salt_ast.specs.Symbols.{Symbol, Symbols, int, key, largest_int, name, symbols_of, sign, sign_symbol, symbol_by, text, word_symbol}
+use Rattle.salt_ast.specs.declared.keyword.Keyword.{Keyword}
+use Rattle.salt_ast.specs.declared.sign.Sign.{Sign}
+use Rattle.salt_ast.specs.declared.token.TokenKind.{TokenKind}
+use Rattle.salt_ast.specs.declared.token.TokenKind.TheVariants as kind
 use Rattle.std.proofs.Common.{List, None, Option, Some, ap, arith, min, refl, subst, sym, ℕ, ◌<◌, ◌^◌, ◌∙◌, ◌≡◌}
 use Rattle.std.specs.Str.Parse.{digits_value}
 

@@ -3,9 +3,9 @@ use Rattle.salt_ast.specs.Operators.{operator, precedence}
 use Rattle.salt_ast.specs.Trees.{negation, null_test, number, operation}
 use Rattle.salt_ast.specs.declared.trees.Expr.{Column, Expr, Lit, Variable}
 use Rattle.salt_ast.specs.declared.trees.Op.{Op}
-use Rattle.salt_tokens.specs.Symbols.{Symbols, Symbol, int, key, name, sign, text}
-use Rattle.salt_tokens.specs.declared.keyword.Keyword.TheVariants as word
-use Rattle.salt_tokens.specs.declared.sign.Sign.TheVariants as mark
+use Rattle.salt_ast.specs.Symbols.{Symbols, Symbol, int, key, name, sign, text}
+use Rattle.salt_ast.specs.declared.keyword.Keyword.TheVariants as word
+use Rattle.salt_ast.specs.declared.sign.Sign.TheVariants as mark
 use Rattle.salt_values.specs.declared.value.Value.TheVariants as value
 use Rattle.std.specs.Prelude.{List, Some, [], false, neg_ℤ, pos, suc, true, zero, ℕ, ◌++◌, ◌∷◌, ◌≡◌}
 

@@ -3,7 +3,7 @@
 use Rattle.salt_values.specs.declared.limits.TheConstants.{TABLES_MOST}
 use Rattle.salt_ast.specs.Trees.{bound_exprs}
 use Rattle.salt_ast.specs.Words.{first_in, is_among}
-use Rattle.salt_tokens.specs.Spelling.{same_bytes}
+use Rattle.salt_ast.specs.TokenSpelling.{same_bytes}
 use Rattle.std.specs.Bool.{then_some}
 use Rattle.std.specs.Option.{option_or, option_map_or}
 use Rattle.salt_ast.specs.declared.limit.LimitName.{LimitName}

@@ -1,3 +1,9 @@
+pub mod Bytes
+pub mod Pieces
+pub mod TokenSpelling
+pub mod Symbols
+pub mod Scanning
+pub mod Spans
 pub mod Words
 pub mod Trees
 pub mod Sample

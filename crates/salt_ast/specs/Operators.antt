@@ -1,9 +1,9 @@
 -- Operations, and the symbols that stand for them.
 use Rattle.salt_ast.specs.declared.trees.Op.{Op}
 use Rattle.salt_ast.specs.declared.trees.Op.TheVariants as op
-use Rattle.salt_tokens.specs.Symbols.{Symbol, key, sign}
-use Rattle.salt_tokens.specs.declared.keyword.Keyword.TheVariants as word
-use Rattle.salt_tokens.specs.declared.sign.Sign.TheVariants as mark
+use Rattle.salt_ast.specs.Symbols.{Symbol, key, sign}
+use Rattle.salt_ast.specs.declared.keyword.Keyword.TheVariants as word
+use Rattle.salt_ast.specs.declared.sign.Sign.TheVariants as mark
 use Rattle.std.specs.Prelude.{List, None, Option, Some, codes, ℕ}
 
 -- the operation that a symbol stands for between two operands

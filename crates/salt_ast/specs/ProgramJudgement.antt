@@ -6,7 +6,7 @@ use Rattle.salt_ast.specs.Judgement.{kept_limit, same_types, statement_fault, ta
 use Rattle.salt_ast.specs.Paths.{body_statements}
 use Rattle.salt_ast.specs.ProgramTexts.{base_text}
 use Rattle.salt_ast.specs.Words.{first_in}
-use Rattle.salt_tokens.specs.Spelling.{same_bytes}
+use Rattle.salt_ast.specs.TokenSpelling.{same_bytes}
 use Rattle.std.specs.Bool.{then_some}
 use Rattle.std.specs.Option.{option_map_or, option_or}
 use Rattle.salt_ast.specs.declared.limit.LimitName.{LimitName}

@@ -13,8 +13,8 @@ use Rattle.salt_ast.specs.declared.lines.Line.{Line}
 use Rattle.salt_ast.specs.declared.programs.ProgramDef.{ProgramDef}
 use Rattle.salt_ast.specs.declared.trees.Statement.{Statement}
 use Rattle.salt_ast.specs.declared.trees.TableDef.{TableDef}
-use Rattle.salt_tokens.specs.Pieces.{Lexes, Piece}
-use Rattle.salt_tokens.specs.Symbols.{Symbols, symbols_of}
+use Rattle.salt_ast.specs.Pieces.{Lexes, Piece}
+use Rattle.salt_ast.specs.Symbols.{Symbols, symbols_of}
 use Rattle.std.specs.Prelude.{List, None, Option, Some, ℕ, ◌-◌, ◌≡◌}
 
 -- The bytes are tokens that spell the tree.

@@ -13,7 +13,7 @@ use Rattle.salt_ast.specs.declared.trees.Statement.TheVariants as statement
 use Rattle.salt_ast.specs.declared.trees.TableDef.{TableDef}
 use Rattle.salt_ast.specs.declared.trees.What.{What}
 use Rattle.salt_ast.specs.declared.trees.What.TheVariants as what
-use Rattle.salt_tokens.specs.Pieces.{quoted}
+use Rattle.salt_ast.specs.Pieces.{quoted}
 use Rattle.salt_values.specs.declared.value.Value.{Value}
 use Rattle.salt_values.specs.declared.value.Value.TheVariants as value
 use Rattle.std.specs.Fmt.{signed_decimal}

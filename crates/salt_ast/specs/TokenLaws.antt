@@ -1,10 +1,10 @@
 -- How tokens are written.
-use Rattle.salt_tokens.specs.Pieces.{IsToken, quoted}
-use Rattle.salt_tokens.specs.Spelling.{keyword_of, keyword_spelling, sign_of, sign_spelling}
-use Rattle.salt_tokens.specs.Symbols.{int, symbol_by, text}
-use Rattle.salt_tokens.specs.declared.keyword.Keyword.{Keyword}
-use Rattle.salt_tokens.specs.declared.sign.Sign.{Sign}
-use Rattle.salt_tokens.specs.declared.token.TokenKind.TheVariants as kind
+use Rattle.salt_ast.specs.Pieces.{IsToken, quoted}
+use Rattle.salt_ast.specs.TokenSpelling.{keyword_of, keyword_spelling, sign_of, sign_spelling}
+use Rattle.salt_ast.specs.Symbols.{int, symbol_by, text}
+use Rattle.salt_ast.specs.declared.keyword.Keyword.{Keyword}
+use Rattle.salt_ast.specs.declared.sign.Sign.{Sign}
+use Rattle.salt_ast.specs.declared.token.TokenKind.TheVariants as kind
 use Rattle.std.specs.Fmt.{decimal}
 use Rattle.std.specs.Prelude.{List, Some, ℕ, ◌<◌, ◌^◌, ◌≡◌}
 

@@ -1,5 +1,5 @@
 -- Small words on options, lists, names and bytes.
-use Rattle.salt_tokens.specs.Spelling.{same_bytes}
+use Rattle.salt_ast.specs.TokenSpelling.{same_bytes}
 use Rattle.std.specs.Option.{option_or}
 use Rattle.std.specs.Prelude.{Bool, List, None, Option, [], not, ℕ, ◌==◌, ◌∷◌}
 use Rattle.std.specs.List.{list_any}

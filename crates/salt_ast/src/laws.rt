@@ -12,7 +12,7 @@ ghost use Rattle.salt_ast.specs.declared.programs.ProgramDef.{ProgramDef};
 ghost use Rattle.salt_ast.specs.declared.trees.Statement.{Statement};
 ghost use Rattle.salt_ast.specs.declared.trees.TableDef.{TableDef};
 
-use salt_tokens::{keyword_spellings, quoted_text, sign_spellings, written_number};
+use crate::token_laws::{keyword_spellings, quoted_text, sign_spellings, written_number};
 
 /// How keywords, signs, texts and numbers are written, as the crate of tokens says.
 fn written_tokens()

@@ -5,7 +5,7 @@ ghost use Rattle.std.specs.List.{prefix_len};
 ghost use Rattle.salt_ast.specs.Prints.{Prints};
 ghost use Rattle.salt_ast.specs.Texts.{name_text, value_text};
 ghost use Rattle.salt_ast.specs.Words.{is_no_quote};
-ghost use Rattle.salt_tokens.specs.Pieces.{doubled, quoted};
+ghost use Rattle.salt_ast.specs.Pieces.{doubled, quoted};
 
 use crate::printer::{Canonical, Printer};
 use salt_io::Sink;

@@ -21,7 +21,7 @@ use Rattle.salt_model.specs.declared.events.Event.TheVariants.{Did, Ended}
 use Rattle.salt_model.specs.declared.events.Event.{Event}
 use Rattle.salt_model.specs.declared.locks.Reach.{Reach}
 use Rattle.salt_model.specs.declared.places.Place.{Place}
-use Rattle.salt_tokens.specs.Spelling.{same_bytes}
+use Rattle.salt_ast.specs.TokenSpelling.{same_bytes}
 use Rattle.salt_values.specs.Id.{has_id, in_order, is_same_id}
 use Rattle.salt_values.specs.Value.{is_same_value}
 use Rattle.salt_values.specs.declared.id.Id.{Id}

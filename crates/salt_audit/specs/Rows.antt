@@ -28,8 +28,8 @@ use Rattle.salt_parse.specs.ProgramReading.{program_at}
 use Rattle.salt_parse.specs.Reading.{after, atom_at, left_at, nots_at, once_at, tail_at, text_at, within_at}
 use Rattle.salt_parse.specs.StatementReading.{statement_at}
 use Rattle.salt_parse.specs.TableReading.{table_at}
-use Rattle.salt_tokens.specs.Scanning.{first_at, lex, quoted_at}
-use Rattle.salt_tokens.specs.Spelling.{keyword_of, sign_of}
+use Rattle.salt_ast.specs.Scanning.{first_at, lex, quoted_at}
+use Rattle.salt_ast.specs.TokenSpelling.{keyword_of, sign_of}
 use Rattle.salt_values.specs.declared.value.Value.TheVariants.{Int}
 use Rattle.salt_ast.specs.Sample.{acct, bal, field, part, scan, set}
 use Rattle.salt_ast.specs.Trees.{operation}

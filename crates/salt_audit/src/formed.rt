@@ -14,14 +14,13 @@ ghost use Rattle.salt_values.specs.Id.{has_id};
 
 use crate::state::{Begun, State, Units};
 use law_definitions::definitions_are_read;
-use salt_ast::{Line, Scope, Statement, print_statement};
+use salt_ast::{Line, Scope, Statement, print_statement, same_bytes};
 use salt_cont::limited_are_few;
 use salt_events::read_definition;
 use salt_model::{Event, UnitKind};
 use salt_program::Catalogue;
 use salt_scheduler::line_refusal;
 use salt_schema::{Schema, SchemaErr};
-use salt_tokens::same_bytes;
 use salt_values::{Cont, Id, Name, Row, is_same_id};
 use sqlite_items::Items;
 use std::alloc::{AllocError, Global};

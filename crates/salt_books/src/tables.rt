@@ -6,12 +6,11 @@ ghost use Rattle.std.specs.List.{list_any};
 ghost use Rattle.std.specs.Option.{option_copied, option_map_or};
 ghost use Rattle.std.specs.Prelude.{IfOk, OnOk, [], false, if◌then◌else◌, ◌++◌, ◌∷◌, ◌≡◌};
 
-use salt_ast::{ProgramDef, Statement, TableDef};
+use salt_ast::{ProgramDef, Statement, TableDef, same_bytes};
 use salt_cont::parts_of;
 use salt_eval::table_in;
 use salt_program::Catalogue;
 use salt_schema::Schema;
-use salt_tokens::same_bytes;
 use salt_values::Name;
 use std::alloc::{AllocError, Global};
 

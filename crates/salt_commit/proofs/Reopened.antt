@@ -20,8 +20,8 @@ use Rattle.salt_stands.specs.Coordinator.{Coordinator, coordinator_pair}
 use Rattle.salt_stands.specs.FirstOpening.{first_coordinator}
 use Rattle.salt_stands.specs.Pieces.{IsCoordinator, PartView, with_definition}
 use Rattle.salt_stands.specs.Stands.{logs_of}
-use Rattle.salt_tokens.specs.Scanning.{first_at, lex, quoted_at}
-use Rattle.salt_tokens.specs.Spelling.{keyword_of, sign_of}
+use Rattle.salt_ast.specs.Scanning.{first_at, lex, quoted_at}
+use Rattle.salt_ast.specs.TokenSpelling.{keyword_of, sign_of}
 use Rattle.salt_place.specs.declared.placement.PlaceKind.TheVariants.{Remainder}
 use Rattle.salt_place.specs.declared.placement.Shape.{Shape}
 use Rattle.std.proofs.Common.{IsTrue, List, Some, [], ap, false, refl, subst, sym, ℕ, ◌++◌, ◌≡◌, ◌∙◌, ◌∷◌}

@@ -12,7 +12,7 @@ use Rattle.salt_cont.specs.Moves.{LeadOn, parts_if_defined, parts_named}
 use Rattle.salt_model.specs.Words.{Every}
 use Rattle.salt_program.specs.Refusals.{fault_error, parts_in, program_refusal}
 use Rattle.salt_program.specs.declared.error.DefineErr.TheVariants as error
-use Rattle.salt_tokens.specs.Spelling.{same_bytes}
+use Rattle.salt_ast.specs.TokenSpelling.{same_bytes}
 use Rattle.salt_values.specs.declared.limits.TheConstants.{PROGRAMS_MOST}
 use Rattle.std.proofs.Common.{arith}
 use Rattle.std.specs.Bool.{then_some}

@@ -28,7 +28,7 @@ use Rattle.salt_stands.specs.OpenConts.{conts_of_move, go_to, is_accepted_before
 use Rattle.salt_stands.specs.Pieces.{PartView, with_decision}
 use Rattle.salt_stands.specs.Placed.{changes_at, is_of_part}
 use Rattle.salt_storage.specs.Storing.{IsSoundKept, IsSpelledDefinition, MayDecide, decided}
-use Rattle.salt_tokens.specs.Spelling.{same_bytes}
+use Rattle.salt_ast.specs.TokenSpelling.{same_bytes}
 use Rattle.law_types.specs.Typed.{AreChangesOf, FitsAt, IsContOf, IsProperTable, has_key}
 use Rattle.salt_values.specs.Id.{is_same_id}
 use Rattle.salt_values.specs.Value.{is_null}

@@ -5,7 +5,7 @@ use Rattle.salt_model.specs.Reaches.{reach, reach_in, table_from, table_in}
 use Rattle.salt_model.specs.declared.vars.Binding.{Binding}
 use Rattle.salt_schema.specs.Definitions.{is_named}
 use Rattle.salt_schema.specs.Schemas.{table_number}
-use Rattle.salt_tokens.specs.Spelling.{same_bytes}
+use Rattle.salt_ast.specs.TokenSpelling.{same_bytes}
 use Rattle.std.proofs.Common.{ap, arith, sym, ◌∙◌}
 use Rattle.std.specs.List.{position_from}
 use Rattle.std.specs.Prelude.{Bool, List, None, Option, Some, [], cond, false, option_and_then, option_map, refl, slice_get, suc, true, ℕ, ◌+◌, ◌∷◌, ◌≡◌, ◌-◌}

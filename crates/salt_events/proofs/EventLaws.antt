@@ -26,8 +26,8 @@ use Rattle.salt_model.specs.declared.events.Event.TheVariants as event
 use Rattle.salt_model.specs.declared.events.Event.{Event}
 use Rattle.salt_model.specs.declared.events.Why.TheVariants as why
 use Rattle.law_texts.specs.Arrow.{behind_arrow}
-use Rattle.salt_tokens.specs.Bytes.{is_digit}
-use Rattle.salt_tokens.specs.Pieces.{NotNext}
+use Rattle.salt_ast.specs.Bytes.{is_digit}
+use Rattle.salt_ast.specs.Pieces.{NotNext}
 use Rattle.salt_values.specs.declared.id.Id.{Id}
 use Rattle.std.proofs.Common.{IfSome, List, None, Option, Some, ap, codes, false, inl, inr, is_some, option_and_then, option_map, refl, subst, sym, true, ℕ, ◌++◌, ◌<◌, ◌^◌, ◌∙◌, ◌∷◌, ◌≡◌}
 use Rattle.std.specs.Bool.{then_some, ⊤}

@@ -18,8 +18,8 @@ use Rattle.salt_model.specs.declared.events.Event.TheVariants as event
 use Rattle.salt_model.specs.declared.events.Event.{Event}
 use Rattle.salt_model.specs.declared.events.Why.TheVariants as why
 use Rattle.salt_model.specs.declared.shown.Item.{Item}
-use Rattle.salt_tokens.specs.Bytes.{is_digit}
-use Rattle.salt_tokens.specs.Pieces.{EachPasses}
+use Rattle.salt_ast.specs.Bytes.{is_digit}
+use Rattle.salt_ast.specs.Pieces.{EachPasses}
 use Rattle.salt_values.specs.declared.id.Id.{Id}
 use Rattle.std.proofs.Common.{Bool, IfSome, List, None, Option, Some, [], ap, append_assoc, arith, codes, false, length, option_map, refl, subst, true, ℕ, ◌++◌, ◌<◌, ◌==◌, ◌∙◌, ◌∷◌, ◌≡◌}
 use Rattle.std.proofs.lemmas.Bool.Decides.{nat_tests}

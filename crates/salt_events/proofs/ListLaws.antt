@@ -10,8 +10,8 @@ use Rattle.salt_model.specs.Sized.{IsSized, IsSizedId, IsSizedOwner, IsSizedPair
 use Rattle.salt_model.specs.Words.{Every, is_empty}
 use Rattle.salt_model.specs.declared.events.Owner.TheVariants as owner
 use Rattle.salt_model.specs.declared.events.Owner.{Owner}
-use Rattle.salt_tokens.specs.Bytes.{is_digit}
-use Rattle.salt_tokens.specs.Pieces.{NotNext}
+use Rattle.salt_ast.specs.Bytes.{is_digit}
+use Rattle.salt_ast.specs.Pieces.{NotNext}
 use Rattle.salt_values.specs.declared.id.Id.{Id}
 use Rattle.std.proofs.Common.{Bool, IfSome, List, None, Option, Some, [], ap, append-nil, append_assoc, arith, codes, drop, false, get_or, if◌then◌else◌, length, nat_lt, option_and_then, refl, subst, suc, sym, take, take_all, true, zero, ℕ, ◌++◌, ◌-◌, ◌<◌, ◌==◌, ◌^◌, ◌∙◌, ◌∷◌, ◌≡◌, ◌≤◌}
 use Rattle.std.proofs.lemmas.Bool.Decides.{nat_tests}

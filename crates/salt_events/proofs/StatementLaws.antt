@@ -6,8 +6,8 @@ use Rattle.salt_ast.specs.declared.limit.LimitName.{LimitName}
 use Rattle.salt_ast.specs.declared.trees.Statement.{Statement}
 use Rattle.law_definitions.specs.Texts.{IsStatementText, statement_in}
 use Rattle.salt_parse.specs.Settling.{DeepStatement, ShallowStatement}
-use Rattle.salt_tokens.specs.Symbols.{Symbols}
-use Rattle.salt_tokens.specs.Spelling.{same_bytes}
+use Rattle.salt_ast.specs.Symbols.{Symbols}
+use Rattle.salt_ast.specs.TokenSpelling.{same_bytes}
 use Rattle.std.proofs.Common.{List, None, Option, Some, [], ap, arith, false, refl, subst, sym, true, true≢false, ℕ, ◌==◌, ◌∙◌, ◌∷◌, ◌≡◌}
 use Rattle.std.proofs.lemmas.Bool.Decides.{nat_tests}
 

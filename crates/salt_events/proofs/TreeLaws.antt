@@ -16,8 +16,8 @@ use Rattle.std.specs.Bool.{then_some}
 use Rattle.std.proofs.Common.{option_map}
 use Rattle.salt_model.specs.Kept.{Definition, OfProgram, OfTable}
 use Rattle.salt_parse.specs.Settling.{DeepProgram, DeepTable, ShallowProgram, ShallowTable}
-use Rattle.salt_tokens.specs.Spelling.{same_bytes}
-use Rattle.salt_tokens.specs.Symbols.{Symbols}
+use Rattle.salt_ast.specs.TokenSpelling.{same_bytes}
+use Rattle.salt_ast.specs.Symbols.{Symbols}
 use Rattle.std.proofs.Common.{Bool, List, None, Option, Some, false, refl, subst, sym, true, ℕ, ◌∙◌, ◌≡◌}
 
 module _ {T : Type 0} (limit_of : T → Option LimitName) (Deep Shallow : List ℕ → T → Type 0) (text_of : T → List ℕ)

@@ -16,7 +16,7 @@ use Rattle.salt_model.specs.declared.events.UnitKind.TheVariants as kind
 use Rattle.salt_model.specs.declared.events.UnitKind.{UnitKind}
 use Rattle.salt_model.specs.declared.events.Why.TheVariants as why
 use Rattle.law_texts.specs.Arrow.{behind_arrow}
-use Rattle.salt_tokens.specs.Spelling.{same_bytes}
+use Rattle.salt_ast.specs.TokenSpelling.{same_bytes}
 use Rattle.salt_values.specs.declared.id.Id.{Id}
 use Rattle.salt_values.specs.declared.value.Value.{Value}
 use Rattle.std.specs.Bool.{then_some}

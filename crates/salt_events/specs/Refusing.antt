@@ -7,7 +7,7 @@ use Rattle.salt_events.specs.Names.{name_at}
 use Rattle.salt_events.specs.Reading.{either, if_empty, number_in}
 use Rattle.salt_model.specs.declared.events.Refusal.TheVariants as refused
 use Rattle.salt_model.specs.declared.events.Refusal.{Refusal}
-use Rattle.salt_tokens.specs.Spelling.{same_bytes}
+use Rattle.salt_ast.specs.TokenSpelling.{same_bytes}
 use Rattle.salt_values.specs.declared.id.Id.{Id}
 use Rattle.salt_values.specs.declared.limits.TheConstants.{PARTS_MOST}
 use Rattle.std.specs.Bool.{then_some}

@@ -12,7 +12,7 @@ use crate::parts::{end, kind, whole_number};
 use crate::refusals::refusal;
 use crate::statements::{answer, before_arrow, behind_arrow, statement};
 use salt_model::{Event, Why};
-use salt_tokens::same_bytes;
+use salt_ast::same_bytes;
 use salt_values::Id;
 use sqlite_items::{Boxed, Items};
 use std::alloc::{AllocError, Global};

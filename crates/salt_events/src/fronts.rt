@@ -3,8 +3,8 @@
 ghost use Rattle.std.specs.Prelude.{◌≡◌, ◌≤◌, None, Some, MatchOption, IfSome, IfNone, drop, length, take};
 ghost use Rattle.std.specs.Str.Parse.{digits_value};
 ghost use Rattle.salt_events.specs.Fronts.{behind, behind_digits, digits_in, id_at, if_sized, number_at, numeral};
-ghost use Rattle.salt_tokens.specs.Bytes.{is_digit};
-ghost use Rattle.salt_tokens.specs.Pieces.{EachPasses};
+ghost use Rattle.salt_ast.specs.Bytes.{is_digit};
+ghost use Rattle.salt_ast.specs.Pieces.{EachPasses};
 
 use salt_values::Id;
 

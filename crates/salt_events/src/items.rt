@@ -11,7 +11,7 @@ use crate::values::value;
 use salt_model::{BaseAt, Family, Item, Lock, Mode, Owner};
 use salt_ranges::KeyRange;
 use salt_schema::Schema;
-use salt_tokens::same_bytes;
+use salt_ast::same_bytes;
 use salt_values::{Id, Key};
 use sqlite_items::Items;
 use std::alloc::{AllocError, Global};

@@ -7,7 +7,7 @@ use crate::fronts::{behind, id, number};
 use crate::names::name;
 use crate::values::row;
 use salt_model::{Cause, End, UnitKind};
-use salt_tokens::same_bytes;
+use salt_ast::same_bytes;
 use salt_values::{Name, Row};
 use sqlite_items::Items;
 use std::alloc::{AllocError, Global};

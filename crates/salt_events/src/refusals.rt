@@ -2,16 +2,15 @@
 
 ghost use Rattle.std.specs.Prelude.{◌≡◌, IfOk, is_some, option_map};
 ghost use Rattle.salt_ast.specs.Limits.{limit_word};
-ghost use Rattle.salt_tokens.specs.Spelling.{same_bytes};
+ghost use Rattle.salt_ast.specs.TokenSpelling.{same_bytes};
 ghost use Rattle.salt_model.specs.declared.events.Refusal.TheVariants as refused;
 ghost use Rattle.salt_events.specs.Refusing.{base_in, branch_in, branch_of, exists_in, id_in, limit_in, name_in, plain_refusal_in, refusal_in, unknown_in};
 
 use crate::fronts::{behind, id};
 use crate::names::name;
 use crate::parts::whole_number;
-use salt_ast::LimitName;
+use salt_ast::{LimitName, same_bytes};
 use salt_model::Refusal;
-use salt_tokens::same_bytes;
 use salt_values::limits::PARTS_MOST;
 use sqlite_items::Items;
 use std::alloc::{AllocError, Global};

@@ -6,7 +6,7 @@ use Rattle.salt_model.specs.Eval.{Visible, value_of}
 use Rattle.salt_model.specs.Statements.{set_field, with_sets}
 use Rattle.salt_model.specs.Words.{and_then}
 use Rattle.salt_model.specs.declared.events.Cause.{Cause}
-use Rattle.salt_tokens.specs.Spelling.{same_bytes}
+use Rattle.salt_ast.specs.TokenSpelling.{same_bytes}
 use Rattle.salt_values.specs.declared.value.Value.{Value}
 use Rattle.std.proofs.Common.{ap, arith, Bool, List, Ok, get_or, length, refl, slice_set, sym, take, ℕ, ◌++◌, ◌∷◌, ◌≡◌, ◌<◌}
 use Rattle.std.specs.Prelude.{Result, [], cond, false, suc, true, zero}

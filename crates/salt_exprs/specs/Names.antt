@@ -2,7 +2,7 @@
 use Rattle.salt_ast.specs.declared.trees.Field.{Field}
 use Rattle.salt_model.specs.Eval.{named_values, value_named}
 use Rattle.salt_model.specs.declared.vars.Binding.{Binding}
-use Rattle.salt_tokens.specs.Spelling.{same_bytes}
+use Rattle.salt_ast.specs.TokenSpelling.{same_bytes}
 use Rattle.salt_values.specs.declared.value.Value.{Value}
 use Rattle.std.specs.Prelude.{Bool, List, Option, option_and_then, slice_get, ℕ, ◌≡◌}
 

@@ -6,9 +6,8 @@ ghost use Rattle.std.specs.Option.{option_copied};
 ghost use Rattle.salt_model.specs.Eval.{value_named};
 ghost use Rattle.salt_exprs.specs.Names.{IsNumberOf, has_name, is_named};
 
-use salt_ast::Field;
+use salt_ast::{Field, same_bytes};
 use salt_model::Binding;
-use salt_tokens::same_bytes;
 use salt_values::{Name, Value};
 use sqlite_items::at;
 

@@ -1,8 +1,8 @@
 -- The tree that a text spells is that whose canonical text it is, or there is none.
 use Rattle.salt_ast.specs.Spelling.{Passes, Spells, by_parentheses, by_tree}
 use Rattle.salt_ast.specs.declared.limit.LimitName.{LimitName}
-use Rattle.salt_tokens.specs.Spelling.{same_bytes}
-use Rattle.salt_tokens.specs.Symbols.{Symbols, symbols_of}
+use Rattle.salt_ast.specs.TokenSpelling.{same_bytes}
+use Rattle.salt_ast.specs.Symbols.{Symbols, symbols_of}
 use Rattle.std.proofs.Common.{Bool, List, None, Option, [], ap, arith, eqb, false, refl, subst, sym, true, ℕ, ◌&&◌, ◌≡◌, ◌∙◌, ◌∷◌}
 use Rattle.std.proofs.lemmas.Bool.{eqb-true}
 

@@ -3,7 +3,7 @@
 ghost use Rattle.salt_ast.specs.ProgramTexts.{program_text};
 ghost use Rattle.salt_ast.specs.Texts.{table_text};
 ghost use Rattle.salt_found.specs.Definitions.{IsProgramIn, IsTableIn};
-ghost use Rattle.salt_tokens.specs.Spelling.{same_bytes};
+ghost use Rattle.salt_ast.specs.TokenSpelling.{same_bytes};
 ghost use Rattle.std.specs.Prelude.{IfOk, ◌≡◌};
 
 use salt_ast::{

@@ -1,6 +1,6 @@
 -- Expressions: what they give, with the first cause met from left to right.
 use Rattle.salt_values.specs.declared.limits.TheConstants.{TEXT_MOST}
-use Rattle.salt_tokens.specs.Spelling.{same_bytes}
+use Rattle.salt_ast.specs.TokenSpelling.{same_bytes}
 use Rattle.salt_ast.specs.declared.trees.Expr.{Binary', Column, Expr, IsNull', Lit, Not', Variable, end_of-Expr, more_of-Expr}
 use Rattle.salt_ast.specs.declared.trees.Field.{Field}
 use Rattle.salt_ast.specs.declared.trees.Op.TheVariants.{Add, And, AtLeast, AtMost, Equal, Greater, Join, Less, Mul, Or, Sub, Unequal}

@@ -5,7 +5,7 @@ use Rattle.salt_ast.specs.declared.lines.Line.{Line}
 use Rattle.salt_ast.specs.declared.lines.Line.TheVariants.{Nothing}
 use Rattle.salt_model.specs.Trace.{Asked, Rejected, Tree}
 use Rattle.salt_model.specs.declared.events.Refusal.TheVariants.{Byte, Limit, Long, Syntax}
-use Rattle.salt_tokens.specs.Bytes.{is_blank, is_printable}
+use Rattle.salt_ast.specs.Bytes.{is_blank, is_printable}
 use Rattle.salt_values.specs.declared.limits.TheConstants.{LINE_MOST}
 use Rattle.std.specs.List.{AllZip, list_all}
 use Rattle.std.specs.Prelude.{Bool, List, false, length, true, ℕ, ◌&&◌, ◌<◌, ◌==◌, ◌||◌, ◌∷◌, ◌≡◌, ◌≤◌}

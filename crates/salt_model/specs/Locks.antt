@@ -22,7 +22,7 @@ use Rattle.salt_model.specs.declared.locks.Mode.{Mode}
 use Rattle.salt_model.specs.declared.locks.Mode.TheVariants.{Read, Write}
 use Rattle.salt_model.specs.declared.locks.Reach.{Reach}
 use Rattle.salt_ranges.specs.Ranges.{all_keys, meets}
-use Rattle.salt_tokens.specs.Spelling.{same_bytes}
+use Rattle.salt_ast.specs.TokenSpelling.{same_bytes}
 use Rattle.salt_values.specs.Id.{has_id, in_order, is_same_id}
 use Rattle.salt_values.specs.declared.id.Id.{Id}
 use Rattle.std.specs.Bool.{then_some}

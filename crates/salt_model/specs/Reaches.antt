@@ -1,5 +1,5 @@
 -- What a statement reaches: one range of one table, or nothing.
-use Rattle.salt_tokens.specs.Spelling.{same_bytes}
+use Rattle.salt_ast.specs.TokenSpelling.{same_bytes}
 use Rattle.salt_ast.specs.declared.trees.Bound.TheVariants.{All, Between, Key}
 use Rattle.salt_ast.specs.declared.trees.Bound.{Bound}
 use Rattle.salt_ast.specs.declared.trees.Expr.{Expr}

@@ -1,5 +1,5 @@
 -- What a statement does, and statements one after another.
-use Rattle.salt_tokens.specs.Spelling.{same_bytes}
+use Rattle.salt_ast.specs.TokenSpelling.{same_bytes}
 use Rattle.salt_ast.specs.declared.trees.Bound.TheVariants.{All}
 use Rattle.salt_ast.specs.declared.trees.Expr.{Expr}
 use Rattle.salt_ast.specs.declared.trees.Field.{Field}

@@ -12,12 +12,12 @@ use Rattle.salt_parse.proofs.Mirror.{AgreesAll, AreKept, Marks, after_printable,
 use Rattle.salt_parse.proofs.Mirror.{note_note, noted}
 use Rattle.salt_parse.proofs.MirrorLists.{done, note_none}
 use Rattle.salt_parse.proofs.Trees.{TreeReader}
-use Rattle.salt_tokens.specs.Scanning.{◌>>=◌}
-use Rattle.salt_tokens.specs.Symbols.{Symbols, Symbol, key, sign}
-use Rattle.salt_tokens.specs.contracts.keyword.Keyword.{the_type as keywords}
-use Rattle.salt_tokens.specs.contracts.sign.Sign.{the_type as signs}
-use Rattle.salt_tokens.specs.declared.keyword.Keyword.{Keyword}
-use Rattle.salt_tokens.specs.declared.sign.Sign.{Sign}
+use Rattle.salt_ast.specs.Scanning.{◌>>=◌}
+use Rattle.salt_ast.specs.Symbols.{Symbols, Symbol, key, sign}
+use Rattle.salt_ast.specs.contracts.keyword.Keyword.{the_type as keywords}
+use Rattle.salt_ast.specs.contracts.sign.Sign.{the_type as signs}
+use Rattle.salt_ast.specs.declared.keyword.Keyword.{Keyword}
+use Rattle.salt_ast.specs.declared.sign.Sign.{Sign}
 
 -- ---- what is found
 

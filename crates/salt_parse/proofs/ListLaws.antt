@@ -6,9 +6,9 @@ use Rattle.salt_ast.specs.Statements.{FollowingBy, ListedBy}
 use Rattle.salt_parse.proofs.ExpressionLaws.{bind_is, either_is, some_is}
 use Rattle.salt_parse.proofs.StatementTrees.{ahead, following_of, listed_of}
 use Rattle.salt_parse.proofs.Trees.{TreeReader}
-use Rattle.salt_tokens.specs.Scanning.{◌>>=◌}
-use Rattle.salt_tokens.specs.Symbols.{Symbols, Symbol, sign}
-use Rattle.salt_tokens.specs.declared.sign.Sign.{Sign}
+use Rattle.salt_ast.specs.Scanning.{◌>>=◌}
+use Rattle.salt_ast.specs.Symbols.{Symbols, Symbol, sign}
+use Rattle.salt_ast.specs.declared.sign.Sign.{Sign}
 
 -- what is found is spelled by the symbols that were taken
 abbrev pub SoundFor : {A : Type 0} → (Symbols → A → Type 0) → TreeReader A → Type 0

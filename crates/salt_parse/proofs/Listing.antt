@@ -12,10 +12,10 @@ use Rattle.salt_parse.specs.Reading.{Read, Reader, after, either, is_same}
 use Rattle.salt_parse.specs.TableReading.{check_at, checks_at, field_at, field_comma, fields_at, further_column_at}
 use Rattle.salt_parse.specs.declared.error.ParseErr.{ParseErr}
 use Rattle.salt_parse.specs.declared.error.ParseErr.TheVariants.{Limit, Memory, Syntax}
-use Rattle.salt_tokens.specs.Scanning.{◌>>=◌}
-use Rattle.salt_tokens.specs.Symbols.{Symbols, Symbol, key, sign}
-use Rattle.salt_tokens.specs.declared.keyword.Keyword.TheVariants as word
-use Rattle.salt_tokens.specs.declared.sign.Sign.TheVariants as mark
+use Rattle.salt_ast.specs.Scanning.{◌>>=◌}
+use Rattle.salt_ast.specs.Symbols.{Symbols, Symbol, key, sign}
+use Rattle.salt_ast.specs.declared.keyword.Keyword.TheVariants as word
+use Rattle.salt_ast.specs.declared.sign.Sign.TheVariants as mark
 
 -- what stands behind a separator is shorter
 abbrev pub Shortens : (Symbols → Option Symbols) → Type 0

@@ -10,9 +10,9 @@ use Rattle.salt_parse.specs.declared.built.Built.{Built}
 use Rattle.salt_parse.specs.declared.error.ParseErr.{ParseErr}
 use Rattle.salt_parse.specs.declared.expr.Level.{Level}
 use Rattle.salt_parse.specs.declared.expr.Level.TheVariants as level
-use Rattle.salt_tokens.specs.Symbols.{Symbol, Symbols, int, key, name, sign, text}
-use Rattle.salt_tokens.specs.declared.keyword.Keyword.TheVariants as word
-use Rattle.salt_tokens.specs.declared.sign.Sign.TheVariants as mark
+use Rattle.salt_ast.specs.Symbols.{Symbol, Symbols, int, key, name, sign, text}
+use Rattle.salt_ast.specs.declared.keyword.Keyword.TheVariants as word
+use Rattle.salt_ast.specs.declared.sign.Sign.TheVariants as mark
 use Rattle.std.proofs.Common.{Err, Ok, Result, Some, [], false, is_none, refl, subst, sym, true, ℕ, ◌≡◌, ◌∙◌, ◌∷◌}
 use Rattle.std.specs.Bool.{then_some}
 

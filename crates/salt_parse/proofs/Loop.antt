@@ -13,11 +13,11 @@ use Rattle.salt_parse.specs.Reading.{of_level, tail_at, under_nots, within_at}
 use Rattle.salt_parse.specs.declared.built.Built.{Built}
 use Rattle.salt_parse.specs.declared.error.ParseErr.{ParseErr}
 use Rattle.salt_parse.specs.declared.error.ParseErr.TheVariants.{Limit, Memory, Syntax}
-use Rattle.salt_tokens.specs.Scanning.{◌>>=◌}
-use Rattle.salt_tokens.specs.Symbols.{Symbols, Symbol, key, sign}
-use Rattle.salt_tokens.specs.contracts.keyword.Keyword.{the_type as keywords}
-use Rattle.salt_tokens.specs.contracts.sign.Sign.{the_type as signs}
-use Rattle.salt_tokens.specs.declared.keyword.Keyword.TheVariants as word
+use Rattle.salt_ast.specs.Scanning.{◌>>=◌}
+use Rattle.salt_ast.specs.Symbols.{Symbols, Symbol, key, sign}
+use Rattle.salt_ast.specs.contracts.keyword.Keyword.{the_type as keywords}
+use Rattle.salt_ast.specs.contracts.sign.Sign.{the_type as signs}
+use Rattle.salt_ast.specs.declared.keyword.Keyword.TheVariants as word
 
 -- what was read, with what is still to be read, makes the whole
 pub record IsTail (level : ℕ) (operand : Reader BuiltTree) (left : BuiltTree) (p : Parsing) (total : Option (Read BuiltTree)) : Type 0 where

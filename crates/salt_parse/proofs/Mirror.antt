@@ -21,10 +21,10 @@ use Rattle.salt_parse.specs.Reading.{paren_at, product_at, second_at, sum_at, ta
 use Rattle.salt_parse.specs.Settling.{ArePrintable}
 use Rattle.salt_parse.proofs.Trees.{TreeReader, atom_of, colon_of, comparison_of, conjunction_of, expression_of, left_of, minus_of, negation_of}
 use Rattle.salt_parse.proofs.Trees.{is_of, nots_of, null_test_of, once_of, paren_of, product_of, second_of, sum_of, tail_of, tested_of, within_of}
-use Rattle.salt_tokens.specs.Scanning.{◌>>=◌}
-use Rattle.salt_tokens.specs.Symbols.{Symbols, Symbol, int, key, name, sign, text}
-use Rattle.salt_tokens.specs.declared.keyword.Keyword.TheVariants as word
-use Rattle.salt_tokens.specs.declared.sign.Sign.TheVariants as mark
+use Rattle.salt_ast.specs.Scanning.{◌>>=◌}
+use Rattle.salt_ast.specs.Symbols.{Symbols, Symbol, int, key, name, sign, text}
+use Rattle.salt_ast.specs.declared.keyword.Keyword.TheVariants as word
+use Rattle.salt_ast.specs.declared.sign.Sign.TheVariants as mark
 use Rattle.salt_values.specs.Text.{is_printable}
 
 -- ---- flags

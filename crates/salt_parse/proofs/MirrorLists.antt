@@ -16,9 +16,9 @@ use Rattle.salt_parse.specs.Settling.{ArePrintable}
 use Rattle.salt_parse.proofs.Mirror.{clear_before, note_note, noted, option_or_none, or_false}
 use Rattle.salt_parse.proofs.StatementTrees.{ahead, following_of, listed_of}
 use Rattle.salt_parse.proofs.Trees.{TreeReader}
-use Rattle.salt_tokens.specs.Scanning.{◌>>=◌}
-use Rattle.salt_tokens.specs.Symbols.{Symbols, Symbol, sign}
-use Rattle.salt_tokens.specs.declared.sign.Sign.TheVariants as mark
+use Rattle.salt_ast.specs.Scanning.{◌>>=◌}
+use Rattle.salt_ast.specs.Symbols.{Symbols, Symbol, sign}
+use Rattle.salt_ast.specs.declared.sign.Sign.TheVariants as mark
 
 pub note_none : (f : Flags) → note f None false ≡ f
 note_none f = λ i. record { over = option_or_none f.over i; deep = or_false f.deep i }

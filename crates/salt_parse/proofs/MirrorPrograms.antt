@@ -37,9 +37,9 @@ use Rattle.salt_parse.proofs.ProgramTrees.{base_of, block_of, body_of, branch_of
 use Rattle.salt_parse.proofs.ProgramTrees.{parameters_of, part_of, parts_of, program_of, rest_of, retried_of, statements_of, variables_of, way_of}
 use Rattle.salt_parse.proofs.StatementTrees.{field_of, name_of, statement_of}
 use Rattle.salt_parse.proofs.Trees.{TreeReader}
-use Rattle.salt_tokens.specs.Symbols.{int, key, name, sign, text}
-use Rattle.salt_tokens.specs.declared.keyword.Keyword.TheVariants as word
-use Rattle.salt_tokens.specs.declared.sign.Sign.TheVariants as mark
+use Rattle.salt_ast.specs.Symbols.{int, key, name, sign, text}
+use Rattle.salt_ast.specs.declared.keyword.Keyword.TheVariants as word
+use Rattle.salt_ast.specs.declared.sign.Sign.TheVariants as mark
 
 -- ---- what is passed
 

@@ -42,10 +42,10 @@ use Rattle.salt_parse.proofs.StatementTrees.{insert_of, into_of, largest_of, lea
 use Rattle.salt_parse.proofs.StatementTrees.{select_of, select_rows_of, set_of, sets_of, statement_of, table_of, total_of, update_of, value_of, values_of}
 use Rattle.salt_parse.proofs.StatementTrees.{what_of, where_of}
 use Rattle.salt_parse.proofs.Trees.{TreeReader, conjunction_of, expression_of, sum_of}
-use Rattle.salt_tokens.specs.Scanning.{◌>>=◌}
-use Rattle.salt_tokens.specs.Symbols.{Symbols, int, key, name, sign, text}
-use Rattle.salt_tokens.specs.declared.keyword.Keyword.TheVariants as word
-use Rattle.salt_tokens.specs.declared.sign.Sign.TheVariants as mark
+use Rattle.salt_ast.specs.Scanning.{◌>>=◌}
+use Rattle.salt_ast.specs.Symbols.{Symbols, int, key, name, sign, text}
+use Rattle.salt_ast.specs.declared.keyword.Keyword.TheVariants as word
+use Rattle.salt_ast.specs.declared.sign.Sign.TheVariants as mark
 
 -- ---- notes one after the other
 

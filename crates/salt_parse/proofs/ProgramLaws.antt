@@ -34,9 +34,9 @@ use Rattle.salt_parse.proofs.StatementSound.{comma_is, field_sound, name_sound, 
 use Rattle.salt_parse.proofs.StatementTrees.{field_of, name_of, statement_of}
 use Rattle.salt_parse.proofs.Trees.{TreeReader}
 use Rattle.salt_parse.proofs.Up.{Upwards, listed_up, statement_up}
-use Rattle.salt_tokens.specs.Symbols.{Symbols, int, key, name, sign}
-use Rattle.salt_tokens.specs.declared.keyword.Keyword.TheVariants as word
-use Rattle.salt_tokens.specs.declared.sign.Sign.TheVariants as mark
+use Rattle.salt_ast.specs.Symbols.{Symbols, int, key, name, sign}
+use Rattle.salt_ast.specs.declared.keyword.Keyword.TheVariants as word
+use Rattle.salt_ast.specs.declared.sign.Sign.TheVariants as mark
 
 -- ---- the grammar's forms, by what they are made of
 

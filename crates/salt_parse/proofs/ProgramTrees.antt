@@ -14,9 +14,9 @@ use Rattle.salt_parse.specs.Reading.{after}
 use Rattle.salt_parse.proofs.Combined.{before_of, behind_of, both_of, choice_of, made_of, nothing_of}
 use Rattle.salt_parse.proofs.StatementTrees.{field_of, listed_of, name_of, statement_of}
 use Rattle.salt_parse.proofs.Trees.{TreeReader}
-use Rattle.salt_tokens.specs.Symbols.{int, key, sign}
-use Rattle.salt_tokens.specs.declared.keyword.Keyword.TheVariants as word
-use Rattle.salt_tokens.specs.declared.sign.Sign.TheVariants as mark
+use Rattle.salt_ast.specs.Symbols.{int, key, sign}
+use Rattle.salt_ast.specs.declared.keyword.Keyword.TheVariants as word
+use Rattle.salt_ast.specs.declared.sign.Sign.TheVariants as mark
 use Rattle.std.proofs.Common.{List, None, Option, Some, [], ℕ, ◌∷◌}
 
 abbrev pub listed_fields_of : TreeReader (List Field)

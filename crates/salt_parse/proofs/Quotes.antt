@@ -1,6 +1,6 @@
 -- A text without a quote stands for itself.
 use Rattle.salt_ast.specs.Words.{is_no_quote}
-use Rattle.salt_tokens.specs.Symbols.{undoubled}
+use Rattle.salt_ast.specs.Symbols.{undoubled}
 use Rattle.std.proofs.Common.{Bool, List, [], ap, cond, eqb, false, not, refl, true, ℕ, ◌&&◌, ◌≡◌, ◌∷◌}
 use Rattle.std.specs.List.{list_all}
 

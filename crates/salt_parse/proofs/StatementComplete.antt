@@ -20,9 +20,9 @@ use Rattle.salt_parse.proofs.ExpressionLaws.{expression_begins, expression_compl
 use Rattle.salt_parse.proofs.StatementTrees.{and_of, check_of, column_of, field_of, listed_of, name_of, scan_of, set_of, sets_of, statement_of}
 use Rattle.salt_parse.proofs.StatementTrees.{table_of, value_of, values_of, what_of}
 use Rattle.salt_parse.proofs.Trees.{TreeReader}
-use Rattle.salt_tokens.specs.Symbols.{Symbols, key, name, sign}
-use Rattle.salt_tokens.specs.declared.keyword.Keyword.TheVariants as word
-use Rattle.salt_tokens.specs.declared.sign.Sign.TheVariants as mark
+use Rattle.salt_ast.specs.Symbols.{Symbols, key, name, sign}
+use Rattle.salt_ast.specs.declared.keyword.Keyword.TheVariants as word
+use Rattle.salt_ast.specs.declared.sign.Sign.TheVariants as mark
 
 -- what may follow a statement: no operation, no `where` and no comma
 pub record Ends (rest : Symbols) : Type 0 where

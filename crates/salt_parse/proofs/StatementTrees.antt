@@ -15,10 +15,10 @@ use Rattle.salt_parse.specs.Reading.{after, either}
 use Rattle.salt_parse.specs.StatementReading.{is_into}
 use Rattle.salt_parse.specs.TableReading.{field_comma, kind_at}
 use Rattle.salt_parse.proofs.Trees.{TreeReader, conjunction_of, expression_of, sum_of}
-use Rattle.salt_tokens.specs.Scanning.{◌>>=◌}
-use Rattle.salt_tokens.specs.Symbols.{Symbols, key, name, sign}
-use Rattle.salt_tokens.specs.declared.keyword.Keyword.TheVariants as word
-use Rattle.salt_tokens.specs.declared.sign.Sign.TheVariants as mark
+use Rattle.salt_ast.specs.Scanning.{◌>>=◌}
+use Rattle.salt_ast.specs.Symbols.{Symbols, key, name, sign}
+use Rattle.salt_ast.specs.declared.keyword.Keyword.TheVariants as word
+use Rattle.salt_ast.specs.declared.sign.Sign.TheVariants as mark
 use Rattle.std.proofs.Common.{List, None, Option, Some, [], cond, false, length, suc, true, zero, ℕ, ◌++◌, ◌∷◌}
 
 abbrev pub name_of : TreeReader (List ℕ)

@@ -3,10 +3,10 @@ use Rattle.salt_ast.specs.Operators.{operator}
 use Rattle.salt_ast.specs.Trees.{letters, negation, null_test, number, operation}
 use Rattle.salt_ast.specs.declared.trees.Expr.{Column, Expr, Variable}
 use Rattle.salt_parse.specs.Reading.{after, at_operator, either, of_level}
-use Rattle.salt_tokens.specs.Scanning.{◌>>=◌}
-use Rattle.salt_tokens.specs.Symbols.{Symbols, int, key, name, sign, text}
-use Rattle.salt_tokens.specs.declared.keyword.Keyword.TheVariants as word
-use Rattle.salt_tokens.specs.declared.sign.Sign.TheVariants as mark
+use Rattle.salt_ast.specs.Scanning.{◌>>=◌}
+use Rattle.salt_ast.specs.Symbols.{Symbols, int, key, name, sign, text}
+use Rattle.salt_ast.specs.declared.keyword.Keyword.TheVariants as word
+use Rattle.salt_ast.specs.declared.sign.Sign.TheVariants as mark
 use Rattle.std.proofs.Common.{Bool, None, Option, Some, [], false, length, pos, suc, true, zero, ℕ, ◌∷◌}
 use Rattle.std.specs.Prelude.{neg_ℤ}
 

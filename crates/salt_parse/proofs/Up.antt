@@ -8,8 +8,8 @@ use Rattle.salt_ast.specs.Tables as table
 use Rattle.salt_ast.specs.Tables.{IsCheck, IsTable}
 use Rattle.salt_ast.specs.declared.trees.Expr.{Expr}
 use Rattle.salt_ast.specs.declared.trees.Scan.{Scan}
-use Rattle.salt_tokens.specs.Symbols.{Symbols}
-use Rattle.salt_tokens.specs.declared.sign.Sign.{Sign}
+use Rattle.salt_ast.specs.Symbols.{Symbols}
+use Rattle.salt_ast.specs.declared.sign.Sign.{Sign}
 
 -- each row of the first spells the same by the second
 abbrev pub Upwards : {A : Type 0} → (Symbols → A → Type 0) → (Symbols → A → Type 0) → Type 0

@@ -40,16 +40,16 @@ use Rattle.salt_parse.proofs.Trees.{within_of}
 use Rattle.salt_parse.proofs.ProgramLaws.{program_complete, program_sound, program_up}
 use Rattle.salt_parse.proofs.ProgramTrees.{program_of}
 use Rattle.salt_parse.proofs.Up.{statement_up, table_up, within_up}
-use Rattle.salt_tokens.specs.Bytes.{is_printable}
-use Rattle.salt_tokens.specs.Pieces.{IsToken, Lexes, Piece, EachPasses, blank, ended as no_more, quoted, token}
-use Rattle.salt_tokens.specs.Spelling.{keyword_of, sign_of}
-use Rattle.salt_tokens.specs.Symbols.{HasSymbols, Symbols, symbols_of, sign_symbol, symbol_by, text, word_symbol}
-use Rattle.salt_tokens.specs.declared.error.ScanErr.{ScanErr}
-use Rattle.salt_tokens.specs.declared.error.ScanErr.TheVariants as scan
-use Rattle.salt_tokens.specs.declared.keyword.Keyword.{Keyword}
-use Rattle.salt_tokens.specs.declared.sign.Sign.{Sign}
-use Rattle.salt_tokens.specs.declared.token.TokenKind.{TokenKind}
-use Rattle.salt_tokens.specs.declared.token.TokenKind.TheVariants as kind
+use Rattle.salt_ast.specs.Bytes.{is_printable}
+use Rattle.salt_ast.specs.Pieces.{IsToken, Lexes, Piece, EachPasses, blank, ended as no_more, quoted, token}
+use Rattle.salt_ast.specs.TokenSpelling.{keyword_of, sign_of}
+use Rattle.salt_ast.specs.Symbols.{HasSymbols, Symbols, symbols_of, sign_symbol, symbol_by, text, word_symbol}
+use Rattle.salt_ast.specs.declared.error.ScanErr.{ScanErr}
+use Rattle.salt_ast.specs.declared.error.ScanErr.TheVariants as scan
+use Rattle.salt_ast.specs.declared.keyword.Keyword.{Keyword}
+use Rattle.salt_ast.specs.declared.sign.Sign.{Sign}
+use Rattle.salt_ast.specs.declared.token.TokenKind.{TokenKind}
+use Rattle.salt_ast.specs.declared.token.TokenKind.TheVariants as kind
 
 -- ---- texts of tokens are printable
 

@@ -1,8 +1,8 @@
 -- What the answers of the reader mean.
 use Rattle.salt_parse.specs.declared.error.ParseErr.{ParseErr}
 use Rattle.salt_parse.specs.declared.error.ParseErr.TheVariants.{Limit, Memory, Syntax}
-use Rattle.salt_tokens.specs.declared.error.ScanErr.{ScanErr}
-use Rattle.salt_tokens.specs.declared.error.ScanErr.TheVariants as scan
+use Rattle.salt_ast.specs.declared.error.ScanErr.{ScanErr}
+use Rattle.salt_ast.specs.declared.error.ScanErr.TheVariants as scan
 use Rattle.std.specs.Prelude.{None, Option, ◌≡◌}
 
 abbrev pub parse_err : ScanErr → ParseErr

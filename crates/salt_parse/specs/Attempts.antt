@@ -8,7 +8,7 @@ use Rattle.salt_parse.specs.Flags.{Flags, no_flags}
 use Rattle.salt_parse.specs.Reading.{Read, Reader}
 use Rattle.salt_parse.specs.declared.error.ParseErr.{ParseErr}
 use Rattle.salt_parse.specs.declared.error.ParseErr.TheVariants.{Limit, Memory, Syntax}
-use Rattle.salt_tokens.specs.Symbols.{Symbols}
+use Rattle.salt_ast.specs.Symbols.{Symbols}
 use Rattle.std.specs.Prelude.{Err, None, Ok, Option, Result, Some, [], ℕ, ◌-◌, ◌∷◌, ◌≡◌}
 
 -- the first limit that was passed, the depth last

@@ -1,7 +1,7 @@
 -- Readers one behind the other.
 use Rattle.salt_parse.specs.Reading.{Reader, after, either}
-use Rattle.salt_tokens.specs.Scanning.{◌>>=◌}
-use Rattle.salt_tokens.specs.Symbols.{Symbol}
+use Rattle.salt_ast.specs.Scanning.{◌>>=◌}
+use Rattle.salt_ast.specs.Symbols.{Symbol}
 use Rattle.std.specs.Prelude.{Some}
 
 -- nothing is read

@@ -2,9 +2,9 @@
 use Rattle.salt_ast.specs.declared.limit.LimitName.{LimitName}
 use Rattle.salt_parse.specs.Flags.{Flags, note}
 use Rattle.salt_parse.specs.Reading.{Read, Reader, after, either}
-use Rattle.salt_tokens.specs.Scanning.{◌>>=◌}
-use Rattle.salt_tokens.specs.Symbols.{Symbols, sign}
-use Rattle.salt_tokens.specs.declared.sign.Sign.TheVariants as mark
+use Rattle.salt_ast.specs.Scanning.{◌>>=◌}
+use Rattle.salt_ast.specs.Symbols.{Symbols, sign}
+use Rattle.salt_ast.specs.declared.sign.Sign.TheVariants as mark
 use Rattle.std.specs.Bool.{then_some}
 use Rattle.std.specs.Prelude.{List, None, Option, Some, [], false, length, nat_le, suc, zero, ℕ, ◌++◌, ◌∷◌}
 

@@ -1,7 +1,7 @@
 -- Literals and names that stand alone.
-use Rattle.salt_tokens.specs.Symbols.{Symbols, int, key, name, sign, text}
-use Rattle.salt_tokens.specs.declared.keyword.Keyword.TheVariants as word
-use Rattle.salt_tokens.specs.declared.sign.Sign.TheVariants as mark
+use Rattle.salt_ast.specs.Symbols.{Symbols, int, key, name, sign, text}
+use Rattle.salt_ast.specs.declared.keyword.Keyword.TheVariants as word
+use Rattle.salt_ast.specs.declared.sign.Sign.TheVariants as mark
 use Rattle.std.specs.Prelude.{Bool, [], false, true, ◌∷◌}
 
 -- no operation and no test for NULL comes next

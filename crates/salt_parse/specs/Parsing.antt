@@ -4,7 +4,7 @@ use Rattle.salt_parse.specs.Flags.{BuiltTree, Flags, built_of}
 use Rattle.salt_parse.specs.Reading.{Reader}
 use Rattle.salt_parse.specs.declared.built.Built.{Built}
 use Rattle.salt_parse.specs.declared.error.ParseErr.{ParseErr}
-use Rattle.salt_tokens.specs.Symbols.{Symbols}
+use Rattle.salt_ast.specs.Symbols.{Symbols}
 use Rattle.std.specs.Prelude.{Err, Ok, Option, Result, Some, ◌≡◌}
 
 -- what was passed so far, and the symbols that are left

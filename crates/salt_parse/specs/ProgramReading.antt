@@ -16,9 +16,9 @@ use Rattle.salt_parse.specs.Lists.{comma, counted_at, listed_at}
 use Rattle.salt_parse.specs.Reading.{Reader, after, within_at}
 use Rattle.salt_parse.specs.StatementReading.{name_at, statement_at}
 use Rattle.salt_parse.specs.TableReading.{field_at}
-use Rattle.salt_tokens.specs.Symbols.{int, key, sign}
-use Rattle.salt_tokens.specs.declared.keyword.Keyword.TheVariants as word
-use Rattle.salt_tokens.specs.declared.sign.Sign.TheVariants as mark
+use Rattle.salt_ast.specs.Symbols.{int, key, sign}
+use Rattle.salt_ast.specs.declared.keyword.Keyword.TheVariants as word
+use Rattle.salt_ast.specs.declared.sign.Sign.TheVariants as mark
 use Rattle.salt_values.specs.declared.limits.TheConstants.{PARAMETERS_MOST, PARTS_MOST, RETRY_MOST, STATEMENTS_MOST, VARIABLES_MOST}
 use Rattle.std.specs.Prelude.{List, None, Option, Some, [], false, if◌then◌else◌, nat_lt, ℕ, ◌∷◌, ◌||◌}
 

@@ -11,12 +11,12 @@ use Rattle.salt_ast.specs.Limits.{above}
 use Rattle.salt_parse.specs.Flags.{BuiltTree, Flags, around_flags, around_tree, int_tree, join_flags, join_tree, kept, kept_name, leaf, note, signed, text_tree}
 use Rattle.salt_parse.specs.declared.expr.Level.{Level}
 use Rattle.salt_parse.specs.declared.expr.Level.TheVariants as level
-use Rattle.salt_tokens.specs.Scanning.{◌>>=◌}
-use Rattle.salt_tokens.specs.Symbols.{Symbols, Symbol, int, key, name, sign, text}
-use Rattle.salt_tokens.specs.contracts.keyword.Keyword.{the_type as keywords}
-use Rattle.salt_tokens.specs.contracts.sign.Sign.{the_type as signs}
-use Rattle.salt_tokens.specs.declared.keyword.Keyword.TheVariants as word
-use Rattle.salt_tokens.specs.declared.sign.Sign.TheVariants as mark
+use Rattle.salt_ast.specs.Scanning.{◌>>=◌}
+use Rattle.salt_ast.specs.Symbols.{Symbols, Symbol, int, key, name, sign, text}
+use Rattle.salt_ast.specs.contracts.keyword.Keyword.{the_type as keywords}
+use Rattle.salt_ast.specs.contracts.sign.Sign.{the_type as signs}
+use Rattle.salt_ast.specs.declared.keyword.Keyword.TheVariants as word
+use Rattle.salt_ast.specs.declared.sign.Sign.TheVariants as mark
 use Rattle.salt_values.specs.declared.limits.TheConstants.{TEXT_MOST}
 use Rattle.std.specs.Prelude.{Bool, List, None, Option, Some, [], false, if◌then◌else◌, is_none, length, suc, true, zero, ℕ, ℤ, ◌==◌, ◌∷◌}
 

@@ -10,7 +10,7 @@ use Rattle.salt_ast.specs.declared.trees.Statement.{Statement}
 use Rattle.salt_ast.specs.declared.trees.TableDef.{TableDef}
 use Rattle.salt_parse.specs.declared.error.ParseErr.{ParseErr}
 use Rattle.salt_parse.specs.declared.error.ParseErr.TheVariants.{Limit, Memory, Syntax}
-use Rattle.salt_tokens.specs.Symbols.{Symbols, Symbol, int, key, name, sign, text}
+use Rattle.salt_ast.specs.Symbols.{Symbols, Symbol, int, key, name, sign, text}
 use Rattle.salt_values.specs.Text.{is_printable}
 use Rattle.salt_values.specs.declared.limits.TheConstants.{DEPTH_MOST, PARENTHESES_MOST}
 use Rattle.std.specs.List.{list_all}

@@ -11,10 +11,10 @@ use Rattle.salt_ast.specs.declared.trees.What.TheVariants as what
 use Rattle.salt_parse.specs.Flags.{BuiltTree, kept_name}
 use Rattle.salt_parse.specs.Lists.{comma, listed_at}
 use Rattle.salt_parse.specs.Reading.{Reader, after, conjunction_at, either, expression_at, is_same, name_flags, sum_at, within_at}
-use Rattle.salt_tokens.specs.Scanning.{◌>>=◌}
-use Rattle.salt_tokens.specs.Symbols.{Symbols, key, name, sign}
-use Rattle.salt_tokens.specs.declared.keyword.Keyword.TheVariants as word
-use Rattle.salt_tokens.specs.declared.sign.Sign.TheVariants as mark
+use Rattle.salt_ast.specs.Scanning.{◌>>=◌}
+use Rattle.salt_ast.specs.Symbols.{Symbols, key, name, sign}
+use Rattle.salt_ast.specs.declared.keyword.Keyword.TheVariants as word
+use Rattle.salt_ast.specs.declared.sign.Sign.TheVariants as mark
 use Rattle.std.specs.Prelude.{Bool, List, None, Option, Some, false, if◌then◌else◌, ℕ, ◌∷◌}
 
 -- a name, while no limit is passed

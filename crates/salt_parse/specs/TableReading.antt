@@ -9,10 +9,10 @@ use Rattle.salt_parse.specs.Flags.{BuiltTree}
 use Rattle.salt_parse.specs.Lists.{comma, counted, counted_at, following_at, with_front}
 use Rattle.salt_parse.specs.Reading.{Reader, after, either, expression_at, within_at}
 use Rattle.salt_parse.specs.StatementReading.{name_at, tree_at}
-use Rattle.salt_tokens.specs.Scanning.{◌>>=◌}
-use Rattle.salt_tokens.specs.Symbols.{Symbols, key, sign}
-use Rattle.salt_tokens.specs.declared.keyword.Keyword.TheVariants as word
-use Rattle.salt_tokens.specs.declared.sign.Sign.TheVariants as mark
+use Rattle.salt_ast.specs.Scanning.{◌>>=◌}
+use Rattle.salt_ast.specs.Symbols.{Symbols, key, sign}
+use Rattle.salt_ast.specs.declared.keyword.Keyword.TheVariants as word
+use Rattle.salt_ast.specs.declared.sign.Sign.TheVariants as mark
 use Rattle.salt_values.specs.declared.limits.TheConstants.{CHECKS_MOST, COLUMNS_MOST}
 use Rattle.std.specs.Prelude.{List, None, Option, Some, [], false, length, true, ℕ, ◌∷◌}
 

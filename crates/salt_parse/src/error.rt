@@ -4,8 +4,7 @@ ghost use Rattle.std.specs.Prelude.{◌≡◌};
 ghost use Rattle.salt_parse.specs.Answers.{parse_err};
 ghost use Rattle.salt_parse.specs.declared.error.ParseErr.TheVariants.{Memory};
 
-use salt_ast::LimitName;
-use salt_tokens::ScanErr;
+use salt_ast::{LimitName, ScanErr};
 use std::alloc::{AllocError, AllocFailed};
 
 /// Why a text gives no tree.

@@ -4,12 +4,12 @@ ghost use Rattle.std.specs.Prelude.{◌≡◌, ◌<◌, OnOk, length, true};
 ghost use Rattle.salt_parse.specs.Lone.{ends_operand, is_lone};
 ghost use Rattle.salt_parse.specs.Parsing.{ReadsBuilt};
 ghost use Rattle.salt_parse.specs.Reading.{atom_at, colon_at, comparison_at, level_at, level_precedence, minus_at, negation_at, operand_at, paren_at, within_at};
-ghost use Rattle.salt_tokens.specs.Symbols.{symbols_in};
+ghost use Rattle.salt_ast.specs.Symbols.{symbols_in};
 
 use crate::built::{Built, Unary};
 use crate::error::ParseErr;
 use crate::parser::{Parser, signed};
-use salt_tokens::{Keyword, Lexeme, Sign};
+use salt_ast::{Keyword, Lexeme, Sign};
 
 /// Operations that group to the left, from those that bind loosest.
 #[derive(Clone, Copy)]

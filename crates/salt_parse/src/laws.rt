@@ -6,9 +6,9 @@ ghost use Rattle.salt_ast.specs.declared.programs.ProgramDef.{ProgramDef};
 ghost use Rattle.salt_ast.specs.declared.trees.Statement.{Statement};
 ghost use Rattle.salt_ast.specs.declared.trees.TableDef.{TableDef};
 ghost use Rattle.salt_parse.specs.Settling.{ArePrintable, DeepProgram, DeepStatement, DeepTable, ShallowProgram, ShallowStatement, ShallowTable};
-ghost use Rattle.salt_tokens.specs.Symbols.{HasSymbols, Symbols};
+ghost use Rattle.salt_ast.specs.Symbols.{HasSymbols, Symbols};
 
-use salt_tokens::{one_row, quoted_text};
+use salt_ast::{one_row, quoted_text};
 
 /// The texts among the tokens of bytes have printable bytes alone.
 pub fn printable_symbols()

@@ -10,8 +10,7 @@ use crate::built::{Built, Unary};
 use crate::error::ParseErr;
 use crate::parser::Parser;
 use crate::sealed::Sealed;
-use salt_ast::Expr;
-use salt_tokens::Keyword;
+use salt_ast::{Expr, Keyword};
 use salt_values::Value;
 
 impl<'a> Parser<'a> {

@@ -8,14 +8,13 @@ ghost use Rattle.salt_parse.specs.Flags.{around_flags, around_tree, built_of, cl
 ghost use Rattle.salt_parse.specs.Flags.{int_tree, join_tree, kept_name, signed, stand_in, text_tree};
 ghost use Rattle.salt_parse.specs.Parsing.{ReadsBuilt};
 ghost use Rattle.salt_parse.specs.Reading.{column_at, int_at, name_flags, named_at, text_at};
-ghost use Rattle.salt_tokens.specs.Symbols.{symbols_in, undoubled};
+ghost use Rattle.salt_ast.specs.Symbols.{symbols_in, undoubled};
 
 use crate::built::{Built, Unary};
 use crate::error::ParseErr;
 use crate::quoted::{content, content_len};
 use crate::sealed::Sealed;
-use salt_ast::{Expr, LimitName, Op};
-use salt_tokens::Lexeme;
+use salt_ast::{Expr, Lexeme, LimitName, Op};
 use salt_values::limits::{DEPTH_MOST, NAME_MOST, TEXT_MOST};
 use salt_values::{Name, Text, TextErr, Value};
 use sqlite_items::{Boxed, Items};
@@ -119,7 +118,7 @@ pub struct Parser<'a> {
 impl<'a> Model for Parser<'a> {
     ghost use Rattle.salt_parse.specs.Flags.{flags};
     ghost use Rattle.salt_parse.specs.Parsing.{Parsing};
-    ghost use Rattle.salt_tokens.specs.Symbols.{symbols_in};
+    ghost use Rattle.salt_ast.specs.Symbols.{symbols_in};
 
     ghost Value = { Parsing };
 

@@ -3,7 +3,7 @@
 ghost use Rattle.std.specs.Prelude.{◌≡◌, ◌<◌, [], ◌∷◌, IfOk, MatchOption, length};
 ghost use Rattle.std.specs.List.{list_all};
 ghost use Rattle.salt_ast.specs.Words.{is_no_quote};
-ghost use Rattle.salt_tokens.specs.Symbols.{undoubled};
+ghost use Rattle.salt_ast.specs.Symbols.{undoubled};
 
 use std::alloc::{AllocError, Global};
 

@@ -13,14 +13,13 @@ ghost use Rattle.salt_parse.specs.Attempts.{IsAnswer, answer_for, attempt_of, to
 ghost use Rattle.salt_parse.specs.Flags.{no_flags};
 ghost use Rattle.salt_parse.specs.Settling.{ArePrintable, DeepProgram, DeepStatement, DeepTable, Settles, ShallowProgram, ShallowStatement, ShallowTable};
 ghost use Rattle.salt_parse.specs.declared.error.ParseErr.TheVariants.{Limit, Syntax};
-ghost use Rattle.salt_tokens.specs.Symbols.{symbols_in};
+ghost use Rattle.salt_ast.specs.Symbols.{symbols_in};
 
 use crate::error::ParseErr;
 use crate::laws::printable_symbols;
 use crate::parser::Parser;
 use crate::tree::Tree;
-use salt_ast::{LimitName, ProgramDef, Statement, TableDef};
-use salt_tokens::{Lexeme, lexemes, one_row};
+use salt_ast::{Lexeme, LimitName, ProgramDef, Statement, TableDef, lexemes, one_row};
 use salt_values::limits::{DEPTH_MOST, PARENTHESES_MOST};
 use std::alloc::Global;
 

@@ -10,8 +10,7 @@ use crate::error::ParseErr;
 use crate::expr::Level;
 use crate::parser::Parser;
 use crate::sealed::Sealed;
-use salt_ast::{Bound, Expr, Scan};
-use salt_tokens::{Keyword, Lexeme, Sign};
+use salt_ast::{Bound, Expr, Keyword, Lexeme, Scan, Sign};
 use salt_values::Name;
 
 impl<'a> Parser<'a> {

@@ -9,8 +9,7 @@ ghost use Rattle.salt_parse.specs.StatementReading.{select_at, select_into_at, s
 use crate::error::ParseErr;
 use crate::parser::Parser;
 use crate::sealed::Sealed;
-use salt_ast::{Expr, Exprs, Set, Sets, Statement, What};
-use salt_tokens::{Keyword, Lexeme, Sign};
+use salt_ast::{Expr, Exprs, Keyword, Lexeme, Set, Sets, Sign, Statement, What};
 use salt_values::{Name, Names};
 use sqlite_items::Items;
 

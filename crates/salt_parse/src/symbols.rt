@@ -5,12 +5,11 @@ ghost use Rattle.salt_ast.specs.Operators.{precedence};
 ghost use Rattle.salt_parse.specs.Flags.{BuiltTree, Flags};
 ghost use Rattle.salt_parse.specs.Parsing.{LeavesSymbols};
 ghost use Rattle.salt_parse.specs.Reading.{Reader, after, next_operator, nots_at, under_nots};
-ghost use Rattle.salt_tokens.specs.Symbols.{key, sign};
+ghost use Rattle.salt_ast.specs.Symbols.{key, sign};
 
 use crate::error::ParseErr;
 use crate::parser::Parser;
-use salt_ast::Op;
-use salt_tokens::{Keyword, Lexeme, Sign};
+use salt_ast::{Keyword, Lexeme, Op, Sign};
 
 /// How tightly an operation binds.
 fn precedence(op: Op) -> u8

@@ -8,8 +8,7 @@ ghost use Rattle.salt_parse.specs.TableReading.{check_at, checks_at, definition_
 use crate::error::ParseErr;
 use crate::parser::Parser;
 use crate::sealed::Sealed;
-use salt_ast::{ColType, Expr, Exprs, Field, Fields, LimitName, TableDef};
-use salt_tokens::{Keyword, Lexeme, Sign};
+use salt_ast::{ColType, Expr, Exprs, Field, Fields, Keyword, Lexeme, LimitName, Sign, TableDef};
 use salt_values::limits::{CHECKS_MOST, COLUMNS_MOST};
 use sqlite_items::Items;
 

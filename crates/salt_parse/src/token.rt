@@ -3,11 +3,11 @@
 ghost use Rattle.std.specs.Prelude.{◌≡◌, ◌≢◌, Err, IfOk, List, length};
 ghost use Rattle.salt_ast.specs.declared.limit.LimitName.{LimitName};
 ghost use Rattle.salt_parse.specs.declared.error.ParseErr.TheVariants.{Limit, Syntax};
-ghost use Rattle.salt_tokens.specs.Pieces.{Lexes, Piece};
-ghost use Rattle.salt_tokens.specs.Spans.{AreInOrder, pieces};
+ghost use Rattle.salt_ast.specs.Pieces.{Lexes, Piece};
+ghost use Rattle.salt_ast.specs.Spans.{AreInOrder, pieces};
 
 use crate::error::ParseErr;
-use salt_tokens::{Tokens, scan};
+use salt_ast::{Tokens, scan};
 use std::alloc::Global;
 
 /// Each token of the bytes, by its kind and its place.

@@ -5,7 +5,7 @@ use Rattle.salt_ast.specs.Words.{is_among}
 use Rattle.salt_ast.specs.declared.programs.ProgramDef.{ProgramDef}
 use Rattle.salt_ast.specs.declared.trees.Field.{Field}
 use Rattle.salt_schema.specs.Definitions.{definition_named, is_named, number_named}
-use Rattle.salt_tokens.specs.Spelling.{same_bytes}
+use Rattle.salt_ast.specs.TokenSpelling.{same_bytes}
 use Rattle.salt_values.specs.declared.value.Value.{Value}
 use Rattle.std.proofs.Common.{Bool, List, None, Some, [], ap, cond, false, is_some, length, refl, suc, sym, true, ℕ, ◌+◌, ◌++◌, ◌&&◌, ◌||◌, ◌∙◌, ◌∷◌, ◌≡◌, ◌≢◌}
 use Rattle.std.proofs.lemmas.List.{map-append}

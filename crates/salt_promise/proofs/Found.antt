@@ -35,10 +35,10 @@ use Rattle.salt_stands.specs.CoordinatorLog.{Told}
 use Rattle.salt_stands.specs.Fitting.{definitions_reading, is_refused}
 use Rattle.salt_stands.specs.LogDevices.{IsStoreLog}
 use Rattle.salt_stands.specs.Stands.{logs_of}
-use Rattle.salt_tokens.specs.Pieces.{Lexes, Piece, blank, ended, token}
-use Rattle.salt_tokens.specs.Spelling.{keyword_of, sign_of}
-use Rattle.salt_tokens.specs.declared.sign.Sign.TheVariants as mark
-use Rattle.salt_tokens.specs.declared.token.TokenKind.TheVariants as kind
+use Rattle.salt_ast.specs.Pieces.{Lexes, Piece, blank, ended, token}
+use Rattle.salt_ast.specs.TokenSpelling.{keyword_of, sign_of}
+use Rattle.salt_ast.specs.declared.sign.Sign.TheVariants as mark
+use Rattle.salt_ast.specs.declared.token.TokenKind.TheVariants as kind
 use Rattle.std.proofs.Common.{ap, arith, inl, inr, sym, ◌∙◌}
 use Rattle.std.specs.Option.{ok_or}
 use Rattle.std.specs.Prelude.{List, None, Ok, Option, Result, Some, [], codes, false, not, option_map, refl, true, ℕ, ◌++◌, ◌∷◌, ◌≡◌, option_and_then}

@@ -35,10 +35,10 @@ use Rattle.salt_promise.specs.declared.command.Command.TheVariants.{Script}
 use Rattle.salt_promise.specs.declared.status.Status.TheVariants.{DiskFault}
 use Rattle.salt_stands.specs.CoordinatorLog as coordinator_log
 use Rattle.salt_stands.specs.LogDevices.{IsStoreLog}
-use Rattle.salt_tokens.specs.Pieces.{Lexes, Piece, blank as space, ended, token}
-use Rattle.salt_tokens.specs.Spelling.{keyword_of, sign_of}
-use Rattle.salt_tokens.specs.declared.sign.Sign.TheVariants as mark
-use Rattle.salt_tokens.specs.declared.token.TokenKind.TheVariants as kind
+use Rattle.salt_ast.specs.Pieces.{Lexes, Piece, blank as space, ended, token}
+use Rattle.salt_ast.specs.TokenSpelling.{keyword_of, sign_of}
+use Rattle.salt_ast.specs.declared.sign.Sign.TheVariants as mark
+use Rattle.salt_ast.specs.declared.token.TokenKind.TheVariants as kind
 use Rattle.salt_values.specs.declared.id.Id.{Id}
 use Rattle.std.proofs.Common.{None, arith, false, inl, inr, ◌∙◌}
 use Rattle.std.specs.Prelude.{IfSome, List, Option, Some, [], codes, refl, suc, zero, ℕ, ⊤, ◌++◌, ◌<◌, ◌∷◌, ◌≡◌, ◌⊎◌}

@@ -2,7 +2,7 @@
 use Rattle.salt_ast.specs.Judgement.{doubled_name}
 use Rattle.salt_ast.specs.Words.{is_among}
 use Rattle.salt_schema.specs.Definitions.{AreDistinct, is_named, number_named}
-use Rattle.salt_tokens.specs.Spelling.{same_bytes}
+use Rattle.salt_ast.specs.TokenSpelling.{same_bytes}
 use Rattle.std.proofs.Common.{Bool, List, None, Option, Some, [], ap, arith, cond, false, map, refl, subst, sym, true, ℕ, ◌+◌, ◌++◌, ◌||◌, ◌==◌, ◌∙◌, ◌∷◌, ◌≡◌, ◌<◌, drop, drop-cons, get_or, length, slice_get, suc, take, zero}
 use Rattle.std.proofs.lemmas.List.{map-append, take_more}
 use Rattle.std.proofs.lemmas.Bool.Decides.{nat_tests}

@@ -2,7 +2,7 @@
 use Rattle.salt_ast.specs.Judgement.{field_named, field_names, unknown_name}
 use Rattle.salt_ast.specs.Words.{is_among}
 use Rattle.salt_ast.specs.declared.trees.Field.{Field}
-use Rattle.salt_tokens.specs.Spelling.{same_bytes}
+use Rattle.salt_ast.specs.TokenSpelling.{same_bytes}
 use Rattle.std.proofs.Common.{Bool, List, None, Some, [], cond, false, is_some, refl, true, ℕ, ◌++◌, ◌||◌, ◌∷◌, ◌≡◌}
 
 is_among-field_named : (fs : List Field) (n : List ℕ) → is_among n (field_names fs) ≡ is_some (field_named fs n)

@@ -1,6 +1,6 @@
 -- The first of the definitions, where it has a name.
 use Rattle.salt_schema.specs.Definitions.{definition_named, is_named, number_named}
-use Rattle.salt_tokens.specs.Spelling.{same_bytes}
+use Rattle.salt_ast.specs.TokenSpelling.{same_bytes}
 use Rattle.std.proofs.Common.{List, Some, [], ap, arith, cond, find, length, true, ℕ, ◌+◌, ◌<◌, ◌∙◌, ◌∷◌, ◌≡◌}
 use Rattle.std.specs.List.{position_from}
 use Rattle.std.specs.Prelude.{slice_get}

@@ -2,7 +2,7 @@
 use Rattle.indexmap.specs.IndexMap.{insert_entry}
 use Rattle.salt_schema.proofs.Distinct.{doubled_name-push}
 use Rattle.salt_schema.specs.Definitions.{AreDistinct, AreKeyed, definition_named, is_named, number_named}
-use Rattle.salt_tokens.specs.Spelling.{same_bytes}
+use Rattle.salt_ast.specs.TokenSpelling.{same_bytes}
 use Rattle.std.proofs.Common.{Bool, List, None, Some, [], ap, cond, false, map, nat_eq, position, refl, true, ℕ, ◌+◌, ◌++◌, ◌∙◌, ◌∷◌, ◌≡◌}
 use Rattle.std.proofs.lemmas.List.{map-append}
 use Rattle.std.proofs.lemmas.Iterator.Adapters.{position_from-zero}

@@ -3,7 +3,7 @@ use Rattle.salt_ast.specs.Judgement.{columns_of, is_table}
 use Rattle.salt_ast.specs.declared.trees.TableDef.{TableDef}
 use Rattle.salt_schema.specs.Definitions.{is_named}
 use Rattle.salt_schema.specs.Schemas.{table_named, table_number}
-use Rattle.salt_tokens.specs.Spelling.{same_bytes}
+use Rattle.salt_ast.specs.TokenSpelling.{same_bytes}
 use Rattle.std.proofs.Common.{Bool, List, None, Option, Some, [], ap, cond, false, refl, true, ℕ, ◌+◌, ◌∷◌, ◌≡◌}
 use Rattle.std.specs.List.{position_from}
 

@@ -1,6 +1,6 @@
 -- Definitions by their names and numbers.
 use Rattle.salt_ast.specs.Judgement.{doubled_name}
-use Rattle.salt_tokens.specs.Spelling.{same_bytes}
+use Rattle.salt_ast.specs.TokenSpelling.{same_bytes}
 use Rattle.std.specs.List.{position_from}
 use Rattle.std.specs.Prelude.{Bool, List, None, Option, [], find, map, ℕ, ◌∷◌, ◌≡◌}
 

@@ -4,12 +4,11 @@ ghost use Rattle.std.specs.Prelude.{◌≡◌, ◌||◌, [], map};
 ghost use Rattle.std.specs.Option.{option_copied, option_or};
 ghost use Rattle.salt_ast.specs.Judgement.{doubled_name, field_named, unknown_in_expr, unknown_name};
 ghost use Rattle.salt_ast.specs.Words.{first_in, is_among};
-ghost use Rattle.salt_tokens.specs.Spelling.{same_bytes};
+ghost use Rattle.salt_ast.specs.TokenSpelling.{same_bytes};
 ghost use Rattle.salt_schema.specs.Names.{variables};
 
 use crate::named::Named;
-use salt_ast::{Expr, Field, Scope};
-use salt_tokens::same_bytes;
+use salt_ast::{Expr, Field, Scope, same_bytes};
 use salt_values::Name;
 
 /// The parameters and variables that expressions may name.

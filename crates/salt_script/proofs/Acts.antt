@@ -21,9 +21,9 @@ use Rattle.salt_script.specs.Answers.{GivesOrLimit}
 use Rattle.salt_script.specs.Forms.{a_call, a_statement, a_word, act_begins, alone}
 use Rattle.salt_script.specs.Literals.{args_at}
 use Rattle.salt_script.specs.Spelled.{DeepAct, ShallowAct, act_limit, call_at, call_passed}
-use Rattle.salt_tokens.specs.Symbols.{Symbols, key, name, sign}
-use Rattle.salt_tokens.specs.declared.keyword.Keyword.TheVariants as word
-use Rattle.salt_tokens.specs.declared.sign.Sign.TheVariants as mark
+use Rattle.salt_ast.specs.Symbols.{Symbols, key, name, sign}
+use Rattle.salt_ast.specs.declared.keyword.Keyword.TheVariants as word
+use Rattle.salt_ast.specs.declared.sign.Sign.TheVariants as mark
 use Rattle.salt_values.specs.declared.value.Value.{Value}
 
 or_none : (o : Option LimitName) → option_or o None ≡ o

@@ -15,8 +15,8 @@ use Rattle.salt_parse.specs.declared.error.ParseErr.{ParseErr}
 use Rattle.salt_script.specs.Answers.{GivesOrLimit}
 use Rattle.salt_script.specs.Literals.{args_at, at_item, behind_item, items_at}
 use Rattle.salt_script.specs.Spelled.{call_at, call_passed}
-use Rattle.salt_tokens.specs.Symbols.{Symbols, int, name, sign, text}
-use Rattle.salt_tokens.specs.declared.sign.Sign.TheVariants as mark
+use Rattle.salt_ast.specs.Symbols.{Symbols, int, name, sign, text}
+use Rattle.salt_ast.specs.declared.sign.Sign.TheVariants as mark
 use Rattle.salt_values.specs.declared.value.Value.{Value}
 
 -- the parenthesis that ends a call

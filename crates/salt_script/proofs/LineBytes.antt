@@ -2,12 +2,12 @@
 use Rattle.salt_ast.specs.Spelling.{IsLineWithinLimits, SpellsLine}
 use Rattle.salt_ast.specs.declared.lines.Line.{Line}
 use Rattle.salt_model.specs.Lines.{is_line_byte}
-use Rattle.salt_tokens.specs.Bytes.{is_blank, is_digit, is_letter, is_printable, is_word}
-use Rattle.salt_tokens.specs.Pieces.{IsToken, Lexes, Piece, EachPasses, blank, doubled, ended as no_more, token}
-use Rattle.salt_tokens.specs.Spelling.{sign_spelling}
-use Rattle.salt_tokens.specs.declared.sign.Sign.{Sign}
-use Rattle.salt_tokens.specs.declared.token.TokenKind.{TokenKind}
-use Rattle.salt_tokens.specs.declared.token.TokenKind.TheVariants as kind
+use Rattle.salt_ast.specs.Bytes.{is_blank, is_digit, is_letter, is_printable, is_word}
+use Rattle.salt_ast.specs.Pieces.{IsToken, Lexes, Piece, EachPasses, blank, doubled, ended as no_more, token}
+use Rattle.salt_ast.specs.TokenSpelling.{sign_spelling}
+use Rattle.salt_ast.specs.declared.sign.Sign.{Sign}
+use Rattle.salt_ast.specs.declared.token.TokenKind.{TokenKind}
+use Rattle.salt_ast.specs.declared.token.TokenKind.TheVariants as kind
 use Rattle.std.proofs.Common.{Bool, List, [], arith, cond, eqb, false, refl, rules, true, ℕ, ◌++◌, ◌≡◌, ◌∙◌, ◌∷◌}
 use Rattle.std.proofs.lemmas.Bool.Decides.{nat_tests}
 use Rattle.std.proofs.lemmas.List.Folds.{list_all-append}

@@ -4,7 +4,7 @@ use Rattle.std.proofs.lemmas.Bool.Decides.{nat_tests}
 use Rattle.std.proofs.lemmas.Slice.Eq.{bytes_eq-Decides}
 use Rattle.std.specs.Option.{option_or}
 use Rattle.salt_model.specs.Words.{is_empty}
-use Rattle.salt_tokens.specs.declared.lexeme.Lexeme.{Lexeme}
+use Rattle.salt_ast.specs.declared.lexeme.Lexeme.{Lexeme}
 use Rattle.std.specs.Prelude.{Err, Ok, Result, false, if◌then◌else◌, option_map, true, ◌==◌}
 use Rattle.std.specs.Str.{bytes_eq}
 use Rattle.salt_ast.specs.Limits.{height_passed, table_limit}
@@ -35,9 +35,9 @@ use Rattle.salt_script.specs.Spelled.{DeepAct, DeepLine, ShallowAct, ShallowLine
 use Rattle.salt_script.specs.declared.pairs.Armed.{Armed}
 use Rattle.salt_script.specs.declared.pairs.Armed.TheVariants.{Stops, Twists}
 use Rattle.salt_values.specs.declared.limits.TheConstants.{SESSION_MOST}
-use Rattle.salt_tokens.specs.Symbols.{Symbol, Symbols, int, key, name, sign, symbols_in}
-use Rattle.salt_tokens.specs.declared.keyword.Keyword.TheVariants as word
-use Rattle.salt_tokens.specs.declared.sign.Sign.TheVariants as mark
+use Rattle.salt_ast.specs.Symbols.{Symbol, Symbols, int, key, name, sign, symbols_in}
+use Rattle.salt_ast.specs.declared.keyword.Keyword.TheVariants as word
+use Rattle.salt_ast.specs.declared.sign.Sign.TheVariants as mark
 
 abbrev pub IsLineSettled : Symbols → Result Line ParseErr → Type 0
 IsLineSettled ts r = Settles line_limit ShallowLine DeepLine ts r

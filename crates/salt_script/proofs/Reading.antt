@@ -6,8 +6,8 @@ use Rattle.salt_script.specs.Answers.{FailsToRead, GivesOrLimit}
 use Rattle.salt_script.specs.Literals.{at_item, behind_item, closed_at, comma_at, ended_at, items_at, literal_at, pair_at, pairs_at}
 use Rattle.salt_parse.specs.declared.error.ParseErr.{ParseErr}
 use Rattle.salt_parse.specs.declared.error.ParseErr.TheVariants.{Limit, Memory, Syntax}
-use Rattle.salt_tokens.specs.Symbols.{Symbols, int, sign, text}
-use Rattle.salt_tokens.specs.declared.sign.Sign.TheVariants as mark
+use Rattle.salt_ast.specs.Symbols.{Symbols, int, sign, text}
+use Rattle.salt_ast.specs.declared.sign.Sign.TheVariants as mark
 use Rattle.salt_values.specs.declared.value.Value.{Value}
 
 -- these items before those that are read behind them

@@ -19,7 +19,7 @@ use Rattle.salt_script.specs.Forms.{ActBegins, LineStart, a_call, a_program, a_s
 use Rattle.salt_script.specs.Forms.{no_line, pairs as begins_pairs, showing_bases, showing_locks}
 use Rattle.salt_script.specs.Literals.{pairs_at}
 use Rattle.salt_script.specs.Spelled.{DeepAct, DeepLine, call_at, line_arming as armed_line}
-use Rattle.salt_tokens.specs.Symbols.{Symbols}
+use Rattle.salt_ast.specs.Symbols.{Symbols}
 use Rattle.salt_values.specs.declared.value.Value.{Value}
 
 some_is : {A : Type 0} (x y : A) → ◌≡◌ {A = Option A} (Some x) (Some y) → x ≡ y

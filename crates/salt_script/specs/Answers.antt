@@ -7,7 +7,7 @@ use Rattle.salt_model.specs.declared.events.Refusal.{Refusal}
 use Rattle.salt_model.specs.declared.events.Refusal.TheVariants as refused
 use Rattle.salt_script.specs.declared.error.ReadErr.{ReadErr}
 use Rattle.salt_script.specs.declared.error.ReadErr.TheVariants as read_is
-use Rattle.salt_tokens.specs.Symbols.{Symbols}
+use Rattle.salt_ast.specs.Symbols.{Symbols}
 use Rattle.salt_values.specs.declared.value.Value.{Value}
 use Rattle.std.specs.Prelude.{Bool, Err, None, Ok, Option, Result, Some, false, true, ⊤, ◌≡◌}
 

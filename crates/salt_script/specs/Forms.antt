@@ -9,10 +9,10 @@ use Rattle.salt_script.specs.declared.form.Form.{Form}
 use Rattle.salt_script.specs.declared.form.Form.TheVariants as form_is
 use Rattle.salt_script.specs.declared.pairs.Armed.{Armed}
 use Rattle.salt_script.specs.declared.pairs.Armed.TheVariants as armed
-use Rattle.salt_tokens.specs.Symbols.{Symbols, int, key, name, sign, symbols_in}
-use Rattle.salt_tokens.specs.declared.keyword.Keyword.{Keyword}
-use Rattle.salt_tokens.specs.declared.keyword.Keyword.TheVariants as word
-use Rattle.salt_tokens.specs.declared.sign.Sign.TheVariants as mark
+use Rattle.salt_ast.specs.Symbols.{Symbols, int, key, name, sign, symbols_in}
+use Rattle.salt_ast.specs.declared.keyword.Keyword.{Keyword}
+use Rattle.salt_ast.specs.declared.keyword.Keyword.TheVariants as word
+use Rattle.salt_ast.specs.declared.sign.Sign.TheVariants as mark
 use Rattle.std.specs.Prelude.{Err, List, Ok, Result, [], codes, if◌then◌else◌, ℕ, ◌∷◌}
 use Rattle.std.specs.Str.{bytes_eq}
 

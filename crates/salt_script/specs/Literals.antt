@@ -9,8 +9,8 @@ use Rattle.salt_script.specs.declared.args.Args.{Args}
 use Rattle.salt_script.specs.declared.pairs.Armed.{Armed}
 use Rattle.salt_script.specs.declared.pairs.Armed.TheVariants.{Stops, Twists}
 use Rattle.salt_script.specs.declared.pairs.Arming.{Arming}
-use Rattle.salt_tokens.specs.Symbols.{Symbols, int, sign, symbols_in, text}
-use Rattle.salt_tokens.specs.declared.sign.Sign.TheVariants as mark
+use Rattle.salt_ast.specs.Symbols.{Symbols, int, sign, symbols_in, text}
+use Rattle.salt_ast.specs.declared.sign.Sign.TheVariants as mark
 use Rattle.salt_values.specs.declared.limits.TheConstants.{PAIRS_MOST}
 use Rattle.salt_values.specs.declared.value.Value.{Value}
 use Rattle.salt_values.specs.declared.value.Value.TheVariants as value

@@ -11,8 +11,8 @@ use Rattle.salt_ast.specs.declared.lines.Line.TheVariants.{Crash, Net}
 use Rattle.salt_script.specs.Literals.{args_at}
 use Rattle.salt_script.specs.declared.pairs.Armed.{Armed}
 use Rattle.salt_script.specs.declared.pairs.Armed.TheVariants.{Stops, Twists}
-use Rattle.salt_tokens.specs.Symbols.{Symbols, name, sign}
-use Rattle.salt_tokens.specs.declared.sign.Sign.TheVariants as mark
+use Rattle.salt_ast.specs.Symbols.{Symbols, name, sign}
+use Rattle.salt_ast.specs.declared.sign.Sign.TheVariants as mark
 use Rattle.salt_values.specs.declared.limits.TheConstants.{DEPTH_MOST, PARENTHESES_MOST}
 use Rattle.salt_values.specs.declared.value.Value.{Value}
 use Rattle.std.specs.Option.{option_or}

@@ -8,13 +8,12 @@ ghost use Rattle.salt_parse.specs.Settling.{ArePrintable, Settles};
 ghost use Rattle.salt_script.specs.Answers.{GivesOrLimit};
 ghost use Rattle.salt_script.specs.Forms.{a_call, act_begins, alone};
 ghost use Rattle.salt_script.specs.Spelled.{DeepAct, ShallowAct, act_limit, call_at, call_passed};
-ghost use Rattle.salt_tokens.specs.Symbols.{Symbols, symbols_in};
+ghost use Rattle.salt_ast.specs.Symbols.{Symbols, symbols_in};
 
 use crate::args::call_args;
 use crate::form::{ActForm, act_form};
-use salt_ast::{Act, LimitName};
+use salt_ast::{Act, Lexeme, LimitName, Sign};
 use salt_parse::{ParseErr, statement_in};
-use salt_tokens::{Lexeme, Sign};
 use salt_values::limits::NAME_MOST;
 use salt_values::{Name, Row};
 use sqlite_items::Items;

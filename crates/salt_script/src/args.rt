@@ -7,14 +7,13 @@ ghost use Rattle.salt_ast.specs.Words.{first_in};
 ghost use Rattle.salt_script.specs.Answers.{FailsToRead, GivesLiteral, GivesOrLimit};
 ghost use Rattle.salt_parse.specs.Settling.{ArePrintable};
 ghost use Rattle.salt_script.specs.Literals.{HoldsArgs, IsTaken, IsValueOf, args_at, at_item, by_sign, closed_at, comma_at, items_at, literal_at};
-ghost use Rattle.salt_tokens.specs.Symbols.{symbols_in, undoubled};
+ghost use Rattle.salt_ast.specs.Symbols.{symbols_in, undoubled};
 ghost use Rattle.salt_values.specs.Text.{is_printable};
 ghost use Rattle.salt_values.specs.declared.value.Value.TheVariants as value;
 ghost use Rattle.salt_values.specs.declared.value.Value.{Value};
 
-use salt_ast::LimitName;
+use salt_ast::{Lexeme, LimitName, Sign};
 use salt_parse::{ParseErr, content, content_len};
-use salt_tokens::{Lexeme, Sign};
 use salt_values::limits::TEXT_MOST;
 use salt_values::{Row, Text, TextErr, Value};
 use sqlite_items::Items;

@@ -2,9 +2,9 @@
 
 ghost use Rattle.std.specs.Prelude.{◌≡◌};
 ghost use Rattle.salt_script.specs.Forms.{act_begins, act_begun_by, begun_by, go_begins, line_begins, name_begins, show_begins};
-ghost use Rattle.salt_tokens.specs.Symbols.{symbols_in};
+ghost use Rattle.salt_ast.specs.Symbols.{symbols_in};
 
-use salt_tokens::{Keyword, Lexeme, Sign};
+use salt_ast::{Keyword, Lexeme, Sign};
 use salt_values::Id;
 
 /// What a line is, by its first tokens.

@@ -4,7 +4,7 @@ ghost use Rattle.std.specs.Prelude.{◌≡◌, List, ℕ};
 ghost use Rattle.salt_ast.specs.Spelling.{SpellsLine};
 ghost use Rattle.salt_ast.specs.declared.lines.Line.{Line};
 
-use salt_tokens::one_row;
+use salt_ast::one_row;
 
 /// No bytes spell two lines.
 pub fn one_line()

@@ -4,11 +4,10 @@ ghost use Rattle.std.specs.Prelude.{◌≡◌, ◌<◌, ◌++◌, ◌∷◌, IfN
 ghost use Rattle.salt_script.specs.Answers.{GivesOrLimit};
 ghost use Rattle.salt_script.specs.Literals.{HoldsPairs, IsPairTaken, ended_at, pair_at, pair_passed, pairs_at, pairs_passed};
 ghost use Rattle.salt_ast.specs.ProgramLimits.{stop_passed, twist_passed};
-ghost use Rattle.salt_tokens.specs.Symbols.{symbols_in};
+ghost use Rattle.salt_ast.specs.Symbols.{symbols_in};
 
-use salt_ast::{LimitName, Pairs};
+use salt_ast::{Lexeme, LimitName, Pairs};
 use salt_parse::ParseErr;
-use salt_tokens::Lexeme;
 use salt_values::limits::{CRASH_MOST, PAIRS_MOST, PICK_MOST, TURN_MOST, TWIST_MOST};
 use sqlite_items::Items;
 use std::alloc::{AllocError, Global};

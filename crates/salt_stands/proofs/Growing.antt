@@ -5,7 +5,7 @@ use Rattle.salt_ast.specs.declared.trees.TableDef.{TableDef}
 use Rattle.salt_stands.specs.Fitting.{definitions_reading, is_cont_of, is_key_of, is_row_of, programs_defined, tables_defined}
 use Rattle.salt_model.specs.Kept.{Definition, program_of_definition, table_of_definition}
 use Rattle.salt_stands.specs.Pieces.{StaysFitting}
-use Rattle.salt_tokens.specs.Spelling.{same_bytes}
+use Rattle.salt_ast.specs.TokenSpelling.{same_bytes}
 use Rattle.salt_values.specs.declared.cont.Cont.{Cont}
 use Rattle.salt_values.specs.declared.value.Value.{Value}
 use Rattle.std.proofs.Common.{Bool, List, None, Option, Some, [], ap, arith, false, length, length-append, refl, suc, true, zero, ℕ, ◌++◌, ◌≡◌, ◌∙◌, ◌∷◌}

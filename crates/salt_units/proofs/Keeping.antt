@@ -23,7 +23,7 @@ use Rattle.salt_model.specs.declared.events.Cause.TheVariants as cause
 use Rattle.salt_model.specs.declared.events.Cause.{Cause}
 use Rattle.salt_model.specs.declared.locks.Reach.{Reach}
 use Rattle.salt_model.specs.declared.vars.Binding.{Binding}
-use Rattle.salt_tokens.specs.Spelling.{same_bytes}
+use Rattle.salt_ast.specs.TokenSpelling.{same_bytes}
 use Rattle.salt_units.specs.Acting.{leaves_keys}
 use Rattle.salt_units.specs.Edited.{HasItsKey}
 use Rattle.salt_values.specs.declared.change.Change.{Change}

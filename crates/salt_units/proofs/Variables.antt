@@ -14,7 +14,7 @@ use Rattle.salt_model.specs.declared.events.Answer.TheVariants.{Count, Failed, H
 use Rattle.salt_model.specs.declared.events.Cause.TheVariants as cause
 use Rattle.salt_model.specs.declared.events.Cause.{Cause}
 use Rattle.salt_model.specs.declared.vars.Binding.{Binding}
-use Rattle.salt_tokens.specs.Spelling.{same_bytes}
+use Rattle.salt_ast.specs.TokenSpelling.{same_bytes}
 use Rattle.salt_units.specs.Acting.{stored_by, vars_with}
 use Rattle.salt_values.specs.declared.value.Value.{Value}
 use Rattle.std.proofs.Common.{ap, arith, ◌<◌}

@@ -6,9 +6,8 @@ ghost use Rattle.salt_exprs.specs.Names.{is_named};
 ghost use Rattle.salt_model.specs.Statements.{set_var};
 ghost use Rattle.salt_units.specs.Acting.{stored_by, stored_in, vars_with};
 
-use salt_ast::Statement;
+use salt_ast::{Statement, same_bytes};
 use salt_model::{Answer, Binding, Vars};
-use salt_tokens::same_bytes;
 use salt_values::{Name, TryCopy};
 use sqlite_items::Items;
 use std::alloc::{AllocError, Global};

@@ -5,9 +5,8 @@ ghost use Rattle.salt_units.specs.Acting.{leaves_keys};
 ghost use Rattle.std.specs.List.{list_all};
 ghost use Rattle.std.specs.Prelude.{not, ◌≡◌};
 
-use salt_ast::{Field, Set, Statement};
+use salt_ast::{Field, Set, Statement, same_bytes};
 use salt_schema::{Schema, columns_of};
-use salt_tokens::same_bytes;
 use salt_values::Name;
 
 fn is_key(columns: &[Field], name: &Name) -> bool

@@ -1,7 +1,7 @@
 use Rattle.std.proofs.Common.{Err, ap, false, sym, true, ◌++◌, ◌∙◌, ◌≡◌}
 use Rattle.salt_ast.specs.Texts.{table_text}
 use Rattle.salt_events.proofs.TreeLaws.{OfTables, table_passed, table_told, table_unspelled}
-use Rattle.salt_tokens.specs.Spelling.{same_bytes}
+use Rattle.salt_ast.specs.TokenSpelling.{same_bytes}
 use Rattle.salt_events.proofs.definitions.table.Goals as goal
 
 pub returns-then-not-same_bytes : goal.returns-then-not-same_bytes

@@ -2,7 +2,7 @@ use Rattle.std.proofs.Common.{Err, ap, sym, ◌++◌, ◌∙◌, ◌≡◌}
 use Rattle.salt_ast.specs.Texts.{statement_text}
 use Rattle.salt_events.proofs.PartLaws.{same_back}
 use Rattle.salt_events.proofs.StatementLaws.{Below, differs, found, not_same, passed, unspelled}
-use Rattle.salt_tokens.specs.Spelling.{same_bytes}
+use Rattle.salt_ast.specs.TokenSpelling.{same_bytes}
 use Rattle.salt_events.proofs.statements.statement.Goals as goal
 
 pub returns-then-not-same_bytes : goal.returns-then-not-same_bytes

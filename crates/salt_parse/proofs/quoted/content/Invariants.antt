@@ -1,5 +1,5 @@
 use Rattle.std.proofs.Common.{◌≡◌, ◌++◌, length}
-use Rattle.salt_tokens.specs.Symbols.{undoubled}
+use Rattle.salt_ast.specs.Symbols.{undoubled}
 use Rattle.salt_parse.proofs.quoted.content.Given as goal
 
 abbrev pub invariant-loop-byte : goal.invariant-loop-byte

@@ -1,4 +1,4 @@
-use Rattle.salt_tokens.specs.Symbols.{symbols_in}
+use Rattle.salt_ast.specs.Symbols.{symbols_in}
 use Rattle.salt_parse.proofs.Whole.{statement_settles}
 use Rattle.salt_parse.proofs.read.statement_in.Goals as goal
 

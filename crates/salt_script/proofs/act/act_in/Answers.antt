@@ -2,7 +2,7 @@ use Rattle.std.proofs.Common.{subst, sym}
 use Rattle.std.specs.Prelude.{Err, Ok}
 use Rattle.salt_script.proofs.Acts.{IsSettled, statement_settles, word_settles}
 use Rattle.salt_script.proofs.act.act_in.Goals as goal
-use Rattle.salt_tokens.specs.Symbols.{symbols_in}
+use Rattle.salt_ast.specs.Symbols.{symbols_in}
 
 pub returns-in-Begin : goal.returns-in-Begin
 returns-in-Begin c = subst (IsSettled (symbols_in c.args.tokens.now)) (sym c.alone.ensures) (word_settles _ _ _ c.in-Begin.ensures)

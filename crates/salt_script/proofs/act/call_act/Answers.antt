@@ -4,7 +4,7 @@ use Rattle.salt_script.proofs.Acts.{call_settles}
 use Rattle.salt_script.proofs.act.call_act.Goals as goal
 use Rattle.salt_script.specs.Answers.{GivesOrLimit}
 use Rattle.salt_script.specs.Spelled.{call_at, call_passed}
-use Rattle.salt_tokens.specs.Symbols.{symbols_in}
+use Rattle.salt_ast.specs.Symbols.{symbols_in}
 use Rattle.std.proofs.Common.{subst}
 
 pub returns-in-Ok : goal.returns-in-Ok

@@ -6,7 +6,7 @@ use Rattle.salt_script.proofs.Reading.{comma_read, fails_whole, front_more, lite
 use Rattle.salt_script.proofs.args.items.Goals as goal
 use Rattle.salt_script.specs.Answers.{GivesOrLimit}
 use Rattle.salt_script.specs.Literals.{HoldsArgs, at_item, behind_item, closed_at, items_at, literal_at}
-use Rattle.salt_tokens.specs.Symbols.{symbols_in}
+use Rattle.salt_ast.specs.Symbols.{symbols_in}
 
 pub returns-in_err-take : goal.returns-in_err-take
 returns-in_err-take c =

@@ -3,7 +3,7 @@ use Rattle.salt_script.proofs.Reading.{with_front}
 use Rattle.salt_script.proofs.args.items.Given as goal
 use Rattle.salt_script.specs.Literals.{HoldsArgs, at_item, behind_item, items_at}
 use Rattle.salt_parse.specs.Settling.{ArePrintable}
-use Rattle.salt_tokens.specs.Symbols.{symbols_in}
+use Rattle.salt_ast.specs.Symbols.{symbols_in}
 use Rattle.salt_values.specs.declared.value.Value.{Value}
 
 -- some literals were read, and the others stand behind them

@@ -2,7 +2,7 @@ use Rattle.std.proofs.Common.{sym}
 use Rattle.std.specs.Prelude.{Err, Ok}
 use Rattle.salt_script.proofs.Lines.{all_settles, bases_settle, locks_settle, none_settles, program_settles, table_settles}
 use Rattle.salt_script.proofs.line.line_in.Goals as goal
-use Rattle.salt_tokens.specs.Symbols.{symbols_in}
+use Rattle.salt_ast.specs.Symbols.{symbols_in}
 
 pub returns-in-Ok : goal.returns-in-Ok
 returns-in-Ok c = table_settles (symbols_in c.args.tokens.now) (Ok c.in-Ok.def) (sym c.in-Table.ensures) c.in-Ok.ensures

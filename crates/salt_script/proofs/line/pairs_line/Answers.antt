@@ -5,7 +5,7 @@ use Rattle.salt_script.proofs.line.pairs_line.Goals as goal
 use Rattle.salt_script.specs.Answers.{GivesOrLimit}
 use Rattle.salt_script.specs.Forms.{pairs as begins_pairs}
 use Rattle.salt_script.specs.Literals.{pairs_at, pairs_passed}
-use Rattle.salt_tokens.specs.Symbols.{symbols_in}
+use Rattle.salt_ast.specs.Symbols.{symbols_in}
 
 pub returns-then-is_empty : goal.returns-then-is_empty
 returns-then-is_empty c = λ ts e.

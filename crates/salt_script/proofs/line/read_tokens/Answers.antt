@@ -4,7 +4,7 @@ use Rattle.salt_ast.specs.ProgramLimits.{line_limit}
 use Rattle.salt_script.specs.Spelled.{DeepLine, ShallowLine}
 use Rattle.salt_parse.proofs.Whole.{is_found, is_limit, scan_limit, scan_none, spells_none}
 use Rattle.salt_script.proofs.line.read_tokens.Goals as goal
-use Rattle.salt_tokens.specs.Symbols.{symbols_in}
+use Rattle.salt_ast.specs.Symbols.{symbols_in}
 
 pub returns-in_err-tokens-clause-limit : goal.returns-in_err-tokens-clause-limit
 returns-in_err-tokens-clause-limit c =

@@ -3,7 +3,7 @@ use Rattle.std.specs.Prelude.{Err}
 use Rattle.salt_script.proofs.Acts.{IsSettled}
 use Rattle.salt_script.proofs.Lines.{session_comes_first, session_fails, session_is_no_line, session_passes, session_within}
 use Rattle.salt_script.proofs.line.session_line.Goals as goal
-use Rattle.salt_tokens.specs.Symbols.{symbols_in}
+use Rattle.salt_ast.specs.Symbols.{symbols_in}
 
 pub returns-in-Ok : goal.returns-in-Ok
 returns-in-Ok c = λ ts e. session_within ts (symbols_in c.args.tokens.now) c.args.session c.in-Ok.act e (sym c.in-None.ensures) c.in-Ok.ensures

@@ -4,7 +4,7 @@ use Rattle.salt_script.proofs.Reading.{front_more, front_none, no_pair, pair_rea
 use Rattle.salt_script.proofs.pairs.armed_pairs.Goals as goal
 use Rattle.salt_script.specs.Answers.{GivesOrLimit}
 use Rattle.salt_script.specs.Literals.{HoldsPairs, ended_at, pairs_at, pairs_passed}
-use Rattle.salt_tokens.specs.Symbols.{symbols_in}
+use Rattle.salt_ast.specs.Symbols.{symbols_in}
 use Rattle.std.specs.Prelude.{Ok}
 
 pub pairs-init : goal.pairs-init

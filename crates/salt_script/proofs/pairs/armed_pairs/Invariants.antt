@@ -2,7 +2,7 @@ use Rattle.std.proofs.Common.{List, length, ℕ, ◌≡◌}
 use Rattle.salt_script.proofs.Reading.{with_front}
 use Rattle.salt_script.proofs.pairs.armed_pairs.Given as goal
 use Rattle.salt_script.specs.Literals.{HoldsPairs, pairs_at}
-use Rattle.salt_tokens.specs.Symbols.{symbols_in}
+use Rattle.salt_ast.specs.Symbols.{symbols_in}
 
 -- some pairs were read, and the others stand behind them
 abbrev pub invariant-pairs : goal.invariant-pairs

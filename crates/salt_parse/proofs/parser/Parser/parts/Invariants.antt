@@ -2,8 +2,8 @@ use Rattle.std.proofs.Common.{length}
 use Rattle.salt_parse.specs.Lists.{counted_at}
 use Rattle.salt_parse.specs.Reading.{after, within_at}
 use Rattle.salt_ast.specs.declared.limit.LimitName.TheVariants as limit
-use Rattle.salt_tokens.specs.Symbols.{key}
-use Rattle.salt_tokens.specs.declared.keyword.Keyword.TheVariants as word
+use Rattle.salt_ast.specs.Symbols.{key}
+use Rattle.salt_ast.specs.declared.keyword.Keyword.TheVariants as word
 use Rattle.salt_values.specs.declared.limits.TheConstants.{PARTS_MOST}
 use Rattle.salt_parse.specs.ProgramReading.{part_at, parts_at}
 use Rattle.salt_parse.proofs.Listing.{IsListing}

@@ -2,7 +2,7 @@ use Rattle.std.proofs.Common.{length, refl, ap, sym, ◌∙◌, arith}
 use Rattle.std.proofs.lemmas.List.{length-map}
 use Rattle.salt_parse.specs.Reading.{under_nots}
 use Rattle.salt_parse.specs.Parsing.{Parsing}
-use Rattle.salt_tokens.specs.Symbols.{symbol}
+use Rattle.salt_ast.specs.Symbols.{symbol}
 use Rattle.salt_parse.proofs.Loop.{nots_more, nots_stop}
 use Rattle.salt_parse.proofs.parser.Parser.skip_nots.Goals as goal
 

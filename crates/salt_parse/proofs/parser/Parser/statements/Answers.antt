@@ -3,8 +3,8 @@ use Rattle.std.proofs.lemmas.Result.{err_from_is_err_and}
 use Rattle.salt_parse.specs.Lists.{counted_at}
 use Rattle.salt_parse.specs.Reading.{after, within_at}
 use Rattle.salt_ast.specs.declared.limit.LimitName.TheVariants as limit
-use Rattle.salt_tokens.specs.Symbols.{sign}
-use Rattle.salt_tokens.specs.declared.sign.Sign.TheVariants as mark
+use Rattle.salt_ast.specs.Symbols.{sign}
+use Rattle.salt_ast.specs.declared.sign.Sign.TheVariants as mark
 use Rattle.salt_values.specs.declared.limits.TheConstants.{STATEMENTS_MOST}
 use Rattle.salt_parse.specs.StatementReading.{statement_at}
 use Rattle.salt_parse.proofs.Listing.{IsListing-ends, IsListing-fails, IsListing-goes_on, after_shortens}

@@ -1,6 +1,6 @@
 use Rattle.salt_schema.proofs.Firsts.{first-definition, first-number, first-within}
 use Rattle.salt_schema.proofs.definitions.Definitions.first_of.Goals as goal
-use Rattle.salt_tokens.specs.Spelling.{same_bytes}
+use Rattle.salt_ast.specs.TokenSpelling.{same_bytes}
 use Rattle.std.proofs.Common.{ap, sym, ◌∙◌}
 use Rattle.std.specs.Option.{option_copied}
 
