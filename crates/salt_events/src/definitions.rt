@@ -5,7 +5,10 @@ ghost use Rattle.law_definitions.specs.Texts.{definition_in};
 ghost use Rattle.salt_events.specs.Definitions.{TellsProgram, TellsTable, line_defining};
 
 use law_definitions::definitions_are_read;
-use salt_ast::{Line, ProgramDef, TableDef, canonical_program, canonical_table, print_program, print_table, same_bytes};
+use salt_ast::{
+    Line, ProgramDef, TableDef, canonical_program, canonical_table, print_program, print_table,
+    same_bytes,
+};
 use salt_parse::{
     ParseErr, one_program, one_table, read_program, read_table, row_program, row_table,
 };

@@ -6,8 +6,8 @@ ghost use Rattle.salt_events.specs.Reading.{branched_in, call_in, cause_in, end_
 use crate::fronts::{behind, id, number};
 use crate::names::name;
 use crate::values::row;
-use salt_model::{Cause, End, UnitKind};
 use salt_ast::same_bytes;
+use salt_model::{Cause, End, UnitKind};
 use salt_values::{Name, Row};
 use sqlite_items::Items;
 use std::alloc::{AllocError, Global};

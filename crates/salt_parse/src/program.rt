@@ -15,7 +15,10 @@ ghost use Rattle.salt_values.specs.declared.limits.TheConstants as most;
 use crate::error::ParseErr;
 use crate::parser::Parser;
 use crate::sealed::Sealed;
-use salt_ast::{Body, Field, Fields, Keyword, Lexeme, LimitName, Next, PartDef, Parts, ProgramDef, Sign, Statement, Statements};
+use salt_ast::{
+    Body, Field, Fields, Keyword, Lexeme, LimitName, Next, PartDef, Parts, ProgramDef, Sign,
+    Statement, Statements,
+};
 use salt_values::limits::{
     PARAMETERS_MOST, PARTS_MOST, RETRY_MOST, STATEMENTS_MOST, VARIABLES_MOST,
 };

@@ -1,7 +1,7 @@
 //! Where tokens stand.
 
-use salt_parse::{ParseErr, tokens};
 use salt_ast::TokenKind;
+use salt_parse::{ParseErr, tokens};
 use std::test::Fail;
 
 #[test]
