@@ -230,9 +230,9 @@ and-both true false is = absurd (cc is)
 and-both false b is = absurd (cc is)
 
 -- its net is what its commits have come to
-module _ {E : Type 0} (sees : E → Option Event → State → Type 0) (x : E) (setup : Setup) (shape : Shape) (early over_net : Bool) (asked : setup ≡ setup_in shape over_net) (start : Start) (status : Status)
-    (story : List Event) (trace : Trace) (net : Option (List NetEvent)) (serves : ServesBetween (sees x) start status story trace) where
-  given : (b : Bool) → (over_net && ends_between status) ≡ b → IsNetLeft b (sees x None) setup net → net ≡ (if b then Some (turning shape trace).events else None)
+module _ (stands_for : Option Event → State → Type 0) (setup : Setup) (shape : Shape) (early over_net : Bool) (asked : setup ≡ setup_in shape over_net) (start : Start) (status : Status)
+    (story : List Event) (trace : Trace) (net : Option (List NetEvent)) (serves : ServesBetween stands_for start status story trace) where
+  given : (b : Bool) → (over_net && ends_between status) ≡ b → IsNetLeft b (stands_for None) setup net → net ≡ (if b then Some (turning shape trace).events else None)
   given false is left = left
   given true is left =
       let both = and-both over_net (ends_between status) is in
@@ -241,7 +241,7 @@ module _ {E : Type 0} (sees : E → Option Event → State → Type 0) (x : E) (
       left s.point.state s.stands.state ∙ ap (λ (v : Setup). option_map (λ (t : Turning). t.events) (net_told v sent)) asked
       ∙ ap (λ (o : Bool). option_map (λ (t : Turning). t.events) (if o then Some (sent shape) else None)) both.0 ∙ ap (λ (t : Turning). Some t.events) (sym (s.keeps.state.net shape))
 
-  pub sent-is : IsNetLeft (over_net && ends_between status) (sees x None) setup net → net ≡ net_left (Script shape early over_net) status trace
+  pub sent-is : IsNetLeft (over_net && ends_between status) (stands_for None) setup net → net ≡ net_left (Script shape early over_net) status trace
   sent-is left = given (over_net && ends_between status) refl left
 
 -- nothing is in flight between two lines
@@ -336,11 +336,11 @@ module _ (d e : View) (x : Database Devices) where
     sound-start : (trace : Trace) → Tells start trace story → IsSoundKept (start_of trace).kept
     sound-start trace tells = subst (λ (k : Start). IsSoundKept k.kept) (sym tells.begins) sound
 
-    module _ (sees : Database Devices → Option Event → State → Type 0) (drained : (texts : List (List ℕ)) → DoTheirRests (AskInOrder texts)) (shape : Shape) (early over_net : Bool) (is_early : start.early ≡ early) (over : start.over_net ≡ over_net)
+    module _ (stands_for : Option Event → State → Type 0) (drained : (texts : List (List ℕ)) → DoTheirRests (AskInOrder texts)) (shape : Shape) (early over_net : Bool) (is_early : start.early ≡ early) (over : start.over_net ≡ over_net)
         (asked : setup_of x ≡ setup_in shape over_net) (stood : FindsKept d true shape start.kept) (status : Status)
         (y : (run : IsRun start (script_run status (database_flight x) s story)) × FoundAt e x status run.played.trace × Stops status (armed_by_lines d.armed run.played.trace) e.armed ×
-        ServesBetween (sees x) start status story run.played.trace) (net : Option (List NetEvent))
-        (told : Status) (same : told ≡ status) (left : IsNetLeft (over_net && ends_between told) (sees x None) (setup_of x) net) where
+        ServesBetween stands_for start status story run.played.trace) (net : Option (List NetEvent))
+        (told : Status) (same : told ≡ status) (left : IsNetLeft (over_net && ends_between told) (stands_for None) (setup_of x) net) where
       pub script-over : RunsOver (Script shape early over_net) d e status (flight_at status (database_flight x)) net s story
       script-over = record {
         start = start;
@@ -352,8 +352,8 @@ module _ (d e : View) (x : Database Devices) where
         over_net = over;
         may = may-end y.1.room y.1.point status y.1.may;
         replays = script-replays promised shape early over_net status (database_flight x) s story start sound.well y.0;
-        sent = sent-is sees x (setup_of x) shape early over_net asked start status story y.0.played.trace net y.3
-            (subst (λ (t : Status). IsNetLeft (over_net && ends_between t) (sees x None) (setup_of x) net) same left);
+        sent = sent-is stands_for (setup_of x) shape early over_net asked start status story y.0.played.trace net y.3
+            (subst (λ (t : Status). IsNetLeft (over_net && ends_between t) (stands_for None) (setup_of x) net) same left);
         armed = y.2;
         drains = drained y.0.played.texts y.0.played.trace y.0.played.tells.played (sound-start y.0.played.trace y.0.played.tells) y.0.played.reads;
         ends = ends-there e x shape over_net asked status y.0.played.trace y.0.played.tells.played y.1;
