@@ -35,5 +35,5 @@ module _ {D : Type 0} (r : Reading D) where
       → CoordinatorStands r logs which c → ((p : ℕ) → p < c.log.header.shape.parts → part_at r c logs devices p ≡ Ok (T p))
       → stands_in r logs devices asked ≡ Ok (found_with c (listed T 0 c.log.header.shape.parts))
   stands_from logs devices asked which c T h each =
-      ap (λ r. and_then r (with_parts r logs devices asked)) (coordinator_is_at r logs which c h)
-      ∙ ap (λ r. and_then r (λ parts. Ok (found_with c parts))) (each_listed (part_at r c logs devices) T 0 c.log.header.shape.parts (λ k low high. each k (omega (arith, high))))
+      ap (λ found. and_then found (with_parts r logs devices asked)) (coordinator_is_at r logs which c h)
+      ∙ ap (λ parts. and_then parts (λ ts. Ok (found_with c ts))) (each_listed (part_at r c logs devices) T 0 c.log.header.shape.parts (λ k low high. each k (omega (arith, high))))
