@@ -1,14 +1,15 @@
 -- The words of a line, each with what was counted behind it, are the summary.
+use Rattle.salt_model.specs.Continuing.{accepted_by}
 use Rattle.salt_model.specs.EventTexts.{cell_text}
 use Rattle.salt_model.specs.Summary as model
 use Rattle.salt_model.specs.declared.events.End.TheVariants.{Committed, Victim}
-use Rattle.salt_model.specs.declared.events.Event.TheVariants.{Accepted, Began, Ended, Released, Waits}
+use Rattle.salt_model.specs.declared.events.Event.TheVariants.{Accepted, Began, Ended, Waits}
 use Rattle.salt_model.specs.declared.events.Event.{Event}
 use Rattle.salt_workload.specs.Summary as counted
-use Rattle.std.proofs.Common.{ap, append_assoc, length-append, ◌∙◌}
+use Rattle.std.proofs.Common.{ap, append_assoc, ◌∙◌}
 use Rattle.std.specs.Fmt.{decimal}
-use Rattle.std.specs.List.{filter, flat_map}
-use Rattle.std.specs.Prelude.{Bool, List, None, [], codes, cond, false, length, refl, suc, true, ℕ, ◌+◌, ◌++◌, ◌∷◌, ◌≡◌}
+use Rattle.std.specs.List.{filter}
+use Rattle.std.specs.Prelude.{Bool, List, None, [], codes, cond, false, is_some, length, refl, suc, true, ℕ, ◌++◌, ◌∷◌, ◌≡◌}
 
 -- COUNTS
 
@@ -29,7 +30,7 @@ committed (Ended u (Committed n)) = refl
 committed (Ended u end) = refl
 committed e = refl
 
-accepted : (e : Event) → counted.is_accepted e ≡ model.is_acceptance e
+accepted : (e : Event) → counted.is_accepted e ≡ is_some (accepted_by e)
 accepted (Accepted b) = refl
 accepted e = refl
 
@@ -41,11 +42,6 @@ victims : (e : Event) → counted.is_victim e ≡ model.is_victim e
 victims (Ended u Victim) = refl
 victims (Ended u end) = refl
 victims e = refl
-
-released : (story : List Event) → counted.released_count story ≡ model.released_count story
-released [] = refl
-released (Released bs ∷ es) = length-append bs (flat_map counted.released_in es) ∙ ap (λ n. length bs + n) (released es)
-released (e ∷ es) = released es
 
 -- THE LINE
 
@@ -63,8 +59,8 @@ spelled calls lines story =
     (step (codes " lines ") lines lines _ _ refl
     (step (codes " units ") _ _ _ _ (count-same counted.is_began model.is_began began story)
     (step (codes " committed ") _ _ _ _ (count-same counted.is_committed model.is_committed committed story)
-    (step (codes " accepted ") _ _ _ _ (count-same counted.is_accepted model.is_acceptance accepted story)
-    (step (codes " released ") _ _ _ _ (released story)
+    (step (codes " accepted ") _ _ _ _ (count-same counted.is_accepted (λ e. is_some (accepted_by e)) accepted story)
+    (step (codes " released ") _ _ _ _ refl
     (step (codes " waits ") _ _ _ _ (count-same counted.is_waits model.is_wait waits story)
     (step (codes " victims ") _ _ _ _ (count-same counted.is_victim model.is_victim victims story)
     (append_assoc (codes " total ") (cell_text (model.last_value None story)) (10 ∷ [])))))))))
