@@ -204,8 +204,8 @@ module _ {D : Type 0} (r : Reading D) (d : View) (x : Store) (which : WhichLog) 
       → KeepsOthers (device_in x.decisions) d e None → y.parts ≡ x.parts → IsDecisions e y.decisions which c'.log → IsStore r e y which c' v
   after_entry e y payload c' same_parts same_units makes keeps parts decisions = record {
     decisions = decisions;
-    size = ap (λ ps. length ps.items) parts ∙ is.size ∙ sym same_parts;
-    parts = subst (λ ps. ArePartitions e ps.items v (decided_by c')) (sym parts) kept;
+    size = ap length parts ∙ is.size ∙ sym same_parts;
+    parts = subst (λ ps. ArePartitions e ps v (decided_by c')) (sym parts) kept;
     sound = λ told. let before = sym keeps.shape.told ∙ told in sound_with payload c' same_parts before (makes before);
   }
     where

@@ -93,7 +93,8 @@ impl Store {
         requires { IsAtRest self }
         ensures { result ≡ option_map (λ turning. turning.events) (net_of self) }
     {
-        let Some(messages) = self.messages else {
+        let Store { messages, .. } = self;
+        let Some(messages) = messages else {
             return None;
         };
         Some(messages.into_net())

@@ -33,13 +33,7 @@ pub invariant_of-self : goal.invariant_of-self
 invariant_of-self g c = c.prepare_each.ensures.voted.size ∙ c.self.invariant
 
 pub invariant_of-self-2 : goal.invariant_of-self-2
-invariant_of-self-2 g c = c.prepare_each.ensures.voted.size ∙ c.self.invariant ∙ ap (λ (s : Shape). s.parts) (sym c.decide.ensures.shape)
-
-pub invariant_of-self-3 : goal.invariant_of-self-3
-invariant_of-self-3 g c = c.end_each.ensures.size ∙ c.prepare_each.ensures.voted.size ∙ c.self.invariant ∙ ap (λ (s : Shape). s.parts) (sym c.decide.ensures.shape)
-
-pub invariant_of-self-4 : goal.invariant_of-self-4
-invariant_of-self-4 g c = c.end_each.ensures.size ∙ c.prepare_each.ensures.voted.size ∙ c.self.invariant ∙ ap (λ (s : Shape). s.parts) (sym c.decide.ensures.shape)
+invariant_of-self-2 g c = c.end_each.ensures.size ∙ c.prepare_each.ensures.voted.size ∙ c.self.invariant ∙ ap (λ (s : Shape). s.parts) (sym c.decide.ensures.shape)
 
 pub returns-in_err-shares-clause-images : goal.returns-in_err-shares-clause-images
 returns-in_err-shares-clause-images g c which co v m conts is may told asked image left =

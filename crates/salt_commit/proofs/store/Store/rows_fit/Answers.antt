@@ -18,7 +18,7 @@ loop-part-preserved g c =
     let q = c.index-partition.result.now in
     let part = c.loop-part.part in
     let within : c.from.result < length x.parts = omega (arith, c.from.ensures, c.loop-part-test.true, ap (λ (s : Shape). s.parts) c.shape-shape.ensures.value, c.self.invariant) in
-    let at : slice_get x.parts part ≡ Some q = ap (slice_get x.parts) (sym c.from.ensures) ∙ slice_get_read x.parts (length x.parts) c.from.result q refl within c.index-partition.ensures.value in
+    let at : slice_get x.parts part ≡ Some q = ap (slice_get x.parts) (sym c.from.ensures) ∙ slice_get_read x.parts (length x.parts) c.from.result q refl within c.index-partition.ensures in
     one_more_fits c.args.schema.now (shape_of x.decisions) x.parts part q at c.loop-part.invariant
     (ap (λ (s : Shape). list_all (fits_place c.args.schema.now s part) (rows_in q)) (sym c.shape-shape.ensures.value) ∙ ap (list_all (fits_place c.args.schema.now c.shape-shape.result part)) (sym c.rows.ensures)
     ∙ sym c.in_ok-rows_fit.ensures ∙ c.if-not-branch.false)
@@ -30,7 +30,7 @@ returns-then-not-branch-clause-told g c which co v is told tables =
     let q = c.index-partition.result.now in
     let part = c.loop-part.part in
     let within : c.from.result < length x.parts = omega (arith, c.from.ensures, c.loop-part-test.true, ap (λ (s : Shape). s.parts) c.shape-shape.ensures.value, c.self.invariant) in
-    let at : slice_get x.parts part ≡ Some q = ap (slice_get x.parts) (sym c.from.ensures) ∙ slice_get_read x.parts (length x.parts) c.from.result q refl within c.index-partition.ensures.value in
+    let at : slice_get x.parts part ≡ Some q = ap (slice_get x.parts) (sym c.from.ensures) ∙ slice_get_read x.parts (length x.parts) c.from.result q refl within c.index-partition.ensures in
     let shape : c.shape-shape.result ≡ co.log.header.shape = c.shape-shape.ensures.value ∙ was.decisions.holds.shape in
     let count : c.shape-shape.result.parts ≡ partition_count co = ap (λ (s : Shape). s.parts) shape in
     let low : part < partition_count co = omega (arith, c.loop-part-test.true, count) in
