@@ -9,13 +9,13 @@ use Rattle.salt_disk.specs.Disks.{FullOnly, HasCause, KeepsBut, View}
 use Rattle.salt_disk.specs.declared.disks.DiskErr.TheVariants.{Failed, Full, Memory, Stopped}
 use Rattle.salt_disk.specs.declared.disks.DiskErr.{DiskErr}
 use Rattle.salt_paged.proofs.Framed.{partition_kept}
-use Rattle.salt_paged.specs.Partitions.{IsPartition, page_count, pages_of}
+use Rattle.salt_paged.specs.Partitions.{ArePartitions, IsPartition, page_count, pages_of}
 use Rattle.salt_paged.specs.declared.partition.Partition.{Partition}
 use Rattle.salt_partition.specs.Partitions.{IsPreparedLast}
 use Rattle.salt_room.proofs.Lists.{if_each, if_some, set_other, set_same}
 use Rattle.salt_shares.proofs.Sharing.{full_maps, less_or}
 use Rattle.salt_shares.specs.Applies.{AreSharesLast, IsPagesOfShares, IsShareLast, IsSharePages, OnePagesPassLimit, PagesPassLimit, applied_with_shares, pages_with}
-use Rattle.salt_shares.specs.Prepares.{ArePartitions, FullWhere}
+use Rattle.salt_shares.specs.Prepares.{FullWhere}
 use Rattle.salt_shares.specs.Shares.{applied_with, has_changes, share_at}
 use Rattle.salt_stands.specs.Partition.{pages_device, part_device, part_tables}
 use Rattle.salt_stands.specs.Pieces.{PartView}

@@ -10,11 +10,11 @@ use Rattle.salt_disk.specs.declared.disks.DiskErr.TheVariants.{Failed, Full, Mem
 use Rattle.salt_disk.specs.declared.disks.DiskErr.{DiskErr}
 use Rattle.salt_gatelog.specs.Log as gates
 use Rattle.salt_paged.proofs.Framed.{partition_kept}
-use Rattle.salt_paged.specs.Partitions.{IsPartition, log_device}
+use Rattle.salt_paged.specs.Partitions.{ArePartitions, IsPartition, log_device}
 use Rattle.salt_paged.specs.declared.partition.Partition.{Partition}
 use Rattle.salt_partition.specs.Partitions.{prepared}
 use Rattle.salt_room.proofs.Lists.{if_each, if_some, set_other, set_same, some_at}
-use Rattle.salt_shares.specs.Prepares.{ArePartitions, FullWhere, IsLogOfShares, IsShareLog, MayPrepareEach, OnePassesLimit, PassesLimit, with_shares}
+use Rattle.salt_shares.specs.Prepares.{FullWhere, IsLogOfShares, IsShareLog, MayPrepareEach, OnePassesLimit, PassesLimit, with_shares}
 use Rattle.salt_shares.specs.Shares.{MayPrepareShare, share_at, with_share}
 use Rattle.salt_stands.specs.Coordinator.{device_of}
 use Rattle.salt_stands.specs.Partition.{pages_device, part_device}

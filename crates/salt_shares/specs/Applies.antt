@@ -2,10 +2,9 @@
 use Rattle.salt_bytes.specs.Page.{page_place}
 use Rattle.salt_directory.specs.Bytes.{bytes_of_changes, bytes_of_entries}
 use Rattle.salt_disk.specs.Disks.{View}
-use Rattle.salt_paged.specs.Partitions.{IsPartition, page_count, pages_of}
+use Rattle.salt_paged.specs.Partitions.{ArePartitions, IsPartition, page_count, pages_of}
 use Rattle.salt_paged.specs.declared.partition.Partition.{Partition}
 use Rattle.salt_partition.specs.Partitions.{IsPreparedLast}
-use Rattle.salt_shares.specs.Prepares.{ArePartitions}
 use Rattle.salt_shares.specs.Shares.{applied_with, has_changes, share_at}
 use Rattle.salt_stands.specs.Partition.{part_tables}
 use Rattle.salt_stands.specs.Pieces.{PartView}

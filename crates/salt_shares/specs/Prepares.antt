@@ -3,14 +3,14 @@ use Rattle.salt_bytes.specs.Partition.{spell_prepared}
 use Rattle.salt_disk.specs.Disks.{View}
 use Rattle.salt_disk.specs.declared.disks.DiskErr.TheVariants.{Failed, Full, Memory, Stopped}
 use Rattle.salt_disk.specs.declared.disks.DiskErr.{DiskErr}
-use Rattle.salt_paged.specs.Partitions.{IsPartition, log_device, log_gate}
+use Rattle.salt_paged.specs.Partitions.{ArePartitions, IsPartition, log_device, log_gate}
 use Rattle.salt_paged.specs.declared.partition.Partition.{Partition}
 use Rattle.salt_partition.specs.Partitions.{prepared}
 use Rattle.salt_shares.specs.Shares.{MayPrepareShare, has_changes, share_at, with_share}
 use Rattle.salt_stands.specs.Pieces.{PartView}
 use Rattle.salt_values.specs.declared.change.Change.{Change}
 use Rattle.salt_values.specs.declared.id.Id.{Id}
-use Rattle.std.specs.Prelude.{IfSome, List, None, Option, Some, length, slice_get, true, ℕ, ⊤, ◌+◌, ◌<◌, ◌≡◌}
+use Rattle.std.specs.Prelude.{List, None, Option, Some, length, slice_get, true, ℕ, ⊤, ◌+◌, ◌<◌, ◌≡◌}
 
 -- ONE PARTITION
 
@@ -41,10 +41,6 @@ FullWhere P (Some (Full dev)) = P dev
 FullWhere P (Some Memory) = ⊤
 
 -- ALL PARTITIONS
-
--- each is the partition of its place, and these units are applied in it
-pub record ArePartitions (d : View) (parts : List Partition) (v : ℕ → PartView) (applied : ℕ → List Id) : Type 0 where
-  pub each : (p : ℕ) → IfSome (slice_get parts p) (λ x. IsPartition d x p (v p) (applied p))
 
 pub record MayPrepareEach (v : ℕ → PartView) (applied : ℕ → List Id) (u : Id) (shares : List (List Change)) : Type 0 where
   pub each : (p : ℕ) → MayPrepareShare (v p) (applied p) u (share_at shares p)
