@@ -30,8 +30,8 @@ returns-in-Err-NotPage-clause-kept g c =
     let keeps : KeepsAll d e None = subst (λ (x : RowsErr). KeepsAll d e (rows_disk_err {T = RowStore} (Err x))) arm.field-0-is arm.ensures.kept in
     rw c.rejected.ensures.failed (keeps_then d e (g.D.Disks.view c.rejected.new.disks) (Some Failed) keeps c.rejected.ensures.kept)
 
-pub rejected-2-requires : goal.rejected-2-requires
-rejected-2-requires g c =
+pub rejected-requires-in-Err-NotRow : goal.rejected-requires-in-Err-NotRow
+rejected-requires-in-Err-NotRow g c =
     let d = g.D.Disks.view c.args.disks.now in
     let e = g.D.Disks.view c.open_rows.new.disks in
     let arm = c.in-Err-NotRow in
@@ -44,4 +44,4 @@ returns-in-Err-NotRow-clause-kept g c =
     let e = g.D.Disks.view c.open_rows.new.disks in
     let arm = c.in-Err-NotRow in
     let keeps : KeepsAll d e None = subst (λ (x : RowsErr). KeepsAll d e (rows_disk_err {T = RowStore} (Err x))) arm.field-0-is arm.ensures.kept in
-    rw c.rejected-2.ensures.failed (keeps_then d e (g.D.Disks.view c.rejected-2.new.disks) (Some Failed) keeps c.rejected-2.ensures.kept)
+    rw c.rejected-in-Err-NotRow.ensures.failed (keeps_then d e (g.D.Disks.view c.rejected-in-Err-NotRow.new.disks) (Some Failed) keeps c.rejected-in-Err-NotRow.ensures.kept)
