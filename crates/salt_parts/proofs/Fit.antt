@@ -82,10 +82,10 @@ module _ (read : List ℕ → Option Definition) (schema : List TableDef) (shape
   pub within_tables : (p : ℕ) (ch : Change) (b : Bool) → nat_lt ch.table (length schema) ≡ true → b ≡ is_sound_to (definitions_reading read) c p (changed_at ch) ch.row → b ≡ is_sound_change (definitions_reading read) c p ch
   within_tables p ch b within is = is ∙ sym (ap (λ x. x && is_sound_to (definitions_reading read) c p (changed_at ch) ch.row) (defined ch.table ∙ within))
 
-  pub put_fits : (p : ℕ) (ch : Change) (row : List Value) (meets : Bool) (part : ℕ) → ch.table < length schema → ch.row ≡ Some row → meets ≡ meets_table schema ch.table row → part ≡ part_of_key shape ch.key
-      → (meets && (part == p)) ≡ is_sound_change (definitions_reading read) c p ch
-  put_fits p ch row meets part within is meets_is part_is = within_tables p ch (meets && (part == p)) (lower ch.table (length schema) within)
-      (ap (λ b. b && (part == p)) (meets_is ∙ row_fits ch.table row) ∙ ap (λ k. (definitions_reading read).fits_row c.definitions ch.table row && (k == p)) (part_is ∙ ap (λ (s : Shape). part_of_key s ch.key) (sym has.is_shape))
+  pub put_fits : (p : ℕ) (ch : Change) (row : List Value) (meets here : Bool) → ch.table < length schema → ch.row ≡ Some row → meets ≡ meets_table schema ch.table row → here ≡ (part_of_key shape ch.key == p)
+      → (meets && here) ≡ is_sound_change (definitions_reading read) c p ch
+  put_fits p ch row meets here within is meets_is here_is = within_tables p ch (meets && here) (lower ch.table (length schema) within)
+      (ap (λ b. b && here) (meets_is ∙ row_fits ch.table row) ∙ ap (λ b. (definitions_reading read).fits_row c.definitions ch.table row && b) (here_is ∙ ap (λ (s : Shape). part_of_key s ch.key == p) (sym has.is_shape))
       ∙ ap (is_sound_to (definitions_reading read) c p (changed_at ch)) (sym is))
 
   pub removal_fits : (p : ℕ) (ch : Change) (b : Bool) → nat_lt ch.table (length schema) ≡ true → ch.row ≡ None → b ≡ is_key_of (slice_get schema ch.table) ch.key → b ≡ is_sound_change (definitions_reading read) c p ch
@@ -96,7 +96,7 @@ module _ (read : List ℕ → Option Definition) (schema : List TableDef) (shape
   row_judged p x = by (nat_lt x.table (length schema)) refl
     where
       by : (b : Bool) → nat_lt x.table (length schema) ≡ b → fits_part schema shape p x ≡ is_sound_change (definitions_reading read) c p (change_of_row x)
-      by true within = put_fits p (change_of_row x) x.row (meets_table schema x.table x.row) (part_of_key shape (key_of x.row)) (lowered x.table (length schema) within) refl refl refl
+      by true within = put_fits p (change_of_row x) x.row (meets_table schema x.table x.row) (part_of_key shape (key_of x.row) == p) (lowered x.table (length schema) within) refl refl refl
       by false past =
           ap (λ (o : Option TableDef). meets_found o x.row && (part_of_key shape (key_of x.row) == p)) (past_end schema x.table (beyond x.table (length schema) past)) ∙ past_tables p (change_of_row x) past
 

@@ -1,5 +1,6 @@
 -- Partitions are read, one after another.
 use Rattle.salt_ast.specs.declared.trees.TableDef.{TableDef}
+use Rattle.salt_checkpoint.proofs.Torn.{named_refl}
 use Rattle.salt_checkpoint.specs.Checkpoints.{NamedSettled}
 use Rattle.salt_checkpoint.specs.Sides.{NamedSame}
 use Rattle.salt_disk.proofs.CallAfterCall.{cause_none, cause_on, keeps_on, same_shape}
@@ -35,7 +36,7 @@ same_bytes d e keeps = fun_ext (λ dev. (keeps.kept dev (λ none. none)).bytes)
 
 -- where nothing is pending on a device, nothing is on any of its sides
 pub all_settled : (sides : List ℕ) (d : View) (dev : ℕ) → IsSettled d dev → NamedSettled sides d dev
-all_settled sides d dev settled c left = subst (λ (b : List ℕ). NamedSame sides (d.bytes dev) b) (sym (settled c left)) (λ page side named. refl)
+all_settled sides d dev settled c left = subst (λ (b : List ℕ). NamedSame sides (d.bytes dev) b) (sym (settled c left)) (named_refl sides (d.bytes dev))
 
 pub still_settled : (d e : View) (dev : ℕ) → KeepsAll d e None → IsSettled d dev → IsSettled e dev
 still_settled d e dev keeps settled c left = settled c ((unchanged d e keeps dev).images c left) ∙ sym (unchanged d e keeps dev).bytes

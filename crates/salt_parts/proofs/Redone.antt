@@ -1,6 +1,6 @@
 -- The decided units of partitions are applied, one partition after another.
 use Rattle.salt_bytes.specs.Page.{page_place}
-use Rattle.salt_checkpoint.proofs.Torn.{keeps_more, named_refl}
+use Rattle.salt_checkpoint.proofs.Torn.{keeps_all, keeps_more}
 use Rattle.salt_checkpoint.specs.Sides.{KeepsNamed}
 use Rattle.salt_disk.proofs.CallAfterCall.{cause_none, cause_on, keeps_on, keeps_wider, same_shape}
 use Rattle.salt_disk.specs.Disks.{FullOnly, HasCause, IsUnchanged, KeepsBut, KeepsOthers, View}
@@ -35,7 +35,7 @@ none_redone d read lists = record {
   within = omega arith;
   done = λ v us are have p. tt;
   rest = λ v are p high. are.each p;
-  named = λ v are p image left. (image, left, named_refl (v p).log.header.sides image);
+  named = λ v are p. keeps_all (v p).log.header.sides d d (pages_device p) (λ image left. left);
   others = record { shape = same_shape d; kept = λ dev apart. record { bytes = refl; images = λ image left. left }; images = λ dev apart image left. left };
   cause = cause_none d;
 }
@@ -50,6 +50,10 @@ module _ (p n : ℕ) (other : p ≢ n) where
 
   pages_apart : pages_device p ≢ pages_device n
   pages_apart same = other (omega (arith, same))
+
+-- where no memory is found nothing is done
+pub without_memory : (touched : ℕ → Type 0) (d e : View) → KeepsBut touched d e None → KeepsBut touched d e (Some Memory)
+without_memory touched d e keeps = record { shape = keeps.shape; kept = keeps.kept; images = keeps.images }
 
 -- the limits are as they were
 pub full_as : (d0 d : View) (n parts : ℕ) (v : ℕ → PartView) (us : ℕ → List Id) (pages : ℕ) (e : DiskErr) → n < parts → pages ≡ pages_device n → ((dev : ℕ) → d.limit dev ≡ d0.limit dev)
@@ -88,7 +92,7 @@ module _ (d0 d : View) (read : List ReadPartition) (lists : List (List Id)) (mad
       where
         by : (p ≡ n) ⊎ (p ≢ n) → KeepsNamed (v p).log.header.sides d e (pages_device p)
         by (inl same) = subst (λ q. KeepsNamed (v q).log.header.sides d e (pages_device q)) (sym same) (subst (λ k. KeepsNamed (v n).log.header.sides d e k) at_pages (images v are))
-        by (inr other) image left = (image, others.images (pages_device p) (λ same. pages_apart p n other (same ∙ at_pages)) image left, named_refl (v p).log.header.sides image)
+        by (inr other) = keeps_all (v p).log.header.sides d e (pages_device p) (others.images (pages_device p) (λ same. pages_apart p n other (same ∙ at_pages)))
 
   -- one partition more is opened
   module _ (e : View) (y : Partition) (v0 : ℕ → PartView) (are0 : AreRead d0 read v0) (others : KeepsOthers (pages_of x.partition) d e None) (cause : HasCause d e None)

@@ -100,13 +100,16 @@ lesser_keys None None None (Some y) same also = cc
 lesser_keys (Some a) None (Some x) (Some y) same also = cc
 lesser_keys (Some a) (Some b) (Some x) None same also = cc
 
-map_take : (xs : List Partition) (n : ℕ) (x : Partition) → slice_get xs n ≡ Some x → map places_of (take (n + 1) xs) ≡ map places_of (take n xs) ++ places_of x ∷ []
+one_on : (n : ℕ) → suc n ≡ n + 1
+one_on n = omega arith
+
+map_take : (xs : List Partition) (n : ℕ) (x : Partition) → slice_get xs n ≡ Some x → map places_of (take (suc n) xs) ≡ map places_of (take n xs) ++ places_of x ∷ []
 map_take [] n x at = cc
 map_take (y ∷ ys) zero x at = let same : y ≡ x = cc in ap (λ (z : Partition). places_of z ∷ []) same
 map_take (y ∷ ys) (suc n) x at = ap (λ l. places_of y ∷ l) (map_take ys n x at)
 
 -- where one is put in its place whose rows stand at the same places
-taken_set : (xs : List Partition) (n : ℕ) (x y : Partition) → slice_get xs n ≡ Some x → places_of y ≡ places_of x → map places_of (take (n + 1) xs) ≡ map places_of (take (n + 1) (slice_set xs n y))
+taken_set : (xs : List Partition) (n : ℕ) (x y : Partition) → slice_get xs n ≡ Some x → places_of y ≡ places_of x → map places_of (take (suc n) xs) ≡ map places_of (take (suc n) (slice_set xs n y))
 taken_set [] n x y at same = cc
 taken_set (z ∷ zs) zero x y at same = let own : z ≡ x = cc in ap (λ k. k ∷ []) (ap (λ (p : Partition). places_of p) own ∙ sym same)
 taken_set (z ∷ zs) (suc n) x y at same = ap (λ l. places_of z ∷ l) (taken_set zs n x y at same)
@@ -184,7 +187,7 @@ module _ (d0 d : View) (parts0 parts : List Partition) (t : ℕ) (range : KeyRan
           ap (option_map key_of) is
           ∙ lesser_keys least found (next_row t range after (joined (map places_of (take n parts)))) (next_row t range after (places_of x)) so_far.key key
           ∙ ap (option_map key_of) (next_pushed t range after (map places_of (take n parts)) (places_of x) (all_keyed (take n parts)) (part_places_keyed x))
-          ∙ ap (λ ts. option_map key_of (next_row t range after (joined ts))) (sym (map_take parts n x there) ∙ taken_set parts n x x' there same);
+          ∙ ap (λ ts. option_map key_of (next_row t range after (joined ts))) (sym (map_take parts n x there) ∙ taken_set parts n x x' there same ∙ ap (λ k. map places_of (take k (slice_set parts n x'))) (one_on n));
       least_is = λ v applied h told.
           let T : ℕ → Tables = λ p. part_tables (applied p) (v p).log (v p).rows in
           is ∙ ap (λ o. lesser_row o found) (so_far.least_is v applied h told) ∙ ap (lesser_row (next_row t range after (tables_of_all v applied n))) (row n (v n) (applied n) (this_one v applied h) (so_far.keeps.shape.told ∙ told))

@@ -9,7 +9,7 @@ ghost use Rattle.salt_stands.specs.Fitting.{definitions_reading, is_key_of};
 ghost use Rattle.salt_stands.specs.OpenedPart.{fits_definitions};
 ghost use Rattle.salt_stands.specs.Partition.{is_sound_change, part_of_key};
 ghost use Rattle.std.specs.List.{list_all};
-ghost use Rattle.std.specs.Prelude.{IfOk, List, Option, slice_get, ℕ, ◌<◌, ◌≡◌};
+ghost use Rattle.std.specs.Prelude.{IfOk, List, Option, slice_get, ℕ, ◌<◌, ◌==◌, ◌≡◌};
 
 use salt_codec::PreparedUnit;
 use salt_directory::RowJudge;
@@ -60,7 +60,17 @@ pub struct PartJudge<'a, F: Fn(PlaceKind, &Key, u32) -> u32> {
     pub part: u8,
 }
 
-impl<'a, F: Fn(PlaceKind, &Key, u32) -> u32> PartJudge<'a, F> {
+impl<F: Fn(PlaceKind, &Key, u32) -> u32> PartJudge<'_, F> {
+    /// Whether a key is of this partition.
+    fn has_key(&self, key: &Key) -> bool
+        requires callable { TakesEachKey (F.pre self.now.place.now.place) }
+        requires answers { GivesPlaceOf (F.post self.now.place.now.place) }
+        requires parts { IsParts self.now.shape.parts }
+        ensures { result ≡ (part_of_key self.now.shape key.now == self.now.part) }
+    {
+        part_of(self.place, self.shape, key) == u32::from(self.part)
+    }
+
     /// Whether a change is of a table that is defined, and to a row of it that stands here, or of a key of it.
     fn change_fits(&self, alloc: Global, change: &Change) -> Result<bool, AllocError>
         requires callable { TakesEachKey (F.pre self.now.place.now.place) }
@@ -75,7 +85,7 @@ impl<'a, F: Fn(PlaceKind, &Key, u32) -> u32> PartJudge<'a, F> {
         match &change.row {
             Some(row) => {
                 let meets = meets_table(alloc, self.schema, change.table, row)?;
-                Ok(meets && part_of(self.place, self.shape, &change.key) == u32::from(self.part))
+                Ok(meets && self.has_key(&change.key))
             }
             None => Ok(is_key_of(self.schema, change.table, &change.key)),
         }
@@ -114,7 +124,7 @@ impl<'a, F: Fn(PlaceKind, &Key, u32) -> u32> PartJudge<'a, F> {
     }
 }
 
-impl<'a, F: Fn(PlaceKind, &Key, u32) -> u32> RowJudge for PartJudge<'a, F> {
+impl<F: Fn(PlaceKind, &Key, u32) -> u32> RowJudge for PartJudge<'_, F> {
     ghost can_judge = { λ j. TakesEachKey (F.pre j.place.now.place) × GivesPlaceOf (F.post j.place.now.place) × IsParts j.shape.parts };
 
     ghost sound = { λ j. fits_part j.schema.now j.shape j.part };
@@ -127,6 +137,6 @@ impl<'a, F: Fn(PlaceKind, &Key, u32) -> u32> RowJudge for PartJudge<'a, F> {
         row: &Row,
     ) -> Result<bool, AllocError> {
         let meets = meets_table(alloc, self.schema, table, row)?;
-        Ok(meets && part_of(self.place, self.shape, key) == u32::from(self.part))
+        Ok(meets && self.has_key(key))
     }
 }

@@ -33,7 +33,7 @@ fn is_format_under(coordinator: u8, format: u8) -> bool
 fn find_fitting<D: Disks, F: Fn(PlaceKind, &Key, u32) -> u32>(
     alloc: Global,
     disks: &mut D,
-    judge: &PartJudge<F>,
+    judge: &PartJudge<'_, F>,
     ruling: &Ruling,
 ) -> Result<FoundLog, PairErr>
     requires callable { TakesEachKey (F.pre judge.now.place.now.place) }
@@ -69,7 +69,7 @@ fn find_fitting<D: Disks, F: Fn(PlaceKind, &Key, u32) -> u32>(
 fn read_fitting<D: Disks, F: Fn(PlaceKind, &Key, u32) -> u32>(
     alloc: Global,
     disks: &mut D,
-    judge: &PartJudge<F>,
+    judge: &PartJudge<'_, F>,
     ruling: &Ruling,
 ) -> Result<ReadPartition, PairErr>
     requires callable { TakesEachKey (F.pre judge.now.place.now.place) }

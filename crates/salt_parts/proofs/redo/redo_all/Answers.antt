@@ -1,12 +1,13 @@
 use Rattle.salt_bytes.specs.Page.{page_place}
-use Rattle.salt_disk.proofs.CallAfterCall.{cause_on}
+use Rattle.salt_disk.proofs.CallAfterCall.{cause_memory, cause_on}
 use Rattle.salt_disk.specs.Disks.{FullOnly}
 use Rattle.salt_paged.specs.Openings.{page_bound}
 use Rattle.salt_paged.specs.Partitions.{IsPartition, pages_of}
-use Rattle.salt_parts.proofs.Redone.{RedoneSoFar, at_pages, full_as, named_then, none_redone, one_redone, others_then, this_read}
+use Rattle.salt_parts.proofs.Redone.{RedoneSoFar, at_pages, full_as, named_then, none_redone, one_redone, others_then, this_read, without_memory}
 use Rattle.salt_parts.proofs.Lists.{longer}
 use Rattle.salt_parts.proofs.Units.{units_at}
 use Rattle.salt_parts.proofs.redo.redo_all.Goals as goal
+use Rattle.salt_parts.specs.Openings.{IsPagesOf}
 use Rattle.std.proofs.Common.{None, Some, ap, arith, get_or, length, refl, slice_get, subst, sym, ◌+◌, ◌≡◌, ◌∙◌}
 use Rattle.std.proofs.lemmas.Iterator.Adapters.{YieldsList-from_vec}
 use Rattle.std.proofs.lemmas.Iterator.Consumers.{YieldsList-end, YieldsList-turn}
@@ -114,6 +115,52 @@ returns-in_err-opened-clause-full g c v us are have told =
     (subst (λ ids. FullOnly (pages_of x.partition) (d.limit (pages_of x.partition)) (page_place (page_bound ids (v n)) 0) (Some c.in_err-opened.field-0.0)) own
     (c.in_err-opened.ensures.full n (v n) (this_read d0 d all c.args.decided.now l.made.items n so x at t.0 v are) (so.others.shape.told ∙ told))))
 
+-- MEMORY RUNS OUT
+
+pub returns-in_err-push-clause-images : goal.returns-in_err-push-clause-images
+returns-in_err-push-clause-images g c v are p low =
+    let l = c.loop-partition in
+    let d0 = g.D.Disks.view c.args.disks.now in
+    let d = g.D.Disks.view l.disks in
+    let e = g.D.Disks.view c.redo.new.disks in
+    let x = c.in-Some.partition in
+    let all = c.args.read.items in
+    let from = c.into_iter-partition-iterator.ensures.into_iter_gives in
+    let t = YieldsList-turn (YieldsList-from_vec {s = c.into_iter-partition-iterator.result} all from.0 (from.1 ∙ c.args.read.ok.0)) l.yielded l.partition-iterator l.yielded_by c.next.result c.next.new.self x c.in-Some.is c.next.ensures.steps in
+    let n = length l.yielded in
+    let at : slice_get all n ≡ Some x = slice_get_read all (length all) n x refl t.0 t.1 in
+    let so = l.invariant in
+    named_then d0 d all c.args.decided.now l.made.items n so x at t.0 e None c.requires.stand.v c.requires.stand.are c.in_ok-opened.ensures.others
+    (λ w h. c.redo.ensures.images n (w n) (this_read d0 d all c.args.decided.now l.made.items n so x at t.0 w h)) v are p
+
+pub returns-in_err-push-clause-others : goal.returns-in_err-push-clause-others
+returns-in_err-push-clause-others g c =
+    let l = c.loop-partition in
+    let d0 = g.D.Disks.view c.args.disks.now in
+    let d = g.D.Disks.view l.disks in
+    let e = g.D.Disks.view c.redo.new.disks in
+    let x = c.in-Some.partition in
+    let all = c.args.read.items in
+    let from = c.into_iter-partition-iterator.ensures.into_iter_gives in
+    let t = YieldsList-turn (YieldsList-from_vec {s = c.into_iter-partition-iterator.result} all from.0 (from.1 ∙ c.args.read.ok.0)) l.yielded l.partition-iterator l.yielded_by c.next.result c.next.new.self x c.in-Some.is c.next.ensures.steps in
+    let n = length l.yielded in
+    let at : slice_get all n ≡ Some x = slice_get_read all (length all) n x refl t.0 t.1 in
+    let q = err_from_is_err_and c.from_residual-in_err-push.result c.from_residual-in_err-push.ensures.1 in
+    rw (q.1, q.2) (without_memory (IsPagesOf (length all)) d0 e (others_then d0 d all c.args.decided.now l.made.items n l.invariant x at t.0 e None c.requires.stand.v c.requires.stand.are c.in_ok-opened.ensures.others))
+
+pub returns-in_err-push-clause-cause : goal.returns-in_err-push-clause-cause
+returns-in_err-push-clause-cause g c =
+    let l = c.loop-partition in
+    let d0 = g.D.Disks.view c.args.disks.now in
+    let e = g.D.Disks.view c.redo.new.disks in
+    let q = err_from_is_err_and c.from_residual-in_err-push.result c.from_residual-in_err-push.ensures.1 in
+    rw (q.1, q.2) (cause_memory d0 e (cause_on d0 (g.D.Disks.view l.disks) e None l.invariant.cause c.in_ok-opened.ensures.cause))
+
+pub returns-in_err-push-clause-full : goal.returns-in_err-push-clause-full
+returns-in_err-push-clause-full g c v us are have told =
+    let q = err_from_is_err_and c.from_residual-in_err-push.result c.from_residual-in_err-push.ensures.1 in
+    rw (q.1, q.2) tt
+
 -- ALL ARE OPENED
 
 pub returns-clause-ok : goal.returns-clause-ok
@@ -125,4 +172,4 @@ returns-clause-ok g c v us are have =
     (omega (arith, l.invariant.size, t.1), record { each = l.invariant.done v us are have })
 
 pub returns-clause-images : goal.returns-clause-images
-returns-clause-images g c v are p low = c.loop-partition.invariant.0.named v are p
+returns-clause-images g c v are p low = c.loop-partition.invariant.named v are p

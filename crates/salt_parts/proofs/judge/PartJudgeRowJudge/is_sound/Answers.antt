@@ -1,10 +1,10 @@
 use Rattle.salt_parts.proofs.judge.PartJudgeRowJudge.is_sound.Goals as goal
 
-pub part_of-requires-clause-callable : goal.part_of-requires-clause-callable
-part_of-requires-clause-callable g c = c.requires.can.0
+pub has_key-requires-clause-callable : goal.has_key-requires-clause-callable
+has_key-requires-clause-callable g c = c.requires.can.0
 
-pub part_of-requires-clause-answers : goal.part_of-requires-clause-answers
-part_of-requires-clause-answers g c = c.requires.can.1
+pub has_key-requires-clause-answers : goal.has_key-requires-clause-answers
+has_key-requires-clause-answers g c = c.requires.can.1
 
-pub part_of-requires-clause-parts : goal.part_of-requires-clause-parts
-part_of-requires-clause-parts g c = c.requires.can.2
+pub has_key-requires-clause-parts : goal.has_key-requires-clause-parts
+has_key-requires-clause-parts g c = c.requires.can.2
