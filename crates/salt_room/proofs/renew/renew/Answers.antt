@@ -11,7 +11,8 @@ checkpoint_all-requires g c = let s = c.requires in each_stands s.r (g.D.Disks.v
 pub snapshot-requires : goal.snapshot-requires
 snapshot-requires g c =
     let s = c.requires in
-    (s.which, (s.c.log, (decisions_on (g.D.Disks.view c.args.disks.now) (g.D.Disks.view c.checkpoint_all.new.disks) c.args.decisions.now s.which s.c c.in_ok-checkpoint_all.ensures.others s.is.decisions, s.is.are_open)))
+    let log = decisions_on (g.D.Disks.view c.args.disks.now) (g.D.Disks.view c.checkpoint_all.new.disks) c.args.decisions.now s.which s.c c.in_ok-checkpoint_all.ensures.others s.is.decisions in
+    record { log = (s.which, (s.c.log, log, s.is.are_open)) }
 
 pub returns-in_err-checkpoint_all-clause-images : goal.returns-in_err-checkpoint_all-clause-images
 returns-in_err-checkpoint_all-clause-images g c r which co v told is = c.checkpoint_all.ensures.images r which co v told is.are
