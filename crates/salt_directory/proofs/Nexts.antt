@@ -96,11 +96,12 @@ places_keys es ordered =
 
 at_place : (q : Place) (es : List (Place × ℕ)) (page : ℕ) → page_of es q ≡ Some page → lookup (is_at (place_cmp q)) (map key_alone es) ≡ Some (q.key ∷ [])
 at_place q [] page is = cc
-at_place q (e ∷ es) page is = by (is_eq (place_cmp q e.0)) refl is
+at_place q (e ∷ es) page is = by (is_eq (place_cmp q e.0)) refl is (λ found. at_place q es page found)
   where
-    by : (b : Bool) → is_eq (place_cmp q e.0) ≡ b → cond b (Some e.1) (page_of es q) ≡ Some page → cond b (Some (e.0.key ∷ [])) (lookup (is_at (place_cmp q)) (map key_alone es)) ≡ Some (q.key ∷ [])
-    by true here found = ap (λ (p : Place). Some (p.key ∷ [])) (sym (place_same q e.0 (equal_is (place_cmp q e.0) here)))
-    by false there found = at_place q es page found
+    by : (b : Bool) → is_eq (place_cmp q e.0) ≡ b → cond b (Some e.1) (page_of es q) ≡ Some page
+        → (page_of es q ≡ Some page → lookup (is_at (place_cmp q)) (map key_alone es) ≡ Some (q.key ∷ [])) → cond b (Some (e.0.key ∷ [])) (lookup (is_at (place_cmp q)) (map key_alone es)) ≡ Some (q.key ∷ [])
+    by true here found rest = ap (λ (p : Place). Some (p.key ∷ [])) (sym (place_same q e.0 (equal_is (place_cmp q e.0) here)))
+    by false there found rest = rest found
 
 -- the key that is next in a directory is that of the next of its places
 pub next_key : (table : ℕ) (range : KeyRange) (after : Option Value) (es : List (Place × ℕ)) → IsStrictlySortedBy place_cmp (keys_of es) → (found : Option (Value × ℕ)) → IsNextPlace table range (first_behind table range after es) found
@@ -113,11 +114,12 @@ next_key table range after es ordered (Some f) next there =
 -- each of them stands at the place of its key
 keyed_at : (q : Place) (es : List (Place × ℕ)) → IfSome (lookup (is_at (place_cmp q)) (map key_alone es)) (λ row. key_of row ≡ q.key)
 keyed_at q [] = tt
-keyed_at q (e ∷ es) = by (is_eq (place_cmp q e.0)) refl
+keyed_at q (e ∷ es) = by (is_eq (place_cmp q e.0)) refl (keyed_at q es)
   where
-    by : (b : Bool) → is_eq (place_cmp q e.0) ≡ b → IfSome (cond b (Some (e.0.key ∷ [])) (lookup (is_at (place_cmp q)) (map key_alone es))) (λ row. key_of row ≡ q.key)
-    by true here = ap (λ (p : Place). p.key) (sym (place_same q e.0 (equal_is (place_cmp q e.0) here)))
-    by false there = keyed_at q es
+    by : (b : Bool) → is_eq (place_cmp q e.0) ≡ b → IfSome (lookup (is_at (place_cmp q)) (map key_alone es)) (λ row. key_of row ≡ q.key)
+        → IfSome (cond b (Some (e.0.key ∷ [])) (lookup (is_at (place_cmp q)) (map key_alone es))) (λ row. key_of row ≡ q.key)
+    by true here rest = ap (λ (p : Place). p.key) (sym (place_same q e.0 (equal_is (place_cmp q e.0) here)))
+    by false there rest = rest
 
 pub places_keyed : (es : List (Place × ℕ)) → IsKeyed (places_in es)
 places_keyed es q = subst (λ o. IfSome o (λ row. key_of row ≡ q.key)) (sym (row_at-tables_of q (map key_alone es))) (keyed_at q es)
