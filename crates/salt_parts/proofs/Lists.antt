@@ -1,5 +1,7 @@
 -- Elements of a list by their places.
-use Rattle.std.proofs.Common.{List, None, Option, Some, [], ap, arith, length, refl, slice_set, subst, sym, ℕ, ◌+◌, ◌++◌, ◌<◌, ◌≡◌, ◌≢◌, ◌≤◌, ◌∙◌, ◌∷◌}
+use Rattle.std.proofs.Common.{Bool, List, None, Option, Some, [], ap, arith, get_or, length, refl, slice_set, subst, sym, take, true, ℕ, ◌&&◌, ◌+◌, ◌++◌, ◌<◌, ◌≡◌, ◌≢◌, ◌≤◌, ◌∙◌, ◌∷◌}
+use Rattle.std.proofs.lemmas.List.Folds.{list_all_more}
+use Rattle.std.specs.List.{list_all}
 use Rattle.std.specs.Prelude.{IfSome, map, slice_get, suc, zero}
 
 pub if_some : {X : Type 0} (o : Option X) (x : X) (P : X → Type 0) → o ≡ Some x → IfSome o P → P x
@@ -34,6 +36,10 @@ each_push P (x ∷ xs) n k y e each one (suc p) =
     let at : (q : ℕ) → k + suc q ≡ suc k + q = λ q. omega arith in
     subst (λ m. IfSome (slice_get (xs ++ y ∷ []) p) (P m)) (sym (at p))
     (each_push P xs n (suc k) y (omega (arith, e)) (λ q. subst (λ m. IfSome (slice_get xs q) (P m)) (at q) (each (suc q))) one p)
+
+-- what each of the first n passes, each of one more passes
+pub all_more : {X : Type 0} (f : X → Bool) (xs : List X) (n : ℕ) (x : X) → n < length xs → x ≡ get_or xs n x → list_all f (take n xs) ≡ true → f x ≡ true → list_all f (take (n + 1) xs) ≡ true
+all_more f xs n x low at so_far one = list_all_more f xs n x low ∙ (λ i. so_far i && (ap f (sym at) ∙ one) i)
 
 module _ {X : Type 0} where
   pub set_same : (xs : List X) (i : ℕ) (y : X) → i < length xs → slice_get (slice_set xs i y) i ≡ Some y
