@@ -153,7 +153,7 @@ pub fn open_again<D: Disks, F: Fn(PlaceKind, &Key, u32) -> u32>(
         Ok((store, _)) => match is_remembered(alloc, place, &store, before, pending) {
             Ok(true) => Ok(store),
             Ok(false) => Err(fault(disks)),
-            Err(e) => Err(e.into()),
+            Err(e) => return Err(e.into()),
         },
         Err(e) => {
             if may_answer(e, numbers_before(before, pending), pending) {

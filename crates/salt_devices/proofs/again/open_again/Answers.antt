@@ -62,8 +62,8 @@ fault-requires-in-Err g c =
     let told : IsTrue d.told = sym c.in-Err.ensures.others.shape.told ∙ now in
     not_left d c.args.shape l.0 l.1 c.in-Err.e l.2 (c.may_answer.ensures.not c.if-may_answer.false l.0 l.1 (subst (λ n. AreNumbersOf n l.0) (sym c.numbers_before.ensures) r.numbers) r.follows) c.in-Err.ensures.err (λ dev is. c.in-Err.ensures.blank dev (ap Err is)) told)
 
-pub returns-else-may_answer-clause-leaves : goal.returns-else-may_answer-clause-leaves
-returns-else-may_answer-clause-leaves g c a b h =
+pub returns-clause-leaves : goal.returns-clause-leaves
+returns-clause-leaves g c a b h =
     let d = g.D.Disks.view c.args.disks.now in
     let e = g.D.Disks.view c.open_devices.new.disks in
     let l = c.requires.left in
@@ -96,7 +96,7 @@ returns-in-Err-is_remembered-clause-within g c over = store_within (g.D.Disks.vi
 pub returns-then-may_answer-clause-within : goal.returns-then-may_answer-clause-within
 returns-then-may_answer-clause-within g c over = store_within (g.D.Disks.view c.args.disks.now) (g.D.Disks.view c.open_devices.new.disks) (setup_in c.args.shape over) (open_disk_err_of c.in-Err.e) c.in-Err.ensures.others
 
-pub returns-else-may_answer-clause-within : goal.returns-else-may_answer-clause-within
-returns-else-may_answer-clause-within g c over =
+pub returns-clause-within : goal.returns-clause-within
+returns-clause-within g c over =
     within_on (g.D.Disks.view c.args.disks.now) (g.D.Disks.view c.open_devices.new.disks) (setup_in c.args.shape over) (g.D.Disks.view c.fault-in-Err.new.disks) (open_disk_err_of c.fault-in-Err.result)
     (store_within (g.D.Disks.view c.args.disks.now) (g.D.Disks.view c.open_devices.new.disks) (setup_in c.args.shape over) (open_disk_err_of c.in-Err.e) c.in-Err.ensures.others) c.fault-in-Err.ensures.kept

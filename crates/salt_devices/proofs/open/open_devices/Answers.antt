@@ -63,6 +63,16 @@ returns-in-Ok-Some-clause-others g c =
     let first = c.in_ok-schema.ensures.kept in
     keeps_on (IsStoreLog c.args.shape.parts) d b e None (nothing (IsStoreLog c.args.shape.parts) d b None first) c.in-Ok.ensures.others
 
+pub returns-in-Ok-None-clause-others : goal.returns-in-Ok-None-clause-others
+returns-in-Ok-None-clause-others g c =
+    let d = g.D.Disks.view c.args.disks.now in
+    let b = g.D.Disks.view c.schema_of_log.new.disks in
+    let e = g.D.Disks.view c.open_store.new.disks in
+    let f = g.D.Disks.view c.fault.new.disks in
+    let touched = IsStoreLog c.args.shape.parts in
+    keeps_on touched d e f (open_disk_err_of c.fault.result) (keeps_on touched d b e None (nothing touched d b None c.in_ok-schema.ensures.kept) c.in-Ok.ensures.others)
+    (nothing touched e f (open_disk_err_of c.fault.result) c.fault.ensures.kept)
+
 pub fault-requires : goal.fault-requires
 fault-requires g c =
     let d = g.D.Disks.view c.args.disks.now in
