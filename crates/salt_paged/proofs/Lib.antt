@@ -6,6 +6,7 @@ mod Checkpointed
 mod Created
 pub mod Standing
 pub mod Framed
+mod Fulls
 mod Witnesses
 mod Opened
 mod Redone

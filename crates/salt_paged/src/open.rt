@@ -2,11 +2,13 @@
 
 ghost use Rattle.salt_checkpoint.specs.Sides.{KeepsNamed};
 ghost use Rattle.salt_disk.specs.Disks.{HasCause, IsSettled, KeepsOthers};
+ghost use Rattle.salt_disk.specs.declared.disks.DiskErr.TheVariants.{Full};
 ghost use Rattle.salt_gatelog.specs.Pair.{pair_err};
+ghost use Rattle.salt_gatelog.specs.declared.pair.PairErr.TheVariants.{Disk};
 ghost use Rattle.salt_paged.specs.Openings.{CountsWith, IsWhy, OpensAs, SettlesNamed};
 ghost use Rattle.salt_stands.specs.Partition.{pages_device, part_device};
 ghost use Rattle.salt_stands.specs.PartitionLog.{PartitionLog};
-ghost use Rattle.std.specs.Prelude.{IfErr, IfOk, IsTrue, ◌+◌, ◌<◌, ◌≡◌};
+ghost use Rattle.std.specs.Prelude.{Err, IfErr, IfOk, IsTrue, ℕ, ◌+◌, ◌<◌, ◌≡◌};
 
 use crate::found::find_log;
 use crate::partition::Partition;
@@ -34,6 +36,7 @@ pub fn open_partition<D: Disks>(
     ensures images { IsTrue (D.view disks.old).told → (log : PartitionLog) → CountsWith (D.view disks.old) part log → KeepsNamed log.header.sides (D.view disks.old) (D.view disks.new) (pages_device part) }
     ensures others { KeepsOthers (pages_device part) (D.view disks.old) (D.view disks.new) (pair_err result) }
     ensures cause { HasCause (D.view disks.old) (D.view disks.new) (pair_err result) }
+    ensures device { (n : ℕ) → result ≡ Err (Disk (Full n)) → n ≡ pages_device part }
 {
     let found = find_log(alloc, disks, part, boot, decided)?;
     let read = found.read_pages(disks, &AnyRow)?;

@@ -6,6 +6,7 @@ ghost use Rattle.salt_checkpoint.specs.Sides.{KeepsNamed};
 ghost use Rattle.salt_codec.specs.Entries.{prepared_of};
 ghost use Rattle.salt_directory.specs.Bytes.{IsWithin, bytes_of_changes, bytes_of_entries};
 ghost use Rattle.salt_disk.specs.Disks.{FullOnly, HasCause, KeepsOthers};
+ghost use Rattle.salt_disk.specs.declared.disks.DiskErr.TheVariants.{Full};
 ghost use Rattle.salt_model.specs.Tables.{no_rows, with_changes};
 ghost use Rattle.salt_paged.specs.Openings.{CanRedo, IsReadAs, WasRead, page_bound};
 ghost use Rattle.salt_paged.specs.Partitions.{IsPartition, StandsUpTo, page_count, pages_of};
@@ -13,7 +14,7 @@ ghost use Rattle.salt_stands.specs.Partition.{changes_if, decided_changes};
 ghost use Rattle.salt_stands.specs.Pieces.{PartView};
 ghost use Rattle.salt_values.specs.Id.{has_id};
 ghost use Rattle.salt_values.specs.declared.id.Id.{Id};
-ghost use Rattle.std.specs.Prelude.{IfOk, IsTrue, List, OnOk, [], ℕ, ◌+◌, ◌++◌, ◌∷◌, ◌≡◌};
+ghost use Rattle.std.specs.Prelude.{Err, IfOk, IsTrue, List, OnOk, [], ℕ, ◌+◌, ◌++◌, ◌∷◌, ◌≡◌};
 ghost use Rattle.std.specs.Result.{result_err};
 
 use crate::partition::Partition;
@@ -68,6 +69,7 @@ impl ReadPartition {
         ensures cause { HasCause (D.view disks.old) (D.view disks.new) (result_err result) }
         ensures full { (p : ℕ) (v : PartView) → IsReadAs (D.view disks.old) self p v → IsTrue (D.view disks.old).told
             → FullOnly (pages_of self.partition) ((D.view disks.old).limit (pages_of self.partition)) (page_place (page_bound decided.now v) 0) (result_err result) }
+        ensures device { (n : ℕ) → result ≡ Err (Full n) → n ≡ pages_of self.partition }
     {
         let ReadPartition { partition, units } = self;
         let mut partition = partition;

@@ -3,6 +3,7 @@
 ghost use Rattle.salt_checkpoint.specs.Sides.{KeepsNamed};
 ghost use Rattle.salt_codec.specs.Entries.{header_of};
 ghost use Rattle.salt_disk.specs.Disks.{HasCause, IsSettled, KeepsOthers};
+ghost use Rattle.salt_disk.specs.declared.disks.DiskErr.TheVariants.{Full};
 ghost use Rattle.salt_paged.specs.Openings.{CountsWith, OpensAs, SettlesNamed, part_fault};
 ghost use Rattle.salt_paged.specs.Partitions.{IsPartition, log_gate, number_of, pages_of};
 ghost use Rattle.salt_paged.specs.Reopening.{AreDecided, IsSameLog, StandsToReopen};
@@ -10,7 +11,7 @@ ghost use Rattle.salt_stands.specs.Partition.{pages_device, part_device};
 ghost use Rattle.salt_stands.specs.PartitionLog.{PartitionLog};
 ghost use Rattle.salt_stands.specs.Pieces.{PartView};
 ghost use Rattle.salt_values.specs.declared.id.Id.{Id};
-ghost use Rattle.std.specs.Prelude.{IfOk, IsTrue, List, None, OnErr, OnOk, ℕ, ◌+◌, ◌<◌, ◌↔◌, ◌≡◌};
+ghost use Rattle.std.specs.Prelude.{Err, IfOk, IsTrue, List, None, OnErr, OnOk, ℕ, ◌+◌, ◌<◌, ◌↔◌, ◌≡◌};
 ghost use Rattle.std.specs.Result.{result_err};
 
 use crate::open::open_partition;
@@ -62,6 +63,7 @@ fn opened_again<D: Disks>(
     ensures images { IsTrue (D.view disks.old).told → (log : PartitionLog) → CountsWith (D.view disks.old) part log → KeepsNamed log.header.sides (D.view disks.old) (D.view disks.new) (pages_device part) }
     ensures others { KeepsOthers (pages_device part) (D.view disks.old) (D.view disks.new) (result_err result) }
     ensures cause { HasCause (D.view disks.old) (D.view disks.new) (result_err result) }
+    ensures device { (n : ℕ) → result ≡ Err (Full n) → n ≡ pages_device part }
 {
     match open_partition(alloc, disks, part, boot, decided) {
         Ok(partition) => Ok(partition),
@@ -102,6 +104,7 @@ impl Partition {
             → KeepsNamed v.log.header.sides (D.view disks.old) (D.view disks.new) (pages_of self.now) }
         ensures others { KeepsOthers (pages_of self.now) (D.view disks.old) (D.view disks.new) (result_err result) }
         ensures cause { HasCause (D.view disks.old) (D.view disks.new) (result_err result) }
+        ensures device { (n : ℕ) → result ≡ Err (Full n) → n ≡ pages_of self.now }
     {
         let opened = opened_again(self.alloc, disks, self.part, boot, decided)?;
         let same = opened.has_log_of(self);
@@ -129,6 +132,7 @@ impl Partition {
             → KeepsNamed v.log.header.sides (D.view disks.old) (D.view disks.new) (pages_of self.old) }
         ensures others { KeepsOthers (pages_of self.old) (D.view disks.old) (D.view disks.new) (result_err result) }
         ensures cause { HasCause (D.view disks.old) (D.view disks.new) (result_err result) }
+        ensures device { (n : ℕ) → result ≡ Err (Full n) → n ≡ pages_of self.old }
     {
         let opened = self.found_again(disks, boot, decided)?;
         let Partition {

@@ -1,14 +1,15 @@
 use Rattle.salt_disk.proofs.CallAfterCall.{keeps_on}
 use Rattle.salt_disk.specs.Disks.{KeepsOthers}
-use Rattle.salt_disk.specs.declared.disks.DiskErr.TheVariants.{Failed}
+use Rattle.salt_disk.specs.declared.disks.DiskErr.TheVariants.{Failed, Full}
 use Rattle.salt_checkpoint.proofs.Torn.{keeps_more}
 use Rattle.salt_gatelog.proofs.Entries.{not_told}
 use Rattle.salt_gatelog.specs.Pair.{pair_err_of}
+use Rattle.salt_gatelog.specs.declared.pair.PairErr.TheVariants.{Disk}
 use Rattle.salt_paged.proofs.Opened.{named_all, others_all}
 use Rattle.salt_paged.proofs.reopen.opened_again.Goals as goal
 use Rattle.salt_paged.specs.Openings.{IsWhy}
 use Rattle.salt_stands.specs.Partition.{pages_device}
-use Rattle.std.proofs.Common.{None, Some, subst, sym, ◌≡◌, ◌∙◌}
+use Rattle.std.proofs.Common.{Err, None, Some, ap, subst, sym, ◌≡◌, ◌∙◌}
 
 pub rejected-requires : goal.rejected-requires
 rejected-requires g c =
@@ -37,3 +38,8 @@ returns-in-Err-NotSalt-clause-others g c =
     let pages = pages_device c.args.part in
     let others : KeepsOthers pages d e None = subst (λ x. KeepsOthers pages d e (pair_err_of x)) c.in-Err-NotSalt.field-0-is c.in-Err-NotSalt.ensures.others in
     rw c.rejected.ensures.failed (keeps_on (λ dev. dev ≡ pages) d e f (Some Failed) others (others_all e f pages (Some Failed) c.rejected.ensures.kept))
+
+pub returns-in-Err-Disk-clause-device : goal.returns-in-Err-Disk-clause-device
+returns-in-Err-Disk-clause-device g c n is =
+    let same : c.in-Err-Disk.e ≡ Full n = cc in
+    c.in-Err-Disk.ensures.device n (ap Err (c.in-Err-Disk.field-0-is ∙ ap Disk same))

@@ -1,7 +1,7 @@
 use Rattle.salt_checkpoint.proofs.Torn.{keeps_more}
 use Rattle.salt_disk.proofs.CallAfterCall.{cause_on, keeps_on}
 use Rattle.salt_disk.specs.Disks.{IsSettled}
-use Rattle.salt_disk.specs.declared.disks.DiskErr.TheVariants.{Failed}
+use Rattle.salt_disk.specs.declared.disks.DiskErr.TheVariants.{Failed, Full}
 use Rattle.salt_paged.proofs.Framed.{logs_settled}
 use Rattle.salt_paged.proofs.Opened.{named_all, others_all}
 use Rattle.salt_paged.proofs.Reopened.{named_view, no_fault, not_same, settles}
@@ -9,7 +9,8 @@ use Rattle.salt_paged.proofs.partition.Partition.found_again.Goals as goal
 use Rattle.salt_paged.specs.Openings.{SettlesNamed}
 use Rattle.salt_paged.specs.Partitions.{pages_of}
 use Rattle.salt_stands.specs.Partition.{pages_device, part_device}
-use Rattle.std.proofs.Common.{Some, subst, sym, ℕ, ◌+◌, ◌<◌, ◌≡◌}
+use Rattle.std.proofs.Common.{Err, Some, ap, subst, sym, ℕ, ◌+◌, ◌<◌, ◌≡◌}
+use Rattle.std.proofs.lemmas.Result.{err_from_is_err_and}
 
 pub opened_again-requires-clause-known : goal.opened_again-requires-clause-known
 opened_again-requires-clause-known g c =
@@ -42,6 +43,12 @@ opened_again-requires-clause-sound g c =
 pub returns-in_err-opened-clause-images : goal.returns-in_err-opened-clause-images
 returns-in_err-opened-clause-images g c p v applied is told =
     named_view (g.D.Disks.view c.args.disks.now) (g.D.Disks.view c.opened_again.new.disks) c.args.self.now p v applied is told (c.opened_again.ensures.images told)
+
+pub returns-in_err-opened-clause-device : goal.returns-in_err-opened-clause-device
+returns-in_err-opened-clause-device g c n is =
+    let p = err_from_is_err_and c.from_residual.result c.from_residual.ensures.1 in
+    let same : c.in_err-opened.field-0.0 ≡ Full n = cc (p.1, p.2, is) in
+    c.in_err-opened.ensures.device n (ap Err same)
 
 -- ANOTHER LOG is none that was written
 

@@ -3,8 +3,11 @@ use Rattle.salt_checkpoint.proofs.Torn.{keeps_more, named_refl}
 use Rattle.salt_checkpoint.specs.Sides.{KeepsNamed}
 use Rattle.salt_disk.proofs.CallAfterCall.{cause_memory, cause_none, cause_on, keeps_on, same_shape}
 use Rattle.salt_disk.specs.Disks.{FullOnly, KeepsOthers}
+use Rattle.salt_disk.specs.declared.disks.DiskErr.TheVariants.{Full}
+use Rattle.salt_disk.specs.declared.disks.DiskErr.{DiskErr}
 use Rattle.salt_bytes.specs.Page.{page_place}
 use Rattle.salt_partition.proofs.Seeing.{units_push}
+use Rattle.salt_paged.proofs.Fulls.{full_at}
 use Rattle.salt_paged.proofs.Redone.{full_wider, prefix_all, prefix_next, put_at, unit_within, within_all}
 use Rattle.salt_paged.proofs.redo.ReadPartition.redo.Goals as goal
 use Rattle.salt_paged.specs.Openings.{page_bound}
@@ -140,6 +143,14 @@ returns-in_err-redo_unit-clause-full g c p v is told =
     let pages = pages_of c.args.self.partition in
     let full : FullOnly pages (d.limit pages) (page_place count 0) answer = subst (λ k. FullOnly k (d.limit k) (page_place count 0) answer) l.invariant.same c.in_err-redo_unit.ensures.full in
     rw (q.1, q.2) (full_wider pages (d0.limit pages) count (page_bound us v) answer few (subst (λ k. FullOnly pages k (page_place count 0) answer) (l.invariant.keeps.shape.limit pages) full))
+
+pub returns-in_err-redo_unit-clause-device : goal.returns-in_err-redo_unit-clause-device
+returns-in_err-redo_unit-clause-device g c n is =
+    let l = c.loop-unit in
+    let q = err_from_is_err_and c.from_residual-in_err-redo_unit.result c.from_residual-in_err-redo_unit.ensures.1 in
+    let same : c.in_err-redo_unit.field-0.0 ≡ Full n = cc (q.1, q.2, is) in
+    let pages = pages_of l.partition in
+    full_at pages ((g.D.Disks.view l.disks).limit pages) (page_place (page_count c.redo_unit.new.partition) 0) n (Some c.in_err-redo_unit.field-0.0) (ap (λ (e : DiskErr). Some e) same) c.in_err-redo_unit.ensures.full ∙ l.invariant.same
 
 -- ALL ARE DONE
 
