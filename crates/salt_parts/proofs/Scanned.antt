@@ -55,7 +55,7 @@ joined_keyed T p zero h q = tt
 joined_keyed T p (suc n) h q = subst (λ o. IfSome o (λ row. key_of row ≡ q.key)) (sym (row_at_entries q (T p).list (joined (listed T (suc p) n))))
     (keyed_or (row_at q (T p)) (row_at q (joined (listed T (suc p) n))) q.key (h p (omega arith) q) (joined_keyed T (suc p) n (λ k low. h k (omega (arith, low))) q))
 
-all_keyed : (xs : List Partition) → IsKeyed (joined (map places_of xs))
+pub all_keyed : (xs : List Partition) → IsKeyed (joined (map places_of xs))
 unfolding joined
 all_keyed [] q = tt
 all_keyed (x ∷ xs) q = subst (λ o. IfSome o (λ row. key_of row ≡ q.key)) (sym (row_at_entries q (places_of x).list (joined (map places_of xs)))) (keyed_or (row_at q (places_of x)) (row_at q (joined (map places_of xs))) q.key (part_places_keyed x q) (all_keyed xs q))

@@ -20,7 +20,11 @@ use salt_values::{Change, Key, Row, Value};
 use std::alloc::{AllocError, Global};
 
 /// The partition of a key. NULL, which is no key, counts as of the first.
-fn part_of<F: Fn(PlaceKind, &Key, u32) -> u32>(place: &Placement<F>, shape: Shape, key: &Key) -> u32
+pub fn part_of<F: Fn(PlaceKind, &Key, u32) -> u32>(
+    place: &Placement<F>,
+    shape: Shape,
+    key: &Key,
+) -> u32
     requires callable { TakesEachKey (F.pre place.now.place) }
     requires answers { GivesPlaceOf (F.post place.now.place) }
     requires parts { IsParts shape.parts }

@@ -7,7 +7,7 @@ mod read;
 mod redo;
 mod ruling;
 
-pub use judge::PartJudge;
+pub use judge::{PartJudge, part_of};
 pub use nexts::next_of_all;
 pub use read::read_all;
 pub use redo::redo_all;
