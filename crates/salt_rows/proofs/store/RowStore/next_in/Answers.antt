@@ -4,7 +4,7 @@ use Rattle.salt_rows.proofs.store.RowStore.next_in.Goals as goal
 use Rattle.salt_directory.specs.Pages.{page_of}
 use Rattle.salt_model.specs.Tables.{place}
 use Rattle.salt_values.specs.declared.value.Value.{Value}
-use Rattle.std.proofs.Common.{Some, ap, option_copied, subst, ◌≡◌, ◌∙◌}
+use Rattle.std.proofs.Common.{None, Some, ap, option_copied, subst, ◌≡◌, ◌∙◌}
 use Rattle.std.specs.Prelude.{IfSome}
 
 pub returns-in_ok-row-in-Some-clause-row : goal.returns-in_ok-row-in-Some-clause-row
