@@ -49,7 +49,7 @@ of_columns [] (v ∷ vs) = refl
 of_columns (f ∷ fs) [] = refl
 of_columns (f ∷ fs) (v ∷ vs) = ap (λ b. b && are_of_columns fs vs) (of_type f.nullable f.name f.kind v) ∙ ap (λ b. eval.is_of_column f v && b) (of_columns fs vs)
 
-row_of : (o : Option TableDef) (row : List Value) → is_row_of o row ≡ meets_found o row
+pub row_of : (o : Option TableDef) (row : List Value) → is_row_of o row ≡ meets_found o row
 row_of None row = refl
 row_of (Some d) row = ap (λ b. b && is_ok (checked (in_row d row []) d.checks)) (of_columns d.columns row)
 
