@@ -29,7 +29,7 @@ use Rattle.salt_stands.specs.Reading.{Reading}
 use Rattle.salt_stands.specs.Stands.{Found, stands_on}
 use Rattle.salt_values.specs.declared.cont.Cont.{Cont}
 use Rattle.salt_values.specs.declared.id.Id.{Id}
-use Rattle.std.proofs.Common.{Err, IsTrue, List, None, Ok, OnOk, Option, Result, Some, [], ap, arith, inl, inr, length, refl, subst, sym, true, ℕ, ◌*◌, ◌+◌, ◌++◌, ◌<◌, ◌≡◌, ◌≢◌, ◌⊎◌, ◌∙◌, ◌∷◌}
+use Rattle.std.proofs.Common.{Err, IsTrue, List, None, Ok, OnOk, Option, Result, Some, [], ap, arith, inl, inr, length, subst, sym, true, ℕ, ◌*◌, ◌+◌, ◌++◌, ◌<◌, ◌≡◌, ◌≢◌, ◌⊎◌, ◌∙◌, ◌∷◌}
 use Rattle.std.proofs.lemmas.Option.{slice_get_within}
 use Rattle.std.specs.Prelude.{IfSome, slice_get}
 use Rattle.std.specs.Result.{result_err}

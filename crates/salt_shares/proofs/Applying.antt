@@ -1,5 +1,4 @@
 -- The unit is applied in the first n partitions, and not yet in the others.
-use Rattle.salt_bytes.specs.Generations.{LogA, LogB}
 use Rattle.salt_bytes.specs.Page.{page_place}
 use Rattle.salt_checkpoint.proofs.Torn.{keeps_all, keeps_more}
 use Rattle.salt_checkpoint.specs.Sides.{KeepsNamed}

@@ -17,7 +17,7 @@ use Rattle.salt_stands.specs.Reading.{Reading}
 use Rattle.salt_stands.specs.Stands.{logs_of}
 use Rattle.salt_values.specs.declared.change.Change.{Change}
 use Rattle.salt_values.specs.declared.cont.Cont.{Cont}
-use Rattle.std.proofs.Common.{IsTrue, List, ap, arith, inl, inr, sym, ℕ, ◌+◌, ◌<◌, ◌≡◌, ◌≢◌, ◌⊎◌, ◌∙◌}
+use Rattle.std.proofs.Common.{IsTrue, List, ap, arith, inl, inr, sym, ℕ, ◌<◌, ◌≡◌, ◌≢◌, ◌⊎◌, ◌∙◌}
 
 coordinator_apart : (k q : ℕ) (z : WhichLog) → k < 2 → k ≢ device_of (part_device q) z
 coordinator_apart k q LogA low e = omega (arith, low, e)
