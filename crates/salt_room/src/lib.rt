@@ -2,7 +2,7 @@
 #![tactic(auto)]
 
 mod checkpoints;
-mod renew;
+mod renewal;
 
 pub use checkpoints::{MOST_UNITS, checkpoint_all, checkpoint_full};
-pub use renew::renew;
+pub use renewal::renew;

@@ -1,5 +1,5 @@
 use Rattle.salt_room.proofs.Renewed.{decisions_on, each_stands, full_at_last, full_before, renewed_then, snapshot_stands}
-use Rattle.salt_room.proofs.renew.renew.Goals as goal
+use Rattle.salt_room.proofs.renewal.renew.Goals as goal
 use Rattle.salt_room.specs.Rooms.{GoOnEmpty}
 use Rattle.std.proofs.Common.{Some, subst, ℕ, ◌∙◌}
 use Rattle.std.proofs.lemmas.Result.{err_from_is_err_and}
