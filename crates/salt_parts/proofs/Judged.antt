@@ -9,13 +9,13 @@ use Rattle.salt_disk.specs.Disks.{KeepsAll, View}
 use Rattle.salt_gatelog.specs.declared.pair.PairErr.TheVariants.{Disk, NotSalt}
 use Rattle.salt_gatelog.specs.declared.pair.PairErr.{PairErr}
 use Rattle.salt_model.specs.Kept.{Definition}
-use Rattle.salt_paged.proofs.Opened.{pair_kept}
 use Rattle.salt_paged.specs.Openings.{IsFound, IsLogWhy, IsPagesWhy, ReadsAs, found_log, found_pages, found_which, has_sound_pages, log_fault, stand_soundly}
 use Rattle.salt_paged.specs.Partitions.{IsTold}
 use Rattle.salt_paged.specs.declared.found.FoundLog.{FoundLog}
 use Rattle.salt_paged.specs.declared.redo.ReadPartition.{ReadPartition}
 use Rattle.salt_partition.proofs.Steps.{unchanged}
 use Rattle.salt_parts.proofs.Fit.{rows_judged}
+use Rattle.salt_parts.proofs.Reading.{same_bytes}
 use Rattle.salt_parts.specs.Judging.{HasTables, fits_part}
 use Rattle.salt_parts.specs.Openings.{FitsUnder, IsPartFault, PartRefuses, decided_in}
 use Rattle.salt_place.specs.declared.placement.Shape.{Shape}
@@ -91,7 +91,7 @@ module _ (read : List ℕ → Option Definition) (schema : List TableDef) (shape
   log_is = found_log found
 
   counts : IsTrue d.told → part_pair p (logs_of d.bytes) ≡ Counts (found_which found) log_is
-  counts told = sym (pair_kept d e p keeps) ∙ h.counts (keeps.shape.told ∙ told)
+  counts told = ap (λ (bytes : ℕ → List ℕ). part_pair p (logs_of bytes)) (sym (same_bytes d e keeps)) ∙ h.counts (keeps.shape.told ∙ told)
 
   -- it is known, and does not fit
   fits_not : IsTrue d.told → is_known_log c.log.told.boot (decided_in c.log p) log_is ≡ true → is_fitting_log by_texts c p log_is ≡ false → IsPartFault read c d.bytes p (device_of (part_device p) (found_which found))

@@ -54,7 +54,7 @@ loop-partition-preserved g c =
     (subst (λ xs. RedoneSoFar d0 e all c.args.decided.now xs (n + 1)) (sym c.in_ok-push.ensures.items)
     (one_redone d0 d all c.args.decided.now l.made.items n so x at t.0 e y c.requires.stand.v c.requires.stand.are c.in_ok-opened.ensures.others c.in_ok-opened.ensures.cause
     (λ v are. c.redo.ensures.images n (v n) (this_read d0 d all c.args.decided.now l.made.items n so x at t.0 v are))
-    (λ v us are have. subst (λ ids. IsPartition e y n (v n) ids) (units_at c.args.decided.now us n c.index-decided-number.result have (omega (arith, t.0, c.requires.ruled)) (c.index-decided-number.is ∙ ap (λ k. get_or c.args.decided.now k c.index-decided-number.result) (c.len-number.ensures ∙ so.size)))
+    (λ v us are have. subst (λ ids. IsPartition e y n (v n) ids) (units_at c.args.decided.now us n c.index-decided-number.result have (omega (arith, t.0, c.requires.ruled)) (c.index-decided-number.is ∙ ap (λ k. get_or c.args.decided.now k c.index-decided-number.result) (c.len-number.ensures ∙ l.made.ok.0 ∙ so.size)))
     (c.in_ok-opened.ensures.ok n (v n) (this_read d0 d all c.args.decided.now l.made.items n so x at t.0 v are)))))
 
 -- AN ERROR
@@ -109,7 +109,7 @@ returns-in_err-opened-clause-full g c v us are have told =
     let n = length l.yielded in
     let at : slice_get all n ≡ Some x = slice_get_read all (length all) n x refl t.0 t.1 in
     let so = l.invariant in
-    let own : c.index-decided-number.result ≡ us n = units_at c.args.decided.now us n c.index-decided-number.result have (omega (arith, t.0, c.requires.ruled)) (c.index-decided-number.is ∙ ap (λ k. get_or c.args.decided.now k c.index-decided-number.result) (c.len-number.ensures ∙ so.size)) in
+    let own : c.index-decided-number.result ≡ us n = units_at c.args.decided.now us n c.index-decided-number.result have (omega (arith, t.0, c.requires.ruled)) (c.index-decided-number.is ∙ ap (λ k. get_or c.args.decided.now k c.index-decided-number.result) (c.len-number.ensures ∙ l.made.ok.0 ∙ so.size)) in
     let q = err_from_is_err_and c.from_residual.result c.from_residual.ensures.1 in
     rw (q.1, q.2) (full_as d0 d n (length all) v us (pages_of x.partition) c.in_err-opened.field-0.0 t.0 (at_pages d0 d all c.args.decided.now l.made.items n so x at t.0 e None c.requires.stand.v c.requires.stand.are) so.others.shape.limit
     (subst (λ ids. FullOnly (pages_of x.partition) (d.limit (pages_of x.partition)) (page_place (page_bound ids (v n)) 0) (Some c.in_err-opened.field-0.0)) own
