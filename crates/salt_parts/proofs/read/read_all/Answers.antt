@@ -1,4 +1,4 @@
-use Rattle.salt_disk.proofs.CallAfterCall.{cause_on, keeps_on}
+use Rattle.salt_disk.proofs.CallAfterCall.{cause_memory, cause_on, keeps_on}
 use Rattle.salt_gatelog.proofs.Entries.{keeps_without_memory}
 use Rattle.salt_parts.proofs.Reading.{ReadSoFar, first_fault, none_read, one_read, room_on}
 use Rattle.salt_parts.proofs.read.read_all.Goals as goal
@@ -69,6 +69,13 @@ returns-in-Err-clause-kept g c =
     let l = c.loop-part in
     rw c.into.ensures (keeps_without_memory (g.D.Disks.view c.args.disks.now) (g.D.Disks.view c.read_fitting.new.disks)
     (keeps_on (λ _. ⊥) (g.D.Disks.view c.args.disks.now) (g.D.Disks.view l.disks) (g.D.Disks.view c.read_fitting.new.disks) None l.invariant.keeps c.in_ok-partition.ensures.kept))
+
+pub returns-in-Err-clause-cause : goal.returns-in-Err-clause-cause
+returns-in-Err-clause-cause g c =
+    let l = c.loop-part in
+    let d = g.D.Disks.view c.args.disks.now in
+    let e = g.D.Disks.view c.read_fitting.new.disks in
+    rw c.into.ensures (cause_memory d e (cause_on d (g.D.Disks.view l.disks) e None l.invariant.cause c.in_ok-partition.ensures.cause))
 
 -- ONE MORE IS READ
 
