@@ -31,8 +31,8 @@ differ e = cc
 
 -- a share that is not empty
 pub changes_there : (empty : Bool) (cs : List Change) → (IsTrue empty ↔ (cs ≡ [])) → empty ≡ false → has_changes cs ≡ true
-changes_there empty [] iff no = absurd (differ (sym (iff.1 refl) ∙ no))
-changes_there empty (c ∷ cs) iff no = refl
+changes_there empty [] iff filled = absurd (differ (sym (iff.1 refl) ∙ filled))
+changes_there empty (c ∷ cs) iff filled = refl
 
 -- WHERE ONE IS FULL
 
