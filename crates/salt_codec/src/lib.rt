@@ -15,7 +15,7 @@ mod told;
 pub use error::{RowErr, TakeErr};
 pub use header::{Header, read_header, spell_header};
 pub use moves::{has_nulls, spelled_move, take_cont, take_move};
-pub use order::is_before;
+pub use order::{are_in_order, is_before};
 pub use prepared::{PreparedUnit, read_prepared, with_prepared};
 pub use rows::{put_row, take_row};
 pub use told::{told_changes, told_row};

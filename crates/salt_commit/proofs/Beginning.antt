@@ -2,11 +2,13 @@
 use Rattle.salt_bytes.specs.Generations.{BothBlank, Counts, IsRead, LogA, content_of, pair_of, read_or_outside}
 use Rattle.salt_bytes.specs.Log.{entries_in}
 use Rattle.salt_commit.proofs.Opening.{same_shape_is}
-use Rattle.salt_commit.proofs.Pageless.{no_names}
-use Rattle.salt_commit.proofs.Standing.{if_some, make_some, part_at}
-use Rattle.salt_commit.specs.Openings.{LeavesPages, OpensStore}
+use Rattle.salt_commit.proofs.Standing.{part_at}
+use Rattle.salt_commit.specs.Openings.{OpensStore}
+use Rattle.salt_paged.proofs.Framed.{logs_settled, part_stands, partition_kept}
+use Rattle.salt_paged.specs.Partitions.{ArePartitions, IsPartition}
+use Rattle.salt_parts.proofs.Lists.{if_some, make_some}
 use Rattle.salt_stands.specs.LogDevices.{IsCoordinatorLog, IsPartLog, IsStoreLog}
-use Rattle.salt_commit.specs.Stores.{ArePartitions, IsSound, decided_by, reading}
+use Rattle.salt_commit.specs.Stores.{IsSound, IsStoreDevice, decided_by, reading}
 use Rattle.salt_commit.specs.declared.store.Store.{Store}
 use Rattle.salt_decisions.proofs.Begun.{blank_a, blank_b, both_made_blank, first_log}
 use Rattle.salt_gatelog.specs.Answers.{open_disk_err_of, open_disk_err, open_err_of}
@@ -19,9 +21,7 @@ use Rattle.salt_disk.specs.declared.disks.DiskErr.TheVariants.{Failed, Full, Mem
 use Rattle.salt_disk.specs.declared.disks.DiskErr.{DiskErr}
 use Rattle.salt_model.specs.Kept.{Definition}
 use Rattle.salt_partition.proofs.Lasts.{no_last}
-use Rattle.salt_partition.proofs.Framed.{logs_settled, part_stands, partition_kept}
-use Rattle.salt_partition.specs.Partitions.{IsPartition}
-use Rattle.salt_partition.specs.declared.partition.Partition.{Partition}
+use Rattle.salt_paged.specs.declared.partition.Partition.{Partition}
 use Rattle.salt_stands.proofs.Booleans.{left}
 use Rattle.salt_stands.proofs.Commits.{part_same}
 use Rattle.salt_stands.proofs.FirstOpening.{blank_stands, made_found}
@@ -32,7 +32,7 @@ use Rattle.salt_stands.specs.Commits.{PartSame, Stood, found_of}
 use Rattle.salt_stands.specs.Coordinator.{Coordinator, coordinator_pair, judge_coordinator}
 use Rattle.salt_stands.specs.CoordinatorLog.{CoordinatorLog, coordinator_generation, coordinator_in}
 use Rattle.salt_stands.specs.FirstOpening.{first_coordinator, first_view}
-use Rattle.salt_stands.specs.Partition.{part_device}
+use Rattle.salt_stands.specs.Partition.{pages_device, part_device}
 use Rattle.salt_stands.specs.Pieces.{PartStands}
 use Rattle.salt_stands.specs.Reading.{Reading}
 use Rattle.salt_stands.specs.Stands.{Stands, is_same_kind, is_same_shape, stands_on, logs_of, nothing_found, of_coordinator}
@@ -63,13 +63,6 @@ or_true : (b : Bool) → (b || true) ≡ true
 or_true true = refl
 or_true false = refl
 
--- blank devices of the coordinator leave no pages
-pub blank_unnamed : (asked : Shape) (image : ℕ → List ℕ) (dev : ℕ) → coordinator_pair (logs_of image) ≡ BothBlank → LeavesPages asked image dev → ⊥
-blank_unnamed asked image dev blank leaves =
-    let none : judge_coordinator reading (coordinator_pair (logs_of image)) ≡ Ok None = ap (judge_coordinator reading) blank in
-    let some : judge_coordinator reading (coordinator_pair (logs_of image)) ≡ Ok (Some leaves.c) = leaves.found in
-    absurd (cc (none, some))
-
 -- the coordinator's devices are blank yet
 pub still_blank_image : (d e : View) (n : ℕ) (answer : Option DiskErr) → KeepsBut (IsPartLog n) d e answer → 1 < d.count → IsSettled d 0 → IsSettled d 1
     → coordinator_pair (logs_of d.bytes) ≡ BothBlank → (image : ℕ → List ℕ) → IsImage e image → coordinator_pair (logs_of image) ≡ BothBlank
@@ -98,7 +91,7 @@ module _ {D : Type 0} (r : Reading D) (asked : Shape) (parts : IsParts asked.par
   part_left image left p low =
       let q = one in
       let settled = logs_settled d q.0 p (first_view 2 p) [] q.1 in
-      let was = part_stands r (first_coordinator asked 3) d q.0 p (first_view 2 p) [] q.1 told (sound_log r (first_coordinator asked 3) p (first_view 2 p).log refl refl refl) in
+      let was = part_stands r (first_coordinator asked 3) d q.0 p (first_view 2 p) [] q.1 told (sound_log r (first_coordinator asked 3) p (first_view 2 p).log refl refl refl) refl in
       let same : PartSame (logs_of d.bytes) (logs_of image) p =
       record { a = ap entries_in (there (part_device p) (omega arith) (omega (arith, q.1.known)) settled.0); b = ap entries_in (there (part_device p + 1) (omega arith) (omega (arith, q.1.known)) settled.1) } in
       let is = part_same r (first_coordinator asked 3) (logs_of d.bytes) (logs_of image) d.bytes p (first_view 2 p) was same in
@@ -138,30 +131,22 @@ module _ {D : Type 0} (r : Reading D) (asked : Shape) (parts : IsParts asked.par
       by (inl a) = blank_stands r (logs_of image) image asked (record { a = a; b = b })
       by (inr a) = stood_stands r (logs_of image) image asked LogA (first_coordinator asked 3) (first_view 2) (stands a) ∙ ap Ok (made_found r asked 2)
 
-  -- and name no pages, where the coordinator's devices are not blank yet
-  pub begun_unnamed : EachImage e 0 (IsFirstImage asked) → EachImage e 1 IsBlankImage → (image : ℕ → List ℕ) → IsImage e image → (dev : ℕ) → LeavesPages asked image dev → ⊥
-  begun_unnamed first second image left dev leaves = by (first now (image 0) (left 0 (omega (arith, known, keeps.shape.count))))
-    where
-      by : IsFirstImage asked (image 0) → ⊥
-      by (inl a) = blank_unnamed asked image dev (both_made_blank (logs_of image) a (second now (image 1) (left 1 (omega (arith, known, keeps.shape.count))))) leaves
-      by (inr a) = no_names image leaves.p dev LogA (first_view 2 leaves.p).log (part_left image left leaves.p leaves.low).counts refl leaves.names
-
 -- where nothing was prepared, it does not matter which units are applied
 applied_any : (d : View) (x : Partition) (p q : ℕ) (applied us : List Id) → IsPartition d x p (first_view 2 q) applied → IsPartition d x p (first_view 2 q) us
 applied_any d x p q applied us is = record {
   part = is.part;
+  header = is.header;
+  which = is.which;
   entries = is.entries;
   is_log = is.is_log;
   some = is.some;
   device = is.device;
   known = is.known;
   other = is.other;
-  nulls = is.nulls;
-  pages = is.pages;
-  none = is.none;
-  keyed = is.keyed;
+  put = is.put;
   last = no_last us x.last;
   rows = is.rows;
+  keyed = is.keyed;
   told = is.told;
 }
 
@@ -182,14 +167,14 @@ begins asked d b e x kept first second blank size are opened = record {
     sound = λ told. subst (λ c. IsSound reading c (first_view 2)) (sym (is_first (before told))) (record {
       coordinator = record { defined = refl; moves = refl; rise = refl; named = refl; decided = refl };
       part = λ p low. sound_log reading (first_coordinator asked 3) p (first_view 2 p).log refl refl refl;
+      rows = λ p low. refl;
     });
   };
   keeps = opened.keeps;
   has_shape = same_shape_is opened.log.header.shape asked opened.has_shape;
   unspent = opened.unspent;
-  nulls = λ p low. or_true (nat_lt opened.log.header.format 2);
+  under = λ p low. or_true (nat_lt opened.log.header.format 2);
   finds = λ told. ap (λ pr. of_coordinator reading d.bytes asked (judge_coordinator reading pr)) (blank told) ∙ ap Stands (sym (ap (λ c. found_of c (first_view 2)) (is_first told) ∙ made_found reading asked 2));
-  no_pages = λ told dev. blank_unnamed asked d.bytes dev (blank told);
 }
   where
     own : Coordinator Definition
@@ -215,7 +200,7 @@ begins asked d b e x kept first second blank size are opened = record {
     each p q is =
         let here = if_some (slice_get x.parts p) q (λ z. IsPartition b z p (first_view 2 p) []) is (are.each p) in
         applied_any e q p p [] (decided_by own p)
-        (partition_kept b e q p (first_view 2 p) [] second.shape (second.kept (part_device p) (no_coordinator (part_device p) (omega arith))) (second.kept (part_device p + 1) (no_coordinator (part_device p + 1) (omega arith))) here)
+        (partition_kept b e q p (first_view 2 p) [] second.shape (second.kept (part_device p) (no_coordinator (part_device p) (omega arith))) (second.kept (part_device p + 1) (no_coordinator (part_device p + 1) (omega arith))) (second.kept (pages_device p) (no_coordinator (pages_device p) (omega arith))) here)
       where
         no_coordinator : (dev : ℕ) → 1 < dev → IsCoordinatorLog dev → ⊥
         no_coordinator dev h (inl e') = omega (arith, h, e')
@@ -227,3 +212,7 @@ wider_parts n d e answer keeps = keeps_wider (IsPartLog n) (IsStoreLog n) d e an
 
 pub wider_opened : (n : ℕ) (d b e : View) (answer : Option DiskErr) → KeepsBut (IsPartLog n) d b None → KeepsBut IsCoordinatorLog b e answer → KeepsBut (IsStoreLog n) d e answer
 wider_opened n d b e answer first second = keeps_on (IsStoreLog n) d b e answer (wider_parts n d b None first) (keeps_wider IsCoordinatorLog (IsStoreLog n) b e answer (λ dev t. inl t) second)
+
+-- of the devices of a store
+pub wider_begun : (n : ℕ) (d e : View) (answer : Option DiskErr) → KeepsBut (IsStoreLog n) d e answer → KeepsBut (IsStoreDevice n) d e answer
+wider_begun n d e answer keeps = keeps_wider (IsStoreLog n) (IsStoreDevice n) d e answer (λ dev t. inl t) keeps

@@ -32,7 +32,7 @@ module _ {D : Type 0} (r : Reading D) (d e : View) (x : Store) (which : WhichLog
         (λ told. makes_boot r d x which c v is told (spell_entry (Boots (last_boot x + 1))) boot_spelled) keeps parts decisions
 
   -- A DEFINITION
-  module _ (text : List ℕ) (def : D) (room : last_decision x + 1 < 2 ^ 64) (short : Rattle.std.proofs.Common.length text < 2 ^ 64) (may : MayDefine r c text def) (grows : StaysFitting r c.definitions def) where
+  module _ (text : List ℕ) (def : D) (room : last_decision x + 1 < 2 ^ 64) (short : Rattle.std.proofs.Common.length text < 2 ^ 64) (may : IsTrue d.told → MayDefine r c text def) (grows : StaysFitting r c.definitions def) where
     payload : List ℕ
     payload = spell_entry (Defines (next_definition x.decisions text))
 
@@ -49,11 +49,11 @@ module _ {D : Type 0} (r : Reading D) (d e : View) (x : Store) (which : WhichLog
     unfolding payload
     definition_images answer keeps told images =
         each_image r d x which c v is e answer keeps told payload (with_definition c (next_text c text) def) (pages_same r d x which c v is told)
-        (makes_definition r d x which c v is told payload (next_text c text) def text_spelled refl may.reads may.accepted grows) images
+        (makes_definition r d x which c v is told payload (next_text c text) def text_spelled refl (may told).reads (may told).accepted grows) images
 
     pub definition_ok : (y : Store) → KeepsOthers (device_in x.decisions) d e None → y.parts ≡ x.parts → IsDecisions e y.decisions which (defined c.log (next_definition x.decisions text))
         → IsStore r e y which (with_definition c (next_text c text) def) v
     definition_ok y keeps parts decisions =
         after_entry r d x which c v is e y payload (with_definition c (next_text c text) def) refl (λ p. refl)
-        (λ told. makes_definition r d x which c v is told payload (next_text c text) def text_spelled refl may.reads may.accepted grows) keeps parts
+        (λ told. makes_definition r d x which c v is told payload (next_text c text) def text_spelled refl (may told).reads (may told).accepted grows) keeps parts
         (subst (λ t. IsDecisions e y.decisions which (defined c.log t)) same_text decisions)

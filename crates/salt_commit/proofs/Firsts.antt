@@ -1,10 +1,11 @@
 -- The store of a new database.
 use Rattle.salt_bytes.specs.Generations.{LogA}
-use Rattle.salt_commit.specs.Stores.{ArePartitions, IsStore}
+use Rattle.salt_commit.specs.Stores.{IsStore}
 use Rattle.salt_commit.specs.declared.store.Store.{Store}
 use Rattle.salt_decisions.specs.Decisions.{IsDecisions}
 use Rattle.salt_decisions.specs.Opened.{begun}
 use Rattle.salt_disk.specs.Disks.{View}
+use Rattle.salt_paged.specs.Partitions.{ArePartitions}
 use Rattle.salt_stands.proofs.Prepared.{sound_log}
 use Rattle.salt_stands.specs.FirstOpening.{first_coordinator, first_view}
 use Rattle.salt_stands.specs.Reading.{Reading}
@@ -21,5 +22,6 @@ first_store r d x asked decisions size parts = record {
   sound = λ told. record {
     coordinator = record { defined = refl; moves = refl; rise = refl; named = refl; decided = refl };
     part = λ p low. sound_log r (first_coordinator asked 3) p (first_view 2 p).log refl refl refl;
+    rows = λ p low. refl;
   };
 }

@@ -1,22 +1,16 @@
--- The formats of logs.
+-- The formats of a coordinator's log.
 use Rattle.salt_bytes.specs.Conts.{take_cont}
 use Rattle.salt_bytes.specs.Coordinator.{CoordinatorHeader, header_in, is_number_of_parts, take_header, take_kind, take_numbered, take_word}
-use Rattle.salt_bytes.specs.Formats.{has_nulls}
 use Rattle.salt_bytes.specs.Generations.{Counts, IsRead, LogA, LogB, WhichLog, content_of, read_or_outside}
-use Rattle.salt_bytes.specs.Numbers.{take_32, take_64, take_counted}
-use Rattle.salt_bytes.specs.Partition.{PartitionHeader, is_side, partition_header_in, take_partition_header}
-use Rattle.salt_bytes.specs.Taking.{Take, give, go_on, if_all, only_if, take_byte, take_bytes, then_take}
+use Rattle.salt_bytes.specs.Numbers.{take_64, take_counted}
+use Rattle.salt_bytes.specs.Taking.{Take, give, go_on, if_all, only_if, take_byte, then_take}
 use Rattle.salt_stands.proofs.Booleans.{right}
 use Rattle.salt_stands.proofs.Pairs.{is_read_a, is_read_b}
 use Rattle.salt_stands.specs.Coordinator.{Logs, coordinator_pair}
 use Rattle.salt_stands.specs.CoordinatorLog.{CoordinatorLog, Told, coordinator_generation, coordinator_in, heard, told_by_header, with_told}
-use Rattle.salt_stands.specs.Partition.{is_format_under}
-use Rattle.salt_stands.specs.PartitionLog.{PartitionLog, gathered, own_log, partition_in, with_prepared}
-use Rattle.std.proofs.Common.{Bool, List, None, Option, Some, [], ap, arith, codes, false, refl, subst, true, ℕ, ◌<◌, ◌≡◌, ◌≤◌, ◌∙◌, ◌∷◌}
+use Rattle.std.proofs.Common.{Bool, List, None, Option, Some, [], ap, arith, codes, false, refl, subst, true, ℕ, ◌≡◌, ◌≤◌, ◌∙◌, ◌∷◌}
 use Rattle.std.proofs.lemmas.Bool.Decides.{nat_tests}
-use Rattle.std.specs.List.{list_all}
-use Rattle.std.specs.Prelude.{nat_le, nat_lt, option_and_then, ◌&&◌, ◌==◌, ◌||◌}
-use Rattle.std.specs.Bool.{then_some}
+use Rattle.std.specs.Prelude.{nat_le, option_and_then, ◌&&◌}
 
 -- whatever is taken has P
 record Gives {A : Type 0} (take : Take A) (P : A → Type 0) : Type 0 where
@@ -35,55 +29,6 @@ then_gives {A = A} {B = B} P take next h = record { each = λ bytes rest y e. by
     by : (o : Option (A × List ℕ)) (rest : List ℕ) (y : B) → go_on next o ≡ Some (y, rest) → P y
     by None rest y e = absurd (cc e)
     by (Some taken) rest y e = (h taken.0).each taken.1 rest y e
-
-HasFormat : PartitionHeader → Type 0
-HasFormat h = h.format < 3
-
-low_format : (format : ℕ) → (nat_le 1 format && nat_le format 2) ≡ true → format < 3
-low_format format e = let h = right (nat_le 1 format) (nat_le format 2) e in grind (arith, nat_tests)
-
-header_gives : Gives take_partition_header HasFormat
-unfolding HasFormat
-header_gives =
-    then_gives HasFormat (take_word (codes "SALTP")) _ (λ word.
-    then_gives HasFormat take_byte _ (λ format. if_only HasFormat (nat_le 1 format && nat_le format 2) _ (λ is.
-    then_gives HasFormat take_64 _ (λ generation. if_only HasFormat (nat_le 1 generation) _ (λ first.
-    then_gives HasFormat take_byte _ (λ part.
-    then_gives HasFormat (then_take take_32 take_bytes) _ (λ sides. if_only HasFormat (list_all is_side sides) _ (λ each.
-    given_one HasFormat _ (low_format format is)))))))))
-
-header_format : (bytes : List ℕ) (h : PartitionHeader) → partition_header_in bytes ≡ Some h → h.format < 3
-unfolding HasFormat
-header_format bytes h e = by (take_partition_header bytes) refl e
-  where
-    by : (o : Option (PartitionHeader × List ℕ)) → take_partition_header bytes ≡ o → if_all o ≡ Some h → h.format < 3
-    by None is e' = absurd (cc e')
-    by (Some (x, [])) is e' = let same : x ≡ h = cc e' in subst HasFormat same (header_gives.each bytes [] x is)
-    by (Some (x, b ∷ bs)) is e' = absurd (cc e')
-
--- a log that was read has one of two formats
-pub log_format : (p : ℕ) (entries : List (List ℕ)) (log : PartitionLog) → partition_in p entries ≡ Some log → log.header.format < 3
-log_format p [] log e = absurd (cc e)
-log_format p (first ∷ payloads) log e = by (partition_header_in first) refl e
-  where
-    own : (h : PartitionHeader) (b : Bool) → option_and_then (λ own. with_prepared own (gathered (has_nulls own.format) (Some []) payloads)) (then_some b h) ≡ Some log → h.format ≡ log.header.format
-    own h false e' = absurd (cc e')
-    own h true e' = found (gathered (has_nulls h.format) (Some []) payloads) e'
-      where
-        found : (o : Option (List Rattle.salt_bytes.specs.Partition.Prepared)) → with_prepared h o ≡ Some log → h.format ≡ log.header.format
-        found None e'' = absurd (cc e'')
-        found (Some ps) e'' = let same : record { header = h; prepared = ps } ≡ log = cc e'' in ap (λ (l : PartitionLog). l.header.format) same
-
-    by : (o : Option PartitionHeader) → partition_header_in first ≡ o → option_and_then (λ h. own_log p h payloads) o ≡ Some log → log.header.format < 3
-    by None is e' = absurd (cc e')
-    by (Some h) is e' = let f = header_format first h is in let same = own h (h.part == p) e' in omega (arith, f, same)
-
--- where NULL is spelled, it is the second
-pub format_under : (format own : ℕ) (nulls : Bool) → nulls ≡ has_nulls own → own < 3 → (nat_lt format 2 || nulls) ≡ is_format_under format own
-format_under format own nulls is low = ap (λ b. nat_lt format 2 || b) (is ∙ second own low)
-  where
-    second : (own : ℕ) → own < 3 → has_nulls own ≡ (own == 2)
-    second own low = grind (arith, nat_tests)
 
 -- OF THE COORDINATOR
 

@@ -1,14 +1,13 @@
 -- The rows of a reach, put one after another.
 use Rattle.salt_ast.specs.declared.trees.TableDef.{TableDef}
 use Rattle.salt_bytes.specs.Generations.{WhichLog}
-use Rattle.salt_commit.proofs.Fit.{also, is_row_at}
-use Rattle.salt_commit.proofs.Keyed.{store_keyed}
-use Rattle.salt_commit.proofs.Shown.{store_shown}
+use Rattle.salt_commit.proofs.Reading.{asked_keyed, asked_stay}
+use Rattle.salt_commit.proofs.Sound.{is_row_at, store_keyed}
 use Rattle.salt_commit.proofs.Standing.{partitions_kept}
-use Rattle.salt_commit.specs.Loads.{IsPartOf, IsRowAt, shown_in_all}
+use Rattle.salt_commit.specs.Loads.{IsPartOf, IsRowAt}
 use Rattle.salt_commit.specs.Messages.{messages_of}
-use Rattle.salt_commit.specs.Reads.{StandsInPlace}
-use Rattle.salt_commit.specs.Stores.{IsStore, decided_by, numbers_in, reading, rows_of_store}
+use Rattle.salt_commit.specs.Reads.{places_asked, places_in}
+use Rattle.salt_commit.specs.Stores.{IsStore, StandsOnDevices, decided_by, numbers_in, reading, shape_of_store}
 use Rattle.salt_commit.specs.declared.store.Store.{Store}
 use Rattle.salt_decisions.proofs.Framed.{decisions_kept}
 use Rattle.salt_disk.proofs.CallAfterCall.{cause_on, cause_none, keeps_on, same_shape}
@@ -18,7 +17,6 @@ use Rattle.salt_disk.specs.declared.disks.DiskErr.{DiskErr}
 use Rattle.salt_eval.proofs.InOrder.{less_is, parted, tables_of-list}
 use Rattle.salt_eval.proofs.Scanning.{fewer, rows_after-next, rows_after-none}
 use Rattle.salt_eval.specs.Meets.{meets_table}
-use Rattle.salt_eval.specs.Scans.{IsKeyed}
 use Rattle.salt_eval.specs.Views.{is_next, next_row, rows_after, tables_of}
 use Rattle.salt_model.specs.Kept.{Definition}
 use Rattle.salt_model.specs.Tables.{Entry, Tables, is_within, place, place_cmp, place_total, row_at}
@@ -30,16 +28,17 @@ use Rattle.salt_ranges.specs.declared.range.KeyRange.{KeyRange}
 use Rattle.salt_stands.proofs.Places.{place_same}
 use Rattle.salt_stands.specs.Commits.{found_of}
 use Rattle.salt_stands.specs.Coordinator.{Coordinator}
-use Rattle.salt_stands.specs.Partition.{part_device}
+use Rattle.salt_stands.specs.Partition.{pages_device, part_device}
 use Rattle.salt_stands.specs.Pieces.{PartView}
 use Rattle.salt_values.specs.declared.value.Value.{Value}
-use Rattle.std.proofs.Common.{List, None, Option, Some, [], ap, append_assoc, length, refl, subst, sym, true, ℕ, ◌+◌, ◌++◌, ◌<◌, ◌≡◌, ◌∙◌, ◌∷◌}
+use Rattle.std.proofs.Common.{IsTrue, List, None, Option, Some, [], ap, append_assoc, length, refl, subst, sym, true, ℕ, ◌+◌, ◌++◌, ◌<◌, ◌≡◌, ◌∙◌, ◌∷◌}
 use Rattle.std.proofs.lemmas.List.{append-nil}
 use Rattle.std.specs.BTreeMap.{insert_entry}
-use Rattle.std.specs.FinMap.Entries.{below_all, find, find-where_key, is_sorted, is_sorted-where_key}
+use Rattle.std.specs.FinMap.Entries.{below_all, by_order, find, find-where_key, is_sorted, is_sorted-where_key, put}
 use Rattle.std.specs.Ordering.{match_ordering, ordering_reverse}
-use Rattle.std.specs.Prelude.{Bool, cond, false, if◌then◌else◌, ◌&&◌, ◌==◌}
-use Rattle.std.specs.declared.cmp.Ordering.TheVariants.{Greater, Less}
+use Rattle.std.specs.Prelude.{Bool, cond, false, if◌then◌else◌, option_map, ◌&&◌, ◌==◌}
+use Rattle.std.specs.declared.cmp.Ordering.TheVariants.{Equal, Greater, Less}
+use Rattle.std.specs.declared.cmp.Ordering.{Ordering}
 use Rattle.salt_values.specs.Value.{key_of}
 use lib.Dec.{T}
 
@@ -60,6 +59,10 @@ put_last p row (e ∷ es) rest h =
 rows_sorted : (t : ℕ) (range : KeyRange) (after : Option Value) (es : Tables) → T (is_sorted place_cmp (rows_after t range after es))
 rows_sorted t range after es = is_sorted-where_key place_cmp (is_next t range after) es.list es.sorted
 
+also : (b : Bool) → (b && true) ≡ b
+also true = refl
+also false = refl
+
 if_same : {X : Type 0} (b : Bool) (x y : X) → cond b x y ≡ (if b then x else y)
 if_same true x y = refl
 if_same false x y = refl
@@ -74,16 +77,37 @@ whole_part r rows es is q =
     ∙ ap (λ b. cond b (row_at q es) None) (also ((r.table == q.table) && has_key r.range q.key))
     ∙ if_same (is_within r q) (row_at q es) None
 
-every_last : (P : Entry → Type 0) (es : List Entry) (e : Entry) → Every P es → P e → Every P (es ++ e ∷ [])
-every_last P [] e h p = (p, tt)
-every_last P (x ∷ es) e h p = (h.0, every_last P es e h.1 p)
+-- EACH ROW, wherever it is put
+module _ (P : Place → List Value → Type 0) where
+  pub every_insert : (es : List Entry) (k : Place) (row : List Value) → Every (λ (e : Entry). P e.0 e.1) es → P k row → Every (λ (e : Entry). P e.0 e.1) (insert_entry place_cmp es k row)
+  every_insert [] k row h one = (one, tt)
+  every_insert (e ∷ es) k row h one = by (place_cmp k e.0) refl (every_insert es k row h.1 one)
+    where
+      by : (o : Ordering) → place_cmp k e.0 ≡ o → Every (λ (e : Entry). P e.0 e.1) (insert_entry place_cmp es k row) → Every (λ (e : Entry). P e.0 e.1) (match_ordering o ((k, row) ∷ e ∷ es) ((e.0, row) ∷ es) (e ∷ insert_entry place_cmp es k row))
+      by Less is more = (one, h)
+      by Equal is more = (subst (λ (q : Place). P q row) (place_same k e.0 is) one, h.1)
+      by Greater is more = (h.0, more)
+
+  every_put : (es : List Entry) (k : Place) (row : List Value) → Every (λ (e : Entry). P e.0 e.1) es → P k row → Every (λ (e : Entry). P e.0 e.1) (put place_cmp k row es)
+  every_put [] k row h one = (one, tt)
+  every_put (e ∷ es) k row h one = by (place_cmp k e.0) refl (every_put es k row h.1 one)
+    where
+      by : (o : Ordering) → place_cmp k e.0 ≡ o → Every (λ (e : Entry). P e.0 e.1) (put place_cmp k row es) → Every (λ (e : Entry). P e.0 e.1) (by_order o ((k, row) ∷ e ∷ es) ((e.0, row) ∷ es) (e ∷ put place_cmp k row es))
+      by Less is more = (one, h)
+      by Equal is more = (subst (λ (q : Place). P q row) (place_same k e.0 is) one, h.1)
+      by Greater is more = (h.0, more)
+
+  -- also as tables
+  pub every_row : (es : List Entry) → Every (λ (e : Entry). P e.0 e.1) es → Every (λ (e : Entry). P e.0 e.1) (tables_of es).list
+  every_row [] h = tt
+  every_row (e ∷ es) h = every_put (tables_of es).list e.0 e.1 (every_row es h.1) h.0
 
 -- A STORE is as it was after calls that write nothing
 store_same : (d e : View) (x : Store) (which : WhichLog) (c : Coordinator Definition) (v : ℕ → PartView) → SameShape d e → ((dev : ℕ) → IsUnchanged d e dev) → IsStore reading d x which c v → IsStore reading e x which c v
 store_same d e x which c v shape kept is = record {
   decisions = decisions_kept d e x.decisions which c.log shape (kept 0) (kept 1) is.decisions;
   size = is.size;
-  parts = partitions_kept d e x.parts v (decided_by c) shape (λ p. kept (part_device p)) (λ p. kept (part_device p + 1)) is.parts;
+  parts = partitions_kept d e x.parts v (decided_by c) shape (λ p. kept (part_device p)) (λ p. kept (part_device p + 1)) (λ p. kept (pages_device p)) is.parts;
   sound = λ told. is.sound (sym shape.told ∙ told);
 }
 
@@ -102,9 +126,8 @@ pub record LoadedSoFar (d0 d : View) (x0 x : Store) (t : ℕ) (range : KeyRange)
   pub is : (which : WhichLog) (c : Coordinator Definition) (v : ℕ → PartView) → IsStore reading d0 x0 which c v → IsStore reading d x which c v
   pub keeps : KeepsAll d0 d None
   pub cause : HasCause d0 d None
-  pub rest : (which : WhichLog) (c : Coordinator Definition) (v : ℕ → PartView) → IsStore reading d0 x0 which c v → rows ++ rows_after t range after (rows_of c v) ≡ rows_after t range None (rows_of c v)
+  pub rest : IsTrue d0.told → (which : WhichLog) (c : Coordinator Definition) (v : ℕ → PartView) → IsStore reading d0 x0 which c v → rows ++ rows_after t range after (rows_of c v) ≡ rows_after t range None (rows_of c v)
   pub typed : Every (λ (e : Entry). IsRowAt schema e.0 e.1) rows
-  pub stay : rows_of_store x ≡ rows_of_store x0
   pub numbers : numbers_in x ≡ numbers_in x0
   pub messages : messages_of x ≡ messages_of x0
 
@@ -113,71 +136,69 @@ none_loaded d x t range schema rows none = subst (λ (l : List Entry). LoadedSoF
   is = λ which c v is. is;
   keeps = record { shape = same_shape d; kept = λ dev other. record { bytes = refl; images = λ c left. left }; images = λ dev other c left. left };
   cause = cause_none d;
-  rest = λ which c v is. refl;
+  rest = λ told which c v is. refl;
   typed = tt;
-  stay = refl;
   numbers = refl;
   messages = refl;
 })
 
-module _ (d0 d : View) (x0 x : Store) (t : ℕ) (range : KeyRange) (schema : List TableDef) (rows : List Entry) (after : Option Value) (so_far : LoadedSoFar d0 d x0 x t range schema rows after) (s : StandsInPlace d0 x0) where
-  pub still_stands : StandsInPlace d x
-  still_stands = record { which = s.which; c = s.c; v = s.v; is = so_far.is s.which s.c s.v s.is; placed = s.placed }
+module _ (d0 d : View) (x0 x : Store) (t : ℕ) (range : KeyRange) (schema : List TableDef) (rows : List Entry) (after : Option Value) (so_far : LoadedSoFar d0 d x0 x t range schema rows after) where
+  pub still_stands : StandsOnDevices d0 x0 → StandsOnDevices d x
+  still_stands s = record { which = s.which; c = s.c; v = s.v; is = so_far.is s.which s.c s.v s.is }
 
   -- with one row more
-  module _ (row : List Value) (next : (which : WhichLog) (c : Coordinator Definition) (v : ℕ → PartView) → IsStore reading d x which c v → Some row ≡ next_row t range after (rows_of c v)) where
-    one_next : (which : WhichLog) (c : Coordinator Definition) (v : ℕ → PartView) → IsStore reading d0 x0 which c v
-        → rows_after t range after (rows_of c v) ≡ (place t (key_of row), row) ∷ rows_after t range (Some (key_of row)) (rows_of c v)
-    one_next which c v is =
-        let now = so_far.is which c v is in
-        rows_after-next t range after (rows_of c v) row (next which c v now) (store_keyed reading d x which c v now)
+  module _ (row : List Value) (next : (which : WhichLog) (c : Coordinator Definition) (v : ℕ → PartView) → IsStore reading d x which c v → IsTrue d.told → Some row ≡ next_row t range after (rows_of c v)) where
+    module _ (told : IsTrue d0.told) (which : WhichLog) (c : Coordinator Definition) (v : ℕ → PartView) (is : IsStore reading d0 x0 which c v) where
+      one_next : rows_after t range after (rows_of c v) ≡ (place t (key_of row), row) ∷ rows_after t range (Some (key_of row)) (rows_of c v)
+      one_next =
+          let now = so_far.is which c v is in
+          rows_after-next t range after (rows_of c v) row (next which c v now (so_far.keeps.shape.told ∙ told)) (store_keyed reading d x which c v now)
 
-    one_more : insert_entry place_cmp rows (place t (key_of row)) row ≡ rows ++ (place t (key_of row), row) ∷ []
-    one_more =
-        let es = rows_of s.c s.v in
-        put_last (place t (key_of row)) row rows (rows_after t range (Some (key_of row)) es)
-        (subst (λ (l : List Entry). T (is_sorted place_cmp l)) (sym (so_far.rest s.which s.c s.v s.is) ∙ ap (λ l. rows ++ l) (one_next s.which s.c s.v s.is)) (rows_sorted t range None es))
+      one_more : insert_entry place_cmp rows (place t (key_of row)) row ≡ rows ++ (place t (key_of row), row) ∷ []
+      one_more =
+          let es = rows_of c v in
+          put_last (place t (key_of row)) row rows (rows_after t range (Some (key_of row)) es)
+          (subst (λ (l : List Entry). T (is_sorted place_cmp l)) (sym (so_far.rest told which c v is) ∙ ap (λ l. rows ++ l) one_next) (rows_sorted t range None es))
 
     pub one_loaded : (e f : View) (y : Store) (key : Value) (now : List Entry)
         → KeepsAll d e None → HasCause d e None → ((which : WhichLog) (c : Coordinator Definition) (v : ℕ → PartView) → IsStore reading d x which c v → IsStore reading e y which c v)
         → KeepsAll e f None → HasCause e f None → meets_table schema t row ≡ true
-        → key ≡ key_of row → now ≡ insert_entry place_cmp rows (place t (key_of row)) row → rows_of_store y ≡ rows_of_store x → numbers_in y ≡ numbers_in x → messages_of y ≡ messages_of x → LoadedSoFar d0 f x0 y t range schema now (Some key)
-    one_loaded e f y key now keeps cause is keeps' cause' meets is_key put same counted net =
-        let made = put ∙ one_more in
-        record {
-          is = λ which c v stood. store_unless e f y which c v None keeps' (is which c v (so_far.is which c v stood));
-          keeps = keeps_on (λ _. ⊥) d0 e f None (keeps_on (λ _. ⊥) d0 d e None so_far.keeps keeps) keeps';
-          cause = cause_on d0 e f None (cause_on d0 d e None so_far.cause cause) cause';
-          rest = λ which c v stood.
-              let es = rows_of c v in
-              ap (λ l. l ++ rows_after t range (Some key) es) made
-              ∙ ap (λ k. (rows ++ (place t (key_of row), row) ∷ []) ++ rows_after t range (Some k) es) is_key
-              ∙ append_assoc rows ((place t (key_of row), row) ∷ []) (rows_after t range (Some (key_of row)) es)
-              ∙ ap (λ l. rows ++ l) (sym (one_next which c v stood))
-              ∙ so_far.rest which c v stood;
-          typed = subst (Every (λ (e : Entry). IsRowAt schema e.0 e.1)) (sym made) (every_last (λ (e : Entry). IsRowAt schema e.0 e.1) rows (place t (key_of row), row) so_far.typed (is_row_at schema t row meets, refl));
-          stay = same ∙ so_far.stay;
-          numbers = counted ∙ so_far.numbers;
-          messages = net ∙ so_far.messages;
-        }
+        → key ≡ key_of row → now ≡ insert_entry place_cmp rows (place t (key_of row)) row → numbers_in y ≡ numbers_in x → messages_of y ≡ messages_of x → LoadedSoFar d0 f x0 y t range schema now (Some key)
+    one_loaded e f y key now keeps cause is keeps' cause' meets is_key put_in counted net = record {
+      is = λ which c v stood. store_unless e f y which c v None keeps' (is which c v (so_far.is which c v stood));
+      keeps = keeps_on (λ _. ⊥) d0 e f None (keeps_on (λ _. ⊥) d0 d e None so_far.keeps keeps) keeps';
+      cause = cause_on d0 e f None (cause_on d0 d e None so_far.cause cause) cause';
+      rest = λ told which c v stood.
+          let es = rows_of c v in
+          ap (λ l. l ++ rows_after t range (Some key) es) (put_in ∙ one_more told which c v stood)
+          ∙ ap (λ k. (rows ++ (place t (key_of row), row) ∷ []) ++ rows_after t range (Some k) es) is_key
+          ∙ append_assoc rows ((place t (key_of row), row) ∷ []) (rows_after t range (Some (key_of row)) es)
+          ∙ ap (λ l. rows ++ l) (sym (one_next told which c v stood))
+          ∙ so_far.rest told which c v stood;
+      typed = subst (Every (λ (e : Entry). IsRowAt schema e.0 e.1)) (sym put_in) (every_insert (IsRowAt schema) rows (place t (key_of row)) row so_far.typed (is_row_at schema t row meets, refl));
+      numbers = counted ∙ so_far.numbers;
+      messages = net ∙ so_far.messages;
+    }
 
   -- where no row is next, all are loaded
-  pub all_loaded : (r : Reach) → r.table ≡ t → r.range ≡ range → (which : WhichLog) (c : Coordinator Definition) (v : ℕ → PartView) → IsStore reading d0 x0 which c v → None ≡ next_row t range after (rows_of c v) → rows ≡ rows_after t range None (rows_of c v)
-  all_loaded r table same which c v is none = sym (append-nil rows) ∙ ap (λ l. rows ++ l) (sym (rows_after-none t range after (rows_of c v) none)) ∙ so_far.rest which c v is
+  pub all_loaded : IsTrue d0.told → (which : WhichLog) (c : Coordinator Definition) (v : ℕ → PartView) → IsStore reading d0 x0 which c v → None ≡ next_row t range after (rows_of c v) → rows ≡ rows_after t range None (rows_of c v)
+  all_loaded told which c v is none = sym (append-nil rows) ∙ ap (λ l. rows ++ l) (sym (rows_after-none t range after (rows_of c v) none)) ∙ so_far.rest told which c v is
 
-typed_list : (schema : List TableDef) (rows : List Entry) → T (is_sorted place_cmp rows) → Every (λ (e : Entry). IsRowAt schema e.0 e.1) rows → Every (λ (e : Entry). IsRowAt schema e.0 e.1) (tables_of rows).list
-typed_list schema rows sorted typed = subst (Every (λ (e : Entry). IsRowAt schema e.0 e.1)) (sym (tables_of-list rows sorted)) typed
-
-pub typed_rows : (schema : List TableDef) (t : ℕ) (range : KeyRange) (es : Tables) (rows : List Entry) → rows ≡ rows_after t range None es → Every (λ (e : Entry). IsRowAt schema e.0 e.1) rows → Every (λ (e : Entry). IsRowAt schema e.0 e.1) (tables_of rows).list
-typed_rows schema t range es rows is typed = typed_list schema rows (subst (λ (l : List Entry). T (is_sorted place_cmp l)) (sym is) (rows_sorted t range None es)) typed
-
--- behind the row that was put fewer rows are left
-pub fewer_left : (d e : View) (x y : Store) (which : WhichLog) (c : Coordinator Definition) (v : ℕ → PartView) → IsStore reading d x which c v → IsStore reading e y which c v
-    → (t : ℕ) (range : KeyRange) (after : Option Value) (row : List Value) (key : Value) → Some row ≡ next_row t range after (rows_of c v) → key ≡ key_of row
-    → length (rows_after t range (Some key) (shown_in_all y.parts)) < length (rows_after t range after (shown_in_all x.parts))
-fewer_left d e x y which c v is now t range after row key next is_key =
-    let was = store_shown reading d x which c v is in
-    fewer t range after (shown_in_all x.parts) row key (shown_in_all y.parts) (next ∙ ap (next_row t range after) (sym was)) (subst IsKeyed (sym was) (store_keyed reading d x which c v is)) is_key (store_shown reading e y which c v now ∙ sym was)
+-- behind the row that was put fewer places are left, whatever the disks tell
+pub fewer_left : (x y : Store) (t : ℕ) (range : KeyRange) (after : Option Value) (row : List Value) (key : Value) → Some (key_of row) ≡ option_map key_of (next_row t range after (places_asked x range)) → key ≡ key_of row
+    → places_in y ≡ places_in x → shape_of_store y ≡ shape_of_store x
+    → length (rows_after t range (Some key) (places_asked y range)) < length (rows_after t range after (places_asked x range))
+fewer_left x y t range after row key next is_key same shape = by (next_row t range after (places_asked x range)) refl next
+  where
+    by : (o : Option (List Value)) → next_row t range after (places_asked x range) ≡ o → Some (key_of row) ≡ option_map key_of o → length (rows_after t range (Some key) (places_asked y range)) < length (rows_after t range after (places_asked x range))
+    by None is none = absurd (clash none)
+      where
+        clash : Some (key_of row) ≡ None → ⊥
+        clash wrong = cc
+    by (Some other) is some = fewer t range after (places_asked x range) other key (places_asked y range) (sym is) (asked_keyed x range) (is_key ∙ keys some) (asked_stay x y range same shape)
+      where
+        keys : Some (key_of row) ≡ Some (key_of other) → key_of row ≡ key_of other
+        keys e = cc
 
 pub none_left : {A : Type 0} (o : Option A) → ((x : A) → o ≡ Some x → ⊥) → None ≡ o
 none_left None not_some = refl

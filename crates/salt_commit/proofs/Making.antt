@@ -1,28 +1,18 @@
 -- The first n partitions are made.
-use Rattle.salt_commit.proofs.Standing.{if_some, make_some}
-use Rattle.salt_commit.specs.Openings.{HasRoom}
+use Rattle.salt_paged.proofs.Framed.{partition_kept}
+use Rattle.salt_paged.specs.Partitions.{IsPartition}
+use Rattle.salt_parts.proofs.Lists.{each_push, if_some, longer, make_some, not_past}
+use Rattle.salt_parts.specs.Openings.{HasRoom}
 use Rattle.salt_stands.specs.LogDevices.{IsPartLog, IsPartitionLog}
 use Rattle.salt_disk.proofs.CallAfterCall.{cause_on, cause_none, keeps_on, keeps_wider, same_shape}
 use Rattle.salt_disk.specs.Disks.{HasCause, IsSettled, IsUnchanged, KeepsBut, View}
 use Rattle.salt_disk.specs.declared.disks.DiskErr.TheVariants.{Memory}
 use Rattle.salt_disk.specs.declared.disks.DiskErr.{DiskErr}
-use Rattle.salt_partition.proofs.Framed.{partition_kept}
-use Rattle.salt_partition.specs.Partitions.{IsPartition}
-use Rattle.salt_partition.specs.declared.partition.Partition.{Partition}
+use Rattle.salt_paged.specs.declared.partition.Partition.{Partition}
 use Rattle.salt_stands.specs.FirstOpening.{first_view}
-use Rattle.salt_stands.specs.Partition.{part_device}
-use Rattle.std.proofs.Common.{List, None, Option, Some, [], ap, arith, inl, inr, length, refl, subst, sym, ℕ, ◌+◌, ◌++◌, ◌<◌, ◌≡◌, ◌≢◌, ◌≤◌, ◌⊎◌, ◌∙◌, ◌∷◌}
-use Rattle.std.specs.Prelude.{IfSome, slice_get, suc, zero}
-
--- what holds of each holds with one more
-pub each_push : {X : Type 0} (P : ℕ → X → Type 0) (xs : List X) (n k : ℕ) (y : X) → length xs + k ≡ n → ((p : ℕ) → IfSome (slice_get xs p) (P (k + p))) → P n y → (p : ℕ) → IfSome (slice_get (xs ++ y ∷ []) p) (P (k + p))
-each_push P [] n k y e each one zero = let at : n ≡ k + 0 = omega (arith, e) in subst (λ m. P m y) at one
-each_push P [] n k y e each one (suc p) = tt
-each_push P (x ∷ xs) n k y e each one zero = each 0
-each_push P (x ∷ xs) n k y e each one (suc p) =
-    let at : (q : ℕ) → k + suc q ≡ suc k + q = λ q. omega arith in
-    subst (λ m. IfSome (slice_get (xs ++ y ∷ []) p) (P m)) (sym (at p))
-    (each_push P xs n (suc k) y (omega (arith, e)) (λ q. subst (λ m. IfSome (slice_get xs q) (P m)) (at q) (each (suc q))) one p)
+use Rattle.salt_stands.specs.Partition.{pages_device, part_device}
+use Rattle.std.proofs.Common.{List, None, Option, Some, [], ap, arith, inl, inr, length, refl, subst, sym, ℕ, ◌+◌, ◌++◌, ◌<◌, ◌≡◌, ◌≢◌, ◌⊎◌, ◌∙◌, ◌∷◌}
+use Rattle.std.specs.Prelude.{IfSome, slice_get}
 
 pub record MadeSoFar (d0 d : View) (made : List Partition) (n : ℕ) : Type 0 where
   pub size : length made ≡ n
@@ -69,22 +59,18 @@ module _ (d0 d : View) (made : List Partition) (n : ℕ) (so_far : MadeSoFar d0 
     cause = cause_on d0 d e None so_far.cause cause;
   }
     where
-      longer : (xs : List Partition) (y : Partition) → length (xs ++ y ∷ []) ≡ length xs + 1
-      longer [] y = refl
-      longer (z ∷ xs) y = let h = longer xs y in omega (arith, h)
-
       below : (p : ℕ) (y : Partition) → slice_get made p ≡ Some y → p ≢ n
-      below p y is' same = gone made p y is' (omega (arith, same, so_far.size))
-        where
-          gone : (xs : List Partition) (k : ℕ) (z : Partition) → slice_get xs k ≡ Some z → length xs ≤ k → ⊥
-          gone [] k z e' h = cc
-          gone (w ∷ xs) zero z e' h = omega (arith, h)
-          gone (w ∷ xs) (suc k) z e' h = gone xs k z e' (omega (arith, h))
+      below p y is' same = not_past made p y is' (omega (arith, same, so_far.size))
+
+      no_log : (p : ℕ) → IsPartitionLog n (pages_device p) → ⊥
+      no_log p (inl same) = omega (arith, same)
+      no_log p (inr same) = omega (arith, same)
 
       kept : (p : ℕ) → IfSome (slice_get made p) (λ y. IsPartition e y p (first_view 2 p) [])
       kept p = make_some (slice_get made p) (λ y. IsPartition e y p (first_view 2 p) []) (λ y is'. partition_kept d e y p (first_view 2 p) [] others.shape
           (others.kept (part_device p) (λ t. below p y is' (other_part p n (part_device p) (inl refl) t)))
           (others.kept (part_device p + 1) (λ t. below p y is' (other_part p n (part_device p + 1) (inr refl) t)))
+          (others.kept (pages_device p) (no_log p))
           (if_some (slice_get made p) y (λ z. IsPartition d z p (first_view 2 p) []) is' (so_far.each p)))
 
       at : (p : ℕ) → IfSome (slice_get (made ++ x ∷ []) p) (λ y. IsPartition e y p (first_view 2 p) [])

@@ -1,10 +1,6 @@
 -- A range whose keys stand in one partition: its next row is that partition's.
 use Rattle.salt_bytes.specs.Generations.{WhichLog}
-use Rattle.salt_commit.proofs.Lists.{some_at}
-use Rattle.salt_commit.proofs.Merged.{first-listed, listed-first, listed-none, none-listed}
-use Rattle.salt_commit.proofs.Placed.{rows_are}
-use Rattle.salt_commit.proofs.Scanned.{or_none}
-use Rattle.salt_commit.specs.Reads.{ArePlaced, StandsInPlace}
+use Rattle.salt_commit.proofs.Ready.{store_placed}
 use Rattle.salt_commit.specs.Stores.{IsStore, reading}
 use Rattle.salt_commit.specs.declared.store.Store.{Store}
 use Rattle.salt_disk.specs.Disks.{View}
@@ -13,10 +9,11 @@ use Rattle.salt_model.specs.Kept.{Definition}
 use Rattle.salt_model.specs.Tables.{Entry, Tables, place_cmp, row_at}
 use Rattle.salt_model.specs.Words.{first_of_list}
 use Rattle.salt_model.specs.declared.places.Place.{Place}
+use Rattle.salt_parts.proofs.Merged.{first-listed, listed-first, listed-none, none-listed}
+use Rattle.salt_parts.proofs.Scanned.{or_none}
 use Rattle.salt_place.specs.declared.placement.Shape.{Shape}
 use Rattle.salt_ranges.specs.Ranges.{has_key}
 use Rattle.salt_ranges.specs.declared.range.KeyRange.{KeyRange}
-use Rattle.salt_partition.specs.Partitions.{rows_in}
 use Rattle.salt_stands.proofs.Booleans.{left, right}
 use Rattle.salt_stands.proofs.Places.{or_row, row_at_entries}
 use Rattle.salt_stands.specs.Commits.{each_tables, found_of, partition_count}
@@ -26,9 +23,9 @@ use Rattle.salt_stands.specs.Pieces.{PartView, listed}
 use Rattle.salt_stands.specs.Placed.{IsPlaced}
 use Rattle.salt_stands.specs.Tables.{joined}
 use Rattle.salt_values.specs.declared.value.Value.{Value}
-use Rattle.std.proofs.Common.{List, None, Option, Some, [], ap, arith, inl, inr, refl, sym, true, ℕ, ◌+◌, ◌<◌, ◌≡◌, ◌≢◌, ◌≤◌, ◌⊎◌, ◌∙◌, ◌∷◌}
+use Rattle.std.proofs.Common.{IsTrue, List, None, Option, Some, [], ap, arith, inl, inr, refl, sym, true, ℕ, ◌+◌, ◌<◌, ◌≡◌, ◌≢◌, ◌≤◌, ◌⊎◌, ◌∙◌, ◌∷◌}
 use Rattle.std.proofs.lemmas.Bool.{cases_eq}
-use Rattle.std.specs.FinMap.Entries.{find, where_key}
+use Rattle.std.specs.FinMap.Entries.{where_key}
 use Rattle.std.specs.Prelude.{option_map, suc, zero, ◌&&◌, ◌==◌}
 
 -- ONE OF MANY TABLES: where the others have no row at a place, all have the one's
@@ -93,19 +90,7 @@ module _ (t : ℕ) (range : KeyRange) (after : Option Value) where
       same : (q : Place) → is_next t range after q ≡ true → row_at q (joined (listed T 0 n)) ≡ row_at q (T p)
       same q h = one_joined q T p 0 n (omega arith) (omega (arith, low)) (λ k above below other. none q (in_range q h) k (omega (arith, below)) other)
 
--- OF A STORE: what it stands for is one and the same, so where one view of it is in place, so is each
-module _ (d : View) (x : Store) (s : StandsInPlace d x) (which : WhichLog) (c : Coordinator Definition) (v : ℕ → PartView) (is : IsStore reading d x which c v) where
-  same_shape : s.c.log.header.shape ≡ c.log.header.shape
-  same_shape = sym s.is.decisions.holds.shape ∙ is.decisions.holds.shape
-
-  pub each_placed : ArePlaced c v
-  each_placed p low q row found =
-      let one = some_at x.parts p (omega (arith, low, is.size)) in
-      let own : rows_in one.0 ≡ (each_tables c v p).list = rows_are [] d x which c v is p one.0 one.1 in
-      let first : rows_in one.0 ≡ (each_tables s.c s.v p).list = rows_are [] d x s.which s.c s.v s.is p one.0 one.1 in
-      ap (λ (k : Shape). part_of_key k q.key) (sym same_shape)
-      ∙ s.placed p (omega (arith, low, is.size, s.is.size)) q row (ap (find place_cmp q) (sym first ∙ own) ∙ found)
-
-  pub next_of_store : (t : ℕ) (range : KeyRange) (after : Option Value) (p : ℕ) → p < partition_count c → ((key : Value) (k : ℕ) → k < partition_count c → has_key range key ≡ true → part_of_key c.log.header.shape key ≡ k → k ≡ p)
-      → next_row t range after (each_tables c v p) ≡ next_row t range after (found_of c v).kept.tables
-  next_of_store t range after p low alone = next_of_one t range after c.log.header.shape (each_tables c v) (partition_count c) p low each_placed alone
+-- OF A STORE, where the disks tell
+pub next_of_store : (d : View) (x : Store) (which : WhichLog) (c : Coordinator Definition) (v : ℕ → PartView) → IsStore reading d x which c v → IsTrue d.told → (t : ℕ) (range : KeyRange) (after : Option Value) (p : ℕ) → p < partition_count c
+    → ((key : Value) (k : ℕ) → k < partition_count c → has_key range key ≡ true → part_of_key c.log.header.shape key ≡ k → k ≡ p) → next_row t range after (each_tables c v p) ≡ next_row t range after (found_of c v).kept.tables
+next_of_store d x which c v is told t range after p low alone = next_of_one t range after c.log.header.shape (each_tables c v) (partition_count c) p low (store_placed reading d x which c v is told) alone

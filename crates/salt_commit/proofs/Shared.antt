@@ -1,5 +1,6 @@
 -- Shares of changes, and the number that tells which have some.
-use Rattle.salt_commit.specs.Shares.{bit_of, has_changes, mask_of, share_at, shares_of}
+use Rattle.salt_commit.specs.Shares.{bit_of, mask_of, shares_of}
+use Rattle.salt_shares.specs.Shares.{has_changes, share_at}
 use Rattle.salt_stands.specs.Pieces.{listed}
 use Rattle.salt_stands.specs.Placed.{changes_at}
 use Rattle.salt_stands.specs.Words.{has_bit}

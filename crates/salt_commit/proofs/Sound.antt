@@ -1,40 +1,54 @@
 -- The rows of a store that stands on disks that tell their bytes meet their tables.
 use Rattle.salt_ast.specs.declared.trees.TableDef.{TableDef}
 use Rattle.salt_bytes.specs.Generations.{WhichLog}
-use Rattle.salt_bytes.specs.Partition.{Prepared}
-use Rattle.salt_commit.proofs.Fit.{row_fits}
-use Rattle.salt_commit.proofs.Keyed.{store_keyed}
+use Rattle.law_definitions.specs.Texts.{definition_in}
 use Rattle.salt_commit.proofs.Standing.{part_at}
 use Rattle.salt_commit.specs.Stores.{IsStore, decided_by, reading}
 use Rattle.salt_commit.specs.declared.store.Store.{Store}
-use Rattle.salt_stands.specs.Fitting.{tables_defined}
+use Rattle.salt_stands.specs.Fitting.{is_row_of, tables_defined}
 use Rattle.salt_disk.specs.Disks.{View}
 use Rattle.salt_eval.proofs.Scanning.{first-found, rows_after-next}
 use Rattle.salt_eval.specs.Meets.{meets_table}
+use Rattle.salt_eval.specs.Scans.{IsKeyed}
 use Rattle.salt_eval.specs.Views.{is_next, next_row, rows_after}
 use Rattle.salt_model.specs.Kept.{Definition}
 use Rattle.salt_model.specs.Tables.{Tables, changed_at, make_change, no_rows, place, place_cmp, row_at, with_changes}
-use Rattle.salt_values.specs.Id.{has_id}
 use Rattle.salt_model.specs.declared.places.Place.{Place}
 use Rattle.salt_ranges.specs.declared.range.KeyRange.{KeyRange}
 use Rattle.salt_stands.proofs.Booleans.{left, right}
-use Rattle.salt_stands.proofs.Decided.{with_changes_append}
+use Rattle.salt_paged.proofs.Keyed.{part_keyed}
+use Rattle.salt_parts.proofs.Fit.{row_fits, row_of}
+use Rattle.salt_parts.proofs.Scanned.{joined_keyed}
+use Rattle.salt_stands.proofs.PlacedParts.{decided_sound}
 use Rattle.salt_stands.proofs.Places.{equal_is, or_row, place_same, row_at_entries, row_at_set}
 use Rattle.salt_stands.proofs.Prepared.{sound_units}
 use Rattle.salt_stands.specs.Commits.{each_tables, found_of, partition_count}
 use Rattle.salt_stands.specs.Coordinator.{Coordinator}
-use Rattle.salt_stands.specs.Partition.{changes_if, decided_changes, is_sound_change, is_sound_prepared, is_sound_to, part_of_key}
+use Rattle.salt_stands.specs.Partition.{decided_changes, is_sound_change, is_sound_to, part_of_key}
 use Rattle.salt_stands.specs.Pieces.{PartView, listed}
 use Rattle.salt_stands.specs.Reading.{Reading}
 use Rattle.salt_stands.specs.Tables.{joined}
 use Rattle.salt_values.specs.declared.change.Change.{Change}
-use Rattle.salt_values.specs.declared.id.Id.{Id}
 use Rattle.salt_values.specs.declared.value.Value.{Value}
 use Rattle.std.proofs.Common.{Bool, IsTrue, List, None, Option, Some, [], ap, arith, false, refl, subst, sym, true, ℕ, ◌+◌, ◌++◌, ◌<◌, ◌≡◌, ◌∙◌, ◌∷◌}
+use Rattle.std.proofs.lemmas.List.Folds.{list_all-append}
 use Rattle.std.specs.List.{list_all}
 use Rattle.std.specs.Ordering.{is_eq}
-use Rattle.std.specs.Prelude.{cond, nat_le, nat_lt, suc, zero, ◌==◌}
+use Rattle.std.specs.Prelude.{cond, nat_lt, slice_get, suc, zero, ◌&&◌, ◌==◌}
 use Rattle.salt_values.specs.Value.{key_of}
+
+-- THE ROWS of a store have their keys
+pub store_keyed : {D : Type 0} (r : Reading D) (d : View) (x : Store) (which : WhichLog) (c : Coordinator D) (v : ℕ → PartView) → IsStore r d x which c v → IsKeyed (found_of c v).kept.tables
+store_keyed r d x which c v is = joined_keyed (each_tables c v) 0 (partition_count c) each
+  where
+    each : (k : ℕ) → k < 0 + partition_count c → IsKeyed (each_tables c v k)
+    each k low =
+        let one = part_at d x.parts v (decided_by c) is.parts k (omega (arith, low, is.size)) in
+        part_keyed d one.0 k (v k) (decided_by c k) one.1
+
+-- A ROW THAT MEETS its table is one of it
+pub is_row_at : (schema : List TableDef) (table : ℕ) (row : List Value) → meets_table schema table row ≡ true → is_row_of (slice_get schema table) row ≡ true
+is_row_at schema table row meets = row_of (slice_get schema table) row ∙ meets
 
 -- each row fits the table of its place
 abbrev pub AreFit : {D : Type 0} → Reading D → Coordinator D → Tables → Type 0
@@ -63,17 +77,6 @@ module _ {D : Type 0} (r : Reading D) (c : Coordinator D) (p : ℕ) where
           one true f g = ap (λ (x : Place). r.fits_row c.definitions x.table row) (place_same q (changed_at ch) (equal_is _ f)) ∙ to ch.row here row g
           one false f g = fit q row g
 
-  units_are_fit : (us : List Id) (ps : List Prepared) (t : Tables) → list_all (is_sound_prepared r c p) ps ≡ true → AreFit r c t → AreFit r c (with_changes (decided_changes us ps) t)
-  unfolding with_changes
-  units_are_fit us [] t sound fit = fit
-  units_are_fit us (x ∷ ps) t sound fit =
-      subst (AreFit r c) (sym (with_changes_append (changes_if (has_id x.unit us) x.changes) (decided_changes us ps) t))
-      (units_are_fit us ps (with_changes (changes_if (has_id x.unit us) x.changes) t) (right (is_sound_prepared r c p x) (list_all (is_sound_prepared r c p) ps) sound) (own (has_id x.unit us)))
-    where
-      own : (b : Bool) → AreFit r c (with_changes (changes_if b x.changes) t)
-      own true = changes_are_fit x.changes t (right (nat_le x.unit.boot c.log.told.boot) (list_all (is_sound_change r c p) x.changes) (left (is_sound_prepared r c p x) (list_all (is_sound_prepared r c p) ps) sound)) fit
-      own false = fit
-
 joined_are_fit : {D : Type 0} (r : Reading D) (c : Coordinator D) (T : ℕ → Tables) (p n : ℕ) → ((k : ℕ) → k < p + n → AreFit r c (T k)) → AreFit r c (joined (listed T p n))
 unfolding joined
 joined_are_fit r c T p zero h q row e = cc
@@ -84,12 +87,13 @@ joined_are_fit r c T p (suc n) h q row e = by (row_at q (T p)) refl (joined_are_
     by (Some x) is more found = h p (omega arith) q row (is ∙ found)
 
 -- the tables of a partition
-pub part_is_fit : {D : Type 0} (r : Reading D) (d : View) (x : Store) (which : WhichLog) (c : Coordinator D) (v : ℕ → PartView) → IsStore r d x which c v → IsTrue d.told → (k : ℕ) → k < partition_count c → AreFit r c (each_tables c v k)
+part_is_fit : {D : Type 0} (r : Reading D) (d : View) (x : Store) (which : WhichLog) (c : Coordinator D) (v : ℕ → PartView) → IsStore r d x which c v → IsTrue d.told → (k : ℕ) → k < partition_count c → AreFit r c (each_tables c v k)
 part_is_fit r d x which c v is told k low =
-    let one = part_at d x.parts v (decided_by c) is.parts k (omega (arith, low, is.size)) in
-    let sound = sound_units r c k (v k).log ((is.sound told).part k low) in
-    subst (λ rows. AreFit r c (with_changes (rows ++ decided_changes (decided_by c k) (v k).log.prepared) no_rows)) (sym one.1.none)
-    (units_are_fit r c k (decided_by c k) (v k).log.prepared no_rows sound no_row)
+    let units = decided_changes (decided_by c k) (v k).log.prepared in
+    changes_are_fit r c k ((v k).rows ++ units) no_rows
+    (list_all-append (is_sound_change r c k) (v k).rows units ∙ ap (λ b. b && list_all (is_sound_change r c k) units) ((is.sound told).rows k low)
+    ∙ decided_sound r c k (decided_by c k) (v k).log.prepared (sound_units r c k (v k).log ((is.sound told).part k low)))
+    no_row
   where
     no_row : AreFit r c no_rows
     no_row q row e = cc
@@ -104,4 +108,4 @@ next_meets d x which c v is told schema same t range after row next =
     let es = (found_of c v).kept.tables in
     let all = rows_after-next t range after es row next (store_keyed reading d x which c v is) in
     let found : row_at (place t (key_of row)) es ≡ Some row = first-found (is_next t range after) es.list es.sorted (place t (key_of row), row) (rows_after t range (Some (key_of row)) es) all in
-    row_fits schema c.log.header.shape c (record { tables = sym same; is_shape = refl }) t row ∙ store_is_fit reading d x which c v is told (place t (key_of row)) row found
+    row_fits definition_in schema c.log.header.shape c (record { tables = sym same; is_shape = refl }) t row ∙ store_is_fit reading d x which c v is told (place t (key_of row)) row found

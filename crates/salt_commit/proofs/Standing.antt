@@ -1,23 +1,24 @@
 -- A store stands on its devices, and goes on with one entry more in the coordinator's log.
 use Rattle.salt_bytes.specs.Coordinator.{Boots, Defines, NumberedText, entry_in}
-use Rattle.salt_bytes.specs.Formats.{has_nulls}
 use Rattle.salt_bytes.specs.Generations.{LogA, LogB, WhichLog}
 use Rattle.salt_bytes.specs.Log.{entries_in}
-use Rattle.salt_commit.proofs.Lists.{some_at}
-use Rattle.salt_commit.specs.Stores.{ArePartitions, IsSound, IsStore, StandForEither, decided_by}
+use Rattle.salt_checkpoint.proofs.Named.{named_reads}
+use Rattle.salt_commit.specs.Stores.{IsSound, IsStore, StandForEither, decided_by}
 use Rattle.salt_commit.specs.declared.store.Store.{Store}
 use Rattle.salt_decisions.proofs.Contents.{log_bytes}
 use Rattle.salt_decisions.specs.Decisions.{HasMore, IsBeforeOrWith, IsDecisions, device_in}
 use Rattle.salt_disk.proofs.CallAfterCall.{same_shape}
 use Rattle.salt_disk.specs.Disks.{EachImage, IsImage, IsSettled, IsUnchanged, KeepsOthers, SameShape, View}
 use Rattle.salt_disk.specs.declared.disks.DiskErr.{DiskErr}
-use Rattle.salt_partition.proofs.Framed.{logs_settled, part_stands, partition_kept}
-use Rattle.salt_partition.specs.Partitions.{IsPartition}
-use Rattle.salt_partition.specs.declared.partition.Partition.{Partition}
+use Rattle.salt_paged.proofs.Framed.{logs_settled, part_stands, partition_kept}
+use Rattle.salt_paged.specs.Partitions.{ArePartitions, IsPartition}
+use Rattle.salt_paged.specs.declared.partition.Partition.{Partition}
+use Rattle.salt_parts.proofs.Lists.{if_some, make_some, some_at}
+use Rattle.salt_stands.proofs.PlacedParts.{rows_sound}
 use Rattle.salt_stands.proofs.Stores.{boot_stood, definition_stood, keeps_standing, stood_stands}
 use Rattle.salt_stands.specs.Commits.{CoordinatorSame, PagesSame, PartSame, Stood, found_of, partition_count}
 use Rattle.salt_stands.specs.Coordinator.{Coordinator, Logs, device_of}
-use Rattle.salt_stands.specs.Partition.{pages_device, part_device, rows_from}
+use Rattle.salt_stands.specs.Partition.{pages_device, part_device}
 use Rattle.salt_stands.specs.Pieces.{StaysFitting, HasOneMore, IsSameAt, PartView, other_log, with_boot, with_definition}
 use Rattle.salt_stands.specs.Reading.{Reading}
 use Rattle.salt_stands.specs.Stands.{stands_on, logs_of}
@@ -27,13 +28,6 @@ use Rattle.std.proofs.Common.{IsTrue, List, None, Ok, Option, Some, [], ap, arit
 use Rattle.std.proofs.lemmas.Bool.Decides.{Decides-eqb}
 use Rattle.std.specs.Prelude.{Bool, IfSome, false, if◌then◌else◌, true, ◌==◌}
 
-pub if_some : {X : Type 0} (o : Option X) (x : X) (P : X → Type 0) → o ≡ Some x → IfSome o P → P x
-if_some {X = X} o x P e h = subst (λ (v : Option X). IfSome v P) e h
-
-pub make_some : {X : Type 0} (o : Option X) (P : X → Type 0) → ((x : X) → o ≡ Some x → P x) → IfSome o P
-make_some None P f = tt
-make_some (Some x) P f = f x refl
-
 -- the one at a place stands there
 pub part_at : (d : View) (parts : List Partition) (v : ℕ → PartView) (applied : ℕ → List Id) → ArePartitions d parts v applied → (p : ℕ) → p < length parts
     → (x : Partition) × IsPartition d x p (v p) (applied p)
@@ -41,12 +35,12 @@ part_at d parts v applied are p low =
     let found = some_at parts p low in
     (found.0, if_some (slice_get parts p) found.0 (λ x. IsPartition d x p (v p) (applied p)) found.1 (are.each p))
 
--- partitions are as they were where their logs are
+-- partitions are as they were where their devices are
 pub partitions_kept : (d e : View) (parts : List Partition) (v : ℕ → PartView) (applied : ℕ → List Id) → SameShape d e
-    → ((p : ℕ) → IsUnchanged d e (part_device p)) → ((p : ℕ) → IsUnchanged d e (part_device p + 1)) → ArePartitions d parts v applied → ArePartitions e parts v applied
-partitions_kept d e parts v applied shape first second are = record {
+    → ((p : ℕ) → IsUnchanged d e (part_device p)) → ((p : ℕ) → IsUnchanged d e (part_device p + 1)) → ((p : ℕ) → IsUnchanged d e (pages_device p)) → ArePartitions d parts v applied → ArePartitions e parts v applied
+partitions_kept d e parts v applied shape first second pages are = record {
   each = λ p. make_some (slice_get parts p) (λ x. IsPartition e x p (v p) (applied p))
-      (λ x is. partition_kept d e x p (v p) (applied p) shape (first p) (second p) (if_some (slice_get parts p) x (λ y. IsPartition d y p (v p) (applied p)) is (are.each p)));
+      (λ x is. partition_kept d e x p (v p) (applied p) shape (first p) (second p) (pages p) (if_some (slice_get parts p) x (λ y. IsPartition d y p (v p) (applied p)) is (are.each p)));
 }
 
 pub apart_from_part : (which : WhichLog) (p k : ℕ) → 2 + 3 * p + k ≢ device_of 0 which
@@ -94,20 +88,17 @@ module _ {D : Type 0} (r : Reading D) (d : View) (x : Store) (which : WhichLog) 
   pub stood : IsTrue d.told → Stood r (logs_of d.bytes) d.bytes which c v
   stood told = record {
     coordinator = record { counts = is.decisions.counting.counts told; is = (is.sound told).coordinator };
-    part = λ p low. let q = partition p low in part_stands r c d q.0 p (v p) (decided_by c p) q.1 told ((is.sound told).part p low);
+    part = λ p low. let q = partition p low in part_stands r c d q.0 p (v p) (decided_by c p) q.1 told ((is.sound told).part p low) ((is.sound told).rows p low);
   }
 
-  pub no_pages : (p : ℕ) → p < partition_count c → (v p).log.header.sides ≡ []
-  no_pages p low = (partition p low).1.pages
-
-  -- no page is read, so that all are read as before
-  pub pages_same : IsTrue d.told → (new : ℕ → List ℕ) → PagesSame c v d.bytes new
-  pages_same told new p low =
-      let nulls = has_nulls (v p).log.header.format in
-      ap (λ sides. rows_from nulls (new (pages_device p)) 0 sides) (no_pages p low) ∙ sym (ap (λ sides. rows_from nulls (d.bytes (pages_device p)) 0 sides) (no_pages p low))
+  -- the pages that are named are read as before, in each image
+  pub pages_same : IsTrue d.told → (new : ℕ → List ℕ) → ((p : ℕ) → p < partition_count c → d.image (pages_device p) (new (pages_device p))) → PagesSame c v d.bytes new
+  pages_same told new left p low =
+      let dev = pages_device p in
+      named_reads (v p) (d.bytes dev) (new dev) (((partition p low).1.told told).settled (new dev) (left p low))
 
   -- WHERE ONLY THE COORDINATOR'S LOG IS WRITTEN
-  module _ (told : IsTrue d.told) (new : ℕ → List ℕ) (keeps : KeepsOtherLogs which (partition_count c) d.bytes new) where
+  module _ (told : IsTrue d.told) (new : ℕ → List ℕ) (pages_left : (p : ℕ) → p < partition_count c → d.image (pages_device p) (new (pages_device p))) (keeps : KeepsOtherLogs which (partition_count c) d.bytes new) where
     pub parts_same : (p : ℕ) → p < partition_count c → PartSame (logs_of d.bytes) (logs_of new) p
     parts_same p low = record { a = ap entries_in (keeps.part_a p low); b = ap entries_in (keeps.part_b p low) }
 
@@ -120,7 +111,7 @@ module _ {D : Type 0} (r : Reading D) (d : View) (x : Store) (which : WhichLog) 
 
     -- without the entry it stands as before
     pub without : entries_in (new (device_of 0 which)) ≡ entries_in (d.bytes (device_of 0 which)) → Stood r (logs_of new) new which c v
-    without same = keeps_standing r (logs_of d.bytes) (logs_of new) d.bytes new which c v (stood told) (inl (both_same which same other_same)) (λ p low. inl (parts_same p low)) (pages_same told new)
+    without same = keeps_standing r (logs_of d.bytes) (logs_of new) d.bytes new which c v (stood told) (inl (both_same which same other_same)) (λ p low. inl (parts_same p low)) (pages_same told new pages_left)
 
     -- with it, as the entry makes it
     pub with_entry : (payload : List ℕ) (c' : Coordinator D) → PagesSame c' v d.bytes new
@@ -143,7 +134,11 @@ module _ {D : Type 0} (r : Reading D) (d : View) (x : Store) (which : WhichLog) 
       part_b = λ p low. let q = partition p low in settled_there image left (part_device p + 1) (omega (arith, q.1.known)) (λ same. apart_from_part which p 1 (omega (arith, same))) (logs_settled d q.0 p (v p) (decided_by c p) q.1).1;
     }
 
-    pub each_image : (payload : List ℕ) (c' : Coordinator D) → ((new : ℕ → List ℕ) → PagesSame c' v d.bytes new)
+    -- the pages of a partition are those of an image from before
+    pub pages_there : (image : ℕ → List ℕ) → IsImage e image → (p : ℕ) → p < partition_count c → d.image (pages_device p) (image (pages_device p))
+    pages_there image left p low = keeps.images (pages_device p) (λ same. apart_from_part which p 2 (omega (arith, same ∙ is.decisions.counting.device))) (image (pages_device p)) (left (pages_device p) (omega (arith, (partition p low).1.known, keeps.shape.count)))
+
+    pub each_image : (payload : List ℕ) (c' : Coordinator D) → ((new : ℕ → List ℕ) → ((p : ℕ) → p < partition_count c → d.image (pages_device p) (new (pages_device p))) → PagesSame c' v d.bytes new)
         → ((logs : Logs) → HasOneMore (logs_of d.bytes) logs (device_of 0 which) payload → IsSameAt (device_of 0 (other_log which)) (logs_of d.bytes) logs → ((p : ℕ) → p < partition_count c → PartSame (logs_of d.bytes) logs p) → Stood r logs d.bytes which c' v)
         → EachImage e (device_of 0 which) (IsBeforeOrWith (d.bytes (device_of 0 which)) payload) → StandForEither r e (found_of c v) (found_of c' v)
     each_image payload c' pages makes images asked image left =
@@ -156,9 +151,12 @@ module _ {D : Type 0} (r : Reading D) (d : View) (x : Store) (which : WhichLog) 
         kept : KeepsOtherLogs which (partition_count c) d.bytes image
         kept = others_there image left
 
+        there : (p : ℕ) → p < partition_count c → d.image (pages_device p) (image (pages_device p))
+        there = pages_there image left
+
         by : IsBeforeOrWith (d.bytes (device_of 0 which)) payload (image (device_of 0 which)) → (stands_on r image asked ≡ Ok (found_of c v)) ⊎ (stands_on r image asked ≡ Ok (found_of c' v))
-        by (inl same) = inl (stood_stands r (logs_of image) image asked which c v (without told image kept same))
-        by (inr more) = inr (stood_stands r (logs_of image) image asked which c' v (with_entry told image kept payload c' (pages image) makes more))
+        by (inl same) = inl (stood_stands r (logs_of image) image asked which c v (without told image there kept same))
+        by (inr more) = inr (stood_stands r (logs_of image) image asked which c' v (with_entry told image there kept payload c' (pages image there) makes more))
 
   -- THE LOG'S ENTRIES with one more, whatever the bytes are
   logs_with : List ℕ → Logs
@@ -189,11 +187,15 @@ module _ {D : Type 0} (r : Reading D) (d : View) (x : Store) (which : WhichLog) 
   pub sound_with : (payload : List ℕ) (c' : Coordinator D) → partition_count c' ≡ partition_count c → IsTrue d.told
       → ((logs : Logs) → HasOneMore (logs_of d.bytes) logs (device_of 0 which) payload → IsSameAt (device_of 0 (other_log which)) (logs_of d.bytes) logs → ((p : ℕ) → p < partition_count c → PartSame (logs_of d.bytes) logs p) → Stood r logs d.bytes which c' v)
       → IsSound r c' v
-  sound_with payload c' same_parts told makes = let s = stood_with payload c' told makes in record { coordinator = s.coordinator.is; part = λ p low. (s.part p low).sound }
+  sound_with payload c' same_parts told makes = let s = stood_with payload c' told makes in record {
+    coordinator = s.coordinator.is;
+    part = λ p low. (s.part p low).sound;
+    rows = λ p low. rows_sound r c' p (v p).log (d.bytes (pages_device p)) (v p).rows (s.part p low).rows;
+  }
 
   -- partitions are as they were after a call that writes the coordinator's log alone
   pub partitions_stay : (e : View) → KeepsOthers (device_in x.decisions) d e None → ArePartitions e x.parts v (decided_by c)
-  partitions_stay e keeps = partitions_kept d e x.parts v (decided_by c) keeps.shape (λ q. subst (IsUnchanged d e) (omega arith) (unchanged q 0)) (λ q. unchanged q 1) is.parts
+  partitions_stay e keeps = partitions_kept d e x.parts v (decided_by c) keeps.shape (λ q. subst (IsUnchanged d e) (omega arith) (unchanged q 0)) (λ q. unchanged q 1) (λ q. subst (IsUnchanged d e) (omega arith) (unchanged q 2)) is.parts
     where
       unchanged : (p k : ℕ) → IsUnchanged d e (2 + 3 * p + k)
       unchanged p k = keeps.kept (2 + 3 * p + k) (λ same. apart_from_part which p k (same ∙ is.decisions.counting.device))
@@ -204,8 +206,8 @@ module _ {D : Type 0} (r : Reading D) (d : View) (x : Store) (which : WhichLog) 
       → KeepsOthers (device_in x.decisions) d e None → y.parts ≡ x.parts → IsDecisions e y.decisions which c'.log → IsStore r e y which c' v
   after_entry e y payload c' same_parts same_units makes keeps parts decisions = record {
     decisions = decisions;
-    size = ap length parts ∙ is.size ∙ sym same_parts;
-    parts = subst (λ ps. ArePartitions e ps v (decided_by c')) (sym parts) kept;
+    size = ap (λ (ps : List Partition). length ps) parts ∙ is.size ∙ sym same_parts;
+    parts = subst (λ (ps : List Partition). ArePartitions e ps v (decided_by c')) (sym parts) kept;
     sound = λ told. let before = sym keeps.shape.told ∙ told in sound_with payload c' same_parts before (makes before);
   }
     where
@@ -214,7 +216,7 @@ module _ {D : Type 0} (r : Reading D) (d : View) (x : Store) (which : WhichLog) 
 
   -- NOTHING IS WRITTEN
   pub unchanged_images : IsTrue d.told → (asked : Shape) (image : ℕ → List ℕ) → IsImage d image → stands_on r image asked ≡ Ok (found_of c v)
-  unchanged_images told asked image left = stood_stands r (logs_of image) image asked which c v (without told image kept (ap entries_in own))
+  unchanged_images told asked image left = stood_stands r (logs_of image) image asked which c v (without told image (λ p low. left (pages_device p) (partition p low).1.known) kept (ap entries_in own))
     where
       kept : KeepsOtherLogs which (partition_count c) d.bytes image
       kept = others_there d None (record { shape = same_shape d; kept = λ dev other. record { bytes = refl; images = λ c' left'. left' }; images = λ dev other c' left'. left' }) told image left

@@ -1,6 +1,6 @@
--- Before a unit is decided: each image stands for what stood before, and so does the store with the shares prepared.
+-- Before a unit is decided: its shares and its decision are read again, and each image stands for what stood before.
 use Rattle.salt_bytes.proofs.Logs.{reads_entry}
-use Rattle.salt_bytes.specs.Coordinator.{Decides, entry_in, spell_entry}
+use Rattle.salt_bytes.specs.Coordinator.{Decides, Decision, entry_in, spell_entry}
 use Rattle.salt_bytes.specs.Formats.{has_nulls}
 use Rattle.salt_bytes.specs.Generations.{LogA, LogB, WhichLog}
 use Rattle.salt_bytes.specs.Log.{entries_in}
@@ -9,36 +9,43 @@ use Rattle.salt_bytes.specs.Spellable.{Every, IsSpellableId}
 use Rattle.salt_bytes.specs.declared.moves.Move.{Move}
 use Rattle.salt_commit.proofs.Ordered.{in_order_filter, share_fits}
 use Rattle.salt_commit.proofs.Shared.{mask_bit, mask_small, share_is, share_past}
-use Rattle.salt_commit.proofs.Sharing.{one_device}
-use Rattle.salt_commit.proofs.Standing.{apart_from_part, if_some, pages_same, part_at, stood}
+use Rattle.salt_checkpoint.proofs.Standing.{log_is_no_page}
+use Rattle.salt_checkpoint.specs.Checkpoints.{IsReady, StandsAlways}
+use Rattle.salt_checkpoint.specs.Sides.{KeepsNamed}
+use Rattle.salt_commit.proofs.Spare.{spare_reads}
 use Rattle.salt_commit.specs.Commits.{MayCommitUnit}
-use Rattle.salt_commit.specs.Prepares.{IsLogOfShares, MayPrepareEach}
-use Rattle.salt_commit.specs.Shares.{has_changes, next_decision, share_at, shares_of}
+use Rattle.salt_commit.specs.Shares.{next_decision, shares_of}
 use Rattle.salt_commit.specs.Stores.{IsStore, decided_by}
+use Rattle.salt_commit.specs.Voting.{IsVoteDevice}
 use Rattle.salt_commit.specs.declared.store.Store.{Store}
-use Rattle.salt_decisions.specs.Decisions.{IsBeforeOrWith, IsDecisions}
+use Rattle.salt_decisions.specs.Decisions.{IsBeforeOrWith}
 use Rattle.salt_disk.specs.Disks.{EachImage, IsImage, IsSettled, KeepsBut, View}
 use Rattle.salt_disk.specs.declared.disks.DiskErr.{DiskErr}
 use Rattle.salt_codec.proofs.Puttable.{read_again}
 use Rattle.salt_codec.specs.Entries.{IsTold}
-use Rattle.salt_partition.specs.Partitions.{IsPartition, MayPrepare, prepared}
-use Rattle.salt_partition.specs.declared.partition.Partition.{Partition}
+use Rattle.salt_paged.specs.Partitions.{ArePartitions, IsPartition}
+use Rattle.salt_partition.specs.Partitions.{MayPrepare, prepared}
+use Rattle.salt_paged.specs.declared.partition.Partition.{Partition}
+use Rattle.salt_parts.proofs.Lists.{if_some}
+use Rattle.salt_shares.proofs.Sharing.{one_device}
+use Rattle.salt_shares.specs.Prepares.{MayPrepareEach}
+use Rattle.salt_shares.specs.Shares.{has_changes, share_at}
 use Rattle.salt_stands.proofs.Booleans.{join}
 use Rattle.salt_stands.proofs.Commits.{undecided}
-use Rattle.salt_stands.specs.Commits.{MayCommit, PartMore, PartSame, Spelled, found_of, partition_count, share}
+use Rattle.salt_stands.specs.Commits.{MayCommit, PartMore, PartSame, Spelled, partition_count, share}
 use Rattle.salt_stands.specs.Coordinator.{Coordinator, device_of}
-use Rattle.salt_stands.specs.Partition.{is_sound_change, is_sound_prepared, part_device}
+use Rattle.salt_stands.specs.Partition.{is_sound_change, is_sound_prepared, pages_device, part_device}
 use Rattle.salt_stands.specs.Pieces.{IsSameAt, PartView, other_log}
 use Rattle.salt_stands.specs.Placed.{AreOfParts, changes_at, is_of_part}
 use Rattle.salt_stands.specs.Reading.{Reading}
-use Rattle.salt_stands.specs.Stands.{stands_on, logs_of}
+use Rattle.salt_stands.specs.Stands.{logs_of}
 use Rattle.salt_place.proofs.Places.{place_of-below}
 use Rattle.salt_place.specs.Placement.{IsParts}
 use Rattle.salt_values.specs.declared.change.Change.{Change}
 use Rattle.salt_values.specs.declared.cont.Cont.{Cont}
 use Rattle.salt_values.specs.declared.id.Id.{Id}
 use Rattle.salt_place.specs.declared.placement.Shape.{Shape}
-use Rattle.std.proofs.Common.{IsTrue, List, Ok, Option, Some, [], ap, arith, false, inl, inr, length, refl, subst, sym, true, ℕ, ◌*◌, ◌+◌, ◌<◌, ◌^◌, ◌≡◌, ◌≢◌, ◌≤◌, ◌⊎◌, ◌∙◌, ◌∷◌}
+use Rattle.std.proofs.Common.{IsTrue, List, Option, Some, [], ap, arith, false, inl, inr, length, refl, subst, sym, true, ℕ, ◌+◌, ◌<◌, ◌^◌, ◌≡◌, ◌≢◌, ◌≤◌, ◌⊎◌, ◌∙◌, ◌∷◌}
 use Rattle.std.proofs.lemmas.Bool.Decides.{nat_tests}
 use Rattle.std.specs.List.{filter, list_all}
 use Rattle.std.specs.Prelude.{Bool, if◌then◌else◌, slice_get, nat_le}
@@ -75,7 +82,7 @@ pub record IsInHand (u : Id) (cs : List Change) (mv : List ℕ) : Type 0 where
   pub changes : Every IsTold cs
 
 module _ {D : Type 0} (r : Reading D) (d : View) (x : Store) (which : WhichLog) (c : Coordinator D) (v : ℕ → PartView) (is : IsStore r d x which c v)
-    (u : Id) (cs : List Change) (mv : List ℕ) (m : Move) (conts : List Cont) (may : MayCommitUnit r c v u cs mv m conts) (parts : IsParts (partition_count c)) where
+    (u : Id) (cs : List Change) (mv : List ℕ) (m : Move) (conts : List Cont) (may : MayCommitUnit d.told r c v u cs mv m conts) (parts : IsParts (partition_count c)) where
   shape : Shape
   shape = c.log.header.shape
 
@@ -95,25 +102,25 @@ module _ {D : Type 0} (r : Reading D) (d : View) (x : Store) (which : WhichLog) 
           none (s ∷ ss) e h = cc
 
   -- each share is sound
-  pub sound_of : (p : ℕ) → is_sound_prepared r c p (share c u cs p) ≡ true
-  sound_of p = join (nat_le u.boot c.log.told.boot) (list_all (is_sound_change r c p) (changes_at c.log.header.shape p cs)) (at_most u.boot c.log.told.boot may.boot) (share_fits r c p cs may.fits)
+  pub sound_of : IsTrue d.told → (p : ℕ) → is_sound_prepared r c p (share c u cs p) ≡ true
+  sound_of told p = join (nat_le u.boot c.log.told.boot) (list_all (is_sound_change r c p) (changes_at c.log.header.shape p cs)) (at_most u.boot c.log.told.boot (may.boot told)) (share_fits r c p cs (may.fits told))
     where
       at_most : (a b : ℕ) → a ≤ b → nat_le a b ≡ true
       at_most a b h = grind (arith, nat_tests)
 
   module _ (hand : IsInHand u cs mv) where
-    pub may_commit : MayCommit r c v cs (next_decision c u cs mv) m conts
-    may_commit = record {
+    pub may_commit : IsTrue d.told → MayCommit r c v cs (next_decision c u cs mv) m conts
+    may_commit told = record {
       number = refl;
-      boot = may.boot;
+      boot = may.boot told;
       fresh = may.fresh;
       new = may.new;
       below = of_parts c.log.header.shape cs parts hand.changes;
       bits = λ p low bit. no_changes (changes_at c.log.header.shape p cs) (ap has_changes (sym (share_is c.log.header.shape cs p low)) ∙ sym (mask_bit (shares_of c.log.header.shape cs) p) ∙ bit);
-      sound = λ p low. sound_of p;
-      spells = may.spells;
-      moves = may.moves;
-      named = may.named;
+      sound = λ p low. sound_of told p;
+      spells = may.spells told;
+      moves = may.moves told;
+      named = may.named told;
     }
 
     -- the share of a partition is read again from its entry
@@ -129,74 +136,72 @@ module _ {D : Type 0} (r : Reading D) (d : View) (x : Store) (which : WhichLog) 
     pub spelled : c.log.told.decisions + 1 < 2 ^ 64 → Spelled c v cs (next_decision c u cs mv) (spell_entry (Decides (next_decision c u cs mv))) (λ p. spell_prepared (prepared u (share_at (shares_of c.log.header.shape cs) p)))
     spelled room = record { coordinator = decision_reads room; part = share_reads }
 
-    -- EACH IMAGE while shares are prepared
-    module _ (room : c.log.told.decisions + 1 < 2 ^ 64) (told : IsTrue d.told) (b : View) (answer : Option DiskErr)
-        (others : KeepsBut (IsLogOfShares x.parts (shares_of c.log.header.shape cs) (length x.parts)) d b answer)
-        (images : (p : ℕ) → p < length x.parts → EachImage b (device_of (part_device p) (v p).which) (IsBeforeOrWith (d.bytes (device_of (part_device p) (v p).which)) (spell_prepared (prepared u (share_at (shares_of c.log.header.shape cs) p)))))
-        (image : ℕ → List ℕ) (left : IsImage b image) where
-      partition : (p : ℕ) → p < partition_count c → (q : Partition) × IsPartition d q p (v p) (decided_by c p)
-      partition p low = part_at d x.parts v (decided_by c) is.parts p (omega (arith, low, is.size))
+coordinator_apart : (k q : ℕ) (z : WhichLog) → k < 2 → k ≢ device_of (part_device q) z
+coordinator_apart k q LogA low e = omega (arith, low, e)
+coordinator_apart k q LogB low e = omega (arith, low, e)
 
-      -- a device that is no counting log of a partition
-      there : (dev : ℕ) → dev < d.count → ((q : ℕ) → dev ≢ device_of (part_device q) (v q).which) → IsSettled d dev → image dev ≡ d.bytes dev
-      there dev low apart settled = settled (image dev) (others.images dev (λ t.
-          apart t.p (t.log.device ∙ (if_some (slice_get x.parts t.p) t.x (λ y. IsPartition d y t.p (v t.p) (decided_by c t.p)) t.at (is.parts.each t.p)).device)) (image dev) (left dev (omega (arith, low, others.shape.count))))
+pub differs : (w : WhichLog) (a : ℕ) → device_of a (other_log w) ≢ device_of a w
+differs LogA a e = omega (arith, e)
+differs LogB a e = omega (arith, e)
 
-      coordinator_apart : (w : WhichLog) (q : ℕ) (z : WhichLog) → device_of 0 w ≢ device_of (part_device q) z
-      coordinator_apart w q LogA e = apart_from_part w q 0 (omega (arith, e))
-      coordinator_apart w q LogB e = apart_from_part w q 1 (omega (arith, e))
+log_below : (w : WhichLog) (p n : ℕ) → pages_device p < n → device_of (part_device p) w < n
+log_below LogA p n low = omega (arith, low)
+log_below LogB p n low = omega (arith, low)
 
-      coordinator_settled : (w : WhichLog) → IsSettled d (device_of 0 w)
-      coordinator_settled w = pick which w (subst (IsSettled d) is.decisions.counting.device is.decisions.counting.is_log.settled) is.decisions.counting.other
-        where
-          pick : (y z : WhichLog) → IsSettled d (device_of 0 y) → IsSettled d (device_of 0 (other_log y)) → IsSettled d (device_of 0 z)
-          pick LogA LogA one two = one
-          pick LogA LogB one two = two
-          pick LogB LogA one two = two
-          pick LogB LogB one two = one
+other_page : (w : WhichLog) (p q : ℕ) → device_of (part_device p) w ≢ pages_device q
+other_page LogA p q e = log_is_no_page p q 0 (omega arith) (omega (arith, e))
+other_page LogB p q e = log_is_no_page p q 1 (omega arith) e
 
-      coordinator_there : (w : WhichLog) → IsSameAt (device_of 0 w) (logs_of d.bytes) (logs_of image)
-      coordinator_there w = ap entries_in (there (device_of 0 w) (low w is.decisions.counting.known) (λ q. coordinator_apart w q (v q).which) (coordinator_settled w))
-        where
-          low : (z : WhichLog) → 1 < d.count → device_of 0 z < d.count
-          low LogA h = omega (arith, h)
-          low LogB h = h
+-- EACH IMAGE while shares are prepared, and pages are written to sides that no header names
+module _ {D : Type 0} (r : Reading D) (d : View) (which : WhichLog) (c : Coordinator D) (v : ℕ → PartView) (ready : IsReady r d which c v) (cs : List Change) (decision : Decision) (m : Move) (conts : List Cont) (payload : List ℕ) (entry : ℕ → List ℕ)
+    (may : MayCommit r c v cs decision m conts) (spelled : Spelled c v cs decision payload entry) (told : IsTrue d.told) (e : View) (answer : Option DiskErr) (parts : List Partition) (shares : List (List Change)) (applied : ℕ → List Id)
+    (are : ArePartitions d parts v applied) (size : length parts ≡ partition_count c) (others : KeepsBut (IsVoteDevice parts shares) d e answer) (named : (p : ℕ) → p < partition_count c → KeepsNamed (v p).log.header.sides d e (pages_device p))
+    (images : (p : ℕ) → p < partition_count c → EachImage e (device_of (part_device p) (v p).which) (IsBeforeOrWith (d.bytes (device_of (part_device p) (v p).which)) (entry p))) where
+  -- a device that is touched is the counting log of a partition, or has pages
+  touched : (dev : ℕ) → IsVoteDevice parts shares dev → ((q : ℕ) → dev ≢ device_of (part_device q) (v q).which) → ((q : ℕ) → dev ≢ pages_device q) → ⊥
+  touched dev (inl t) no_log no_page =
+      no_log t.p (t.log.device ∙ (if_some (slice_get parts t.p) t.x (λ y. IsPartition d y t.p (v t.p) (applied t.p)) t.at (are.each t.p)).device)
+  touched dev (inr t) no_log no_page = no_page t.p t.is
 
-      other_there : (p : ℕ) → p < partition_count c → IsSameAt (device_of (part_device p) (other_log (v p).which)) (logs_of d.bytes) (logs_of image)
-      other_there p low =
-          let q = partition p low in
-          ap entries_in (there (device_of (part_device p) (other_log (v p).which)) (below (v p).which q.1.known) apart q.1.other)
-        where
-          below : (w : WhichLog) → 4 + 3 * p < d.count → device_of (part_device p) (other_log w) < d.count
-          below LogA h = omega (arith, h)
-          below LogB h = omega (arith, h)
+  module _ (image : ℕ → List ℕ) (left : IsImage e image) where
+    at : (dev : ℕ) → dev < d.count → e.image dev (image dev)
+    at dev low = left dev (omega (arith, low, others.shape.count))
 
-          differs : (w : WhichLog) (a : ℕ) → device_of a (other_log w) ≢ device_of a w
-          differs LogA a e = omega (arith, e)
-          differs LogB a e = omega (arith, e)
+    -- a device that is no counting log of a partition, and has no pages
+    there : (dev : ℕ) → dev < d.count → ((q : ℕ) → dev ≢ device_of (part_device q) (v q).which) → ((q : ℕ) → dev ≢ pages_device q) → IsSettled d dev → image dev ≡ d.bytes dev
+    there dev low no_log no_page settled = settled (image dev) (others.images dev (λ t. touched dev t no_log no_page) (image dev) (at dev low))
 
-          apart : (k : ℕ) → device_of (part_device p) (other_log (v p).which) ≢ device_of (part_device k) (v k).which
-          apart k e =
-              let same : p ≡ k = one_device p k (other_log (v p).which) (v k).which e in
-              differs (v p).which (part_device p) (e ∙ ap (λ n. device_of (part_device n) (v n).which) (sym same))
+    log_settled : (p : ℕ) → p < partition_count c → (w : WhichLog) → IsSettled d (device_of (part_device p) w)
+    log_settled p low LogA = ready.log_a p low
+    log_settled p low LogB = ready.log_b p low
 
-      pub before_decision : (asked : Shape) → stands_on r image asked ≡ Ok (found_of c v)
-      before_decision asked = undecided r c v which cs (next_decision c u cs mv) m conts (spell_entry (Decides (next_decision c u cs mv))) (λ p. spell_prepared (prepared u (share_at (shares_of c.log.header.shape cs) p)))
-          may_commit (spelled room) (logs_of d.bytes) (logs_of image) d.bytes image (stood r d x which c v is told) (pages_same r d x which c v is told image) asked
-          (record { a = coordinator_there LogA; b = coordinator_there LogB; part = λ p low. part p low (images p (omega (arith, low, is.size)) (others.shape.told ∙ told) (image (device_of (part_device p) (v p).which)) (left (device_of (part_device p) (v p).which) (counted p low))) })
-        where
-          counted : (p : ℕ) → p < partition_count c → device_of (part_device p) (v p).which < b.count
-          counted p low = by (v p).which (omega (arith, (partition p low).1.known, others.shape.count))
-            where
-              by : (w : WhichLog) → 4 + 3 * p < b.count → device_of (part_device p) w < b.count
-              by LogA h = omega (arith, h)
-              by LogB h = omega (arith, h)
+    other_apart : (p q : ℕ) → device_of (part_device p) (other_log (v p).which) ≢ device_of (part_device q) (v q).which
+    other_apart p q equal =
+        let same : p ≡ q = one_device p q (other_log (v p).which) (v q).which equal in
+        differs (v p).which (part_device p) (equal ∙ ap (λ (n : ℕ). device_of (part_device n) (v n).which) (sym same))
 
-          both : (p : ℕ) (w : WhichLog) → IsSameAt (device_of (part_device p) w) (logs_of d.bytes) (logs_of image) → IsSameAt (device_of (part_device p) (other_log w)) (logs_of d.bytes) (logs_of image) → PartSame (logs_of d.bytes) (logs_of image) p
-          both p LogA one two = record { a = one; b = two }
-          both p LogB one two = record { a = two; b = one }
+    other_there : (p : ℕ) → p < partition_count c → IsSameAt (device_of (part_device p) (other_log (v p).which)) (logs_of d.bytes) (logs_of image)
+    other_there p low =
+        let dev = device_of (part_device p) (other_log (v p).which) in
+        ap entries_in (there dev (log_below (other_log (v p).which) p d.count (ready.known p low)) (other_apart p) (other_page (other_log (v p).which) p) (log_settled p low (other_log (v p).which)))
 
-          part : (p : ℕ) → p < partition_count c → IsBeforeOrWith (d.bytes (device_of (part_device p) (v p).which)) (spell_prepared (prepared u (share_at (shares_of c.log.header.shape cs) p))) (image (device_of (part_device p) (v p).which))
-              → PartSame (logs_of d.bytes) (logs_of image) p ⊎ PartMore (logs_of d.bytes) (logs_of image) p (v p).which (spell_prepared (prepared u (share_at (shares_of c.log.header.shape cs) p)))
-          part p low (inl same) = inl (both p (v p).which same (other_there p low))
-          part p low (inr more) = inr (record { more = record { entries = more.entries; before = more.was; after = more.now }; other = other_there p low })
+    both : (p : ℕ) (w : WhichLog) → IsSameAt (device_of (part_device p) w) (logs_of d.bytes) (logs_of image) → IsSameAt (device_of (part_device p) (other_log w)) (logs_of d.bytes) (logs_of image) → PartSame (logs_of d.bytes) (logs_of image) p
+    both p LogA one two = record { a = one; b = two }
+    both p LogB one two = record { a = two; b = one }
+
+    part : (p : ℕ) → p < partition_count c → IsBeforeOrWith (d.bytes (device_of (part_device p) (v p).which)) (entry p) (image (device_of (part_device p) (v p).which))
+        → PartSame (logs_of d.bytes) (logs_of image) p ⊎ PartMore (logs_of d.bytes) (logs_of image) p (v p).which (entry p)
+    part p low (inl same) = inl (both p (v p).which same (other_there p low))
+    part p low (inr more) = inr (record { more = record { entries = more.entries; before = more.was; after = more.now }; other = other_there p low })
+
+  pub before_decision : StandsAlways r e c v
+  before_decision asked image left = undecided r c v which cs decision m conts payload entry may spelled (logs_of d.bytes) (logs_of image) d.bytes image ready.stood
+      (λ p low. spare_reads d e (v p) (pages_device p) (named p low) (ready.pages p low) (image (pages_device p)) (at image left (pages_device p) (ready.known p low)))
+      asked
+      (record {
+        a = ap entries_in (there image left 0 (omega (arith, ready.two)) (λ q. coordinator_apart 0 q (v q).which (omega arith)) (λ q equal. omega (arith, equal)) ready.first);
+        b = ap entries_in (there image left 1 ready.two (λ q. coordinator_apart 1 q (v q).which (omega arith)) (λ q equal. omega (arith, equal)) ready.second);
+        part = λ p low.
+            let dev = device_of (part_device p) (v p).which in
+            part image left p low (images p low (others.shape.told ∙ told) (image dev) (at image left dev (log_below (v p).which p d.count (ready.known p low))));
+      })

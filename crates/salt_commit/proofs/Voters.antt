@@ -1,9 +1,9 @@
 -- The nodes of a unit's shares.
 use Rattle.salt_commit.specs.Messages.{nodes_from, nodes_of}
-use Rattle.salt_commit.specs.Shares.{has_changes, share_at}
 use Rattle.salt_net.specs.Flags.{are_nodes, has_node}
 use Rattle.salt_model.specs.Words.{is_empty}
 use Rattle.salt_place.specs.declared.placement.Shape.{Shape}
+use Rattle.salt_shares.specs.Shares.{has_changes, share_at}
 use Rattle.salt_stands.specs.Pieces.{listed}
 use Rattle.salt_stands.specs.Placed as placed
 use Rattle.salt_stands.specs.Placed.{changes_at}

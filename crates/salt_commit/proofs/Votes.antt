@@ -1,13 +1,13 @@
 -- The turns of a unit up to its decision, on the net and in the partitions.
+use Rattle.salt_paged.specs.Partitions.{ArePartitions}
+use Rattle.salt_parts.proofs.Lists.{some_at}
+use Rattle.salt_parts.specs.Openings.{decided_in}
+use Rattle.salt_shares.specs.Prepares.{with_shares}
 use Rattle.salt_turns.specs.Amid.{IsOnTheWay, IsUndecided, behind_next, next_in, status_now}
 use Rattle.salt_turns.proofs.Amid.{decides_prepared, in_range, prepares_idle, restarts_named, undecided_held}
-use Rattle.salt_commit.proofs.Lists.{some_at}
 use Rattle.salt_commit.proofs.Voters.{named_of, node_within}
 use Rattle.salt_commit.proofs.Voting.{GoesAt, all_idle, all_voted, goes_as, may_prepare_one, may_reopen, next_goes}
-use Rattle.salt_commit.specs.Again.{decided_in}
 use Rattle.salt_commit.specs.Messages.{nodes_of}
-use Rattle.salt_commit.specs.Prepares.{with_shares}
-use Rattle.salt_commit.specs.Stores.{ArePartitions}
 use Rattle.salt_commit.specs.Voting.{DidNext, MayDoNext, MayPrepareAt, MayReopenAt, MayVote, MayVoteAs}
 use Rattle.salt_turns.specs.declared.coming.Next.TheVariants as next
 use Rattle.salt_turns.specs.declared.coming.Next.{Next}
@@ -19,7 +19,7 @@ use Rattle.salt_net.specs.Paces.{Pace}
 use Rattle.salt_net.specs.Turns.{Turning}
 use Rattle.salt_net.specs.declared.kinds.NodeStatus.TheVariants.{Idle, Prepared, Started as Asking}
 use Rattle.salt_net.specs.declared.kinds.NodeStatus.{NodeStatus}
-use Rattle.salt_partition.specs.declared.partition.Partition.{Partition}
+use Rattle.salt_paged.specs.declared.partition.Partition.{Partition}
 use Rattle.salt_stands.specs.CoordinatorLog.{CoordinatorLog}
 use Rattle.salt_stands.specs.Pieces.{PartView}
 use Rattle.salt_values.specs.declared.change.Change.{Change}

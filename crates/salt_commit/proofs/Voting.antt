@@ -2,44 +2,46 @@
 use Rattle.salt_bytes.specs.Generations.{LogA, LogB, WhichLog}
 use Rattle.salt_bytes.specs.Log.{entries_in}
 use Rattle.salt_bytes.specs.Partition.{spell_prepared}
-use Rattle.salt_commit.proofs.Lists.{map_set, set_other, set_same, some_at, within_at}
-use Rattle.salt_commit.proofs.Sharing.{one_device}
-use Rattle.salt_commit.proofs.Standing.{apart_from_part, if_some, make_some}
+use Rattle.salt_checkpoint.proofs.Torn.{keeps_all, keeps_more}
+use Rattle.salt_checkpoint.specs.Sides.{KeepsNamed}
+use Rattle.salt_commit.proofs.Standing.{apart_from_part}
+use Rattle.salt_paged.proofs.Framed.{partition_kept}
+use Rattle.salt_paged.specs.Partitions.{ArePartitions, IsPartition, log_device, log_gate, pages_of}
+use Rattle.salt_parts.proofs.Lists.{if_some, make_some, set_other, set_same, some_at}
+use Rattle.salt_parts.specs.Openings.{decided_in}
+use Rattle.salt_shares.proofs.Sharing.{full_maps, one_device, pages_apart}
+use Rattle.salt_shares.specs.Prepares.{FullWhere, IsLogOfShares, IsShareLog, PassesLimit, StandsForShare, with_shares}
+use Rattle.salt_shares.specs.Shares.{has_changes, share_at, with_share}
 use Rattle.salt_turns.specs.Amid.{behind_next}
-use Rattle.salt_commit.specs.Again.{ReadsAs, StandsUnder, decided_in}
-use Rattle.salt_commit.specs.Prepares.{FullWhere, IsLogOfShares, IsShareLog, OnePassesLimit, PassesLimit, StandsForShare, with_shares}
-use Rattle.salt_commit.specs.Shares.{has_changes, share_at, with_share}
-use Rattle.salt_commit.specs.Stores.{ArePartitions}
-use Rattle.salt_commit.specs.Voting.{DidNext, HasDoneNothing, HasPreparedAt, HasReopenedAt, HaveVoted, MayVote, MayVoteAs}
+use Rattle.salt_commit.specs.Again.{ReadsAs, StandsUnder}
+use Rattle.salt_commit.specs.Voting.{DidNext, HasDoneNothing, HasPreparedAt, HasReopenedAt, HaveVoted, IsVoteDevice, MayVote, MayVoteAs, VotesPassLimit}
 use Rattle.salt_turns.specs.declared.coming.Next.TheVariants as next
 use Rattle.salt_turns.specs.declared.coming.Next.{Next}
 use Rattle.salt_decisions.specs.Decisions.{IsBeforeOrWith}
 use Rattle.salt_disk.proofs.CallAfterCall.{cause_memory, cause_none, cause_on, each_shrinks, keeps_on, keeps_wider, kept_on, same_shape}
-use Rattle.salt_disk.specs.Disks.{EachImage, HasCause, IsUnchanged, KeepsAll, KeepsBut, OnlyFails, View}
+use Rattle.salt_disk.specs.Disks.{EachImage, HasCause, IsUnchanged, KeepsBut, KeepsOthers, View}
 use Rattle.salt_disk.specs.declared.disks.DiskErr.TheVariants.{Failed, Full, Memory, Stopped}
 use Rattle.salt_disk.specs.declared.disks.DiskErr.{DiskErr}
 use Rattle.salt_net.specs.declared.kinds.NodeStatus.TheVariants.{Abort, Commit, Idle, Prepared, Started as Asking, Unknown}
 use Rattle.salt_net.specs.declared.kinds.NodeStatus.{NodeStatus}
-use Rattle.salt_partition.proofs.Framed.{partition_kept}
-use Rattle.salt_partition.proofs.Reopened.{goes_same}
-use Rattle.salt_partition.proofs.Standing.{settled_kept}
-use Rattle.salt_partition.specs.Partitions.{IsPartition, log_device, log_gate, prepared, rows_in}
-use Rattle.salt_partition.specs.declared.partition.Partition.{Partition}
+use Rattle.salt_paged.proofs.Standing.{settled_kept}
+use Rattle.salt_partition.specs.Partitions.{prepared}
+use Rattle.salt_paged.specs.declared.partition.Partition.{Partition}
 use Rattle.salt_stands.proofs.Pairs.{pair_same}
 use Rattle.salt_stands.specs.Coordinator.{device_of}
 use Rattle.salt_stands.specs.CoordinatorLog.{CoordinatorLog, coordinator_generation, coordinator_in}
 use Rattle.salt_stands.specs.OpenedPart.{is_known_log}
-use Rattle.salt_stands.specs.Partition.{part_device}
+use Rattle.salt_stands.specs.Partition.{pages_device, part_device}
 use Rattle.salt_stands.specs.Pieces.{PartView, with_prepared_unit}
 use Rattle.salt_stands.specs.Stands.{logs_of}
 use Rattle.salt_values.specs.declared.change.Change.{Change}
 use Rattle.salt_values.specs.declared.id.Id.{Id}
-use Rattle.std.proofs.Common.{Err, IsTrue, List, None, Ok, Option, Result, Some, [], ap, arith, get_or, inl, inr, length, refl, slice_set, subst, sym, true, ℕ, ◌+◌, ◌<◌, ◌≡◌, ◌≢◌, ◌⊎◌, ◌∙◌}
+use Rattle.std.proofs.Common.{Err, IsTrue, List, None, Ok, Option, Result, Some, [], ap, arith, get_or, inl, inr, length, refl, slice_set, subst, sym, true, ℕ, ◌+◌, ◌<◌, ◌≡◌, ◌≢◌, ◌⊎◌, ◌∙◌, ◌∷◌}
 use Rattle.std.proofs.lemmas.Bool.Decides.{nat_tests}
 use Rattle.std.proofs.lemmas.Bool.{cases_eq, eqb-true}
 use Rattle.std.proofs.lemmas.List.{length-set}
-use Rattle.std.proofs.lemmas.Option.{slice_get_read}
-use Rattle.std.specs.Prelude.{Bool, IfSome, OnOk, false, if◌then◌else◌, map, slice_get, suc, ◌==◌}
+use Rattle.std.proofs.lemmas.Option.{slice_get_read, slice_get_within}
+use Rattle.std.specs.Prelude.{Bool, IfSome, OnOk, false, if◌then◌else◌, slice_get, suc, ◌==◌}
 use Rattle.std.specs.Result.{result_err}
 
 -- what a partition's log says: where its node is prepared, it has the share's entry
@@ -60,16 +62,16 @@ pub record GoesAt (d0 d : View) (parts0 parts : List Partition) (u : Id) (shares
       → EachImage d (device_of (part_device p) (v p).which) (IsBeforeOrWith (d0.bytes (device_of (part_device p) (v p).which)) (spell_prepared (prepared u (share_at shares p))))
   pub idle : (which : WhichLog) (log : CoordinatorLog) (v : ℕ → PartView) → MayVoteAs d0 parts0 u shares which log v → (p : ℕ) → s p ≡ Idle → IsUnchanged d0 d (device_of (part_device p) (v p).which)
   pub gates : (p : ℕ) (x x0 : Partition) → s p ≡ Idle → slice_get parts p ≡ Some x → slice_get parts0 p ≡ Some x0 → log_gate x ≡ log_gate x0
-  pub others : KeepsBut (IsLogOfShares parts0 shares (length parts0)) d0 d None
+  pub named : (which : WhichLog) (log : CoordinatorLog) (v : ℕ → PartView) → MayVoteAs d0 parts0 u shares which log v → IsTrue d0.told → (p : ℕ) → p < length parts0 → KeepsNamed (v p).log.header.sides d0 d (pages_device p)
+  pub others : KeepsBut (IsVoteDevice parts0 shares) d0 d None
   pub cause : HasCause d0 d None
-  pub stay : map rows_in parts ≡ map rows_in parts0
 
 one_of : (o : Option Partition) (x y : Partition) → o ≡ Some x → o ≡ Some y → x ≡ y
 one_of o x y a b = let same : Some x ≡ Some y = sym a ∙ b in cc
 
 -- a partition that is read at its place
 pub read_at : (parts : List Partition) (n : ℕ) (x y : Partition) → slice_get parts n ≡ Some x → y ≡ get_or parts n y → y ≡ x
-read_at parts n x y at read = one_of (slice_get parts n) y x (slice_get_read parts (length parts) n y refl (within_at parts n x at) read) at
+read_at parts n x y at read = one_of (slice_get parts n) y x (slice_get_read parts (length parts) n y refl (slice_get_within parts n x at) read) at
 
 -- what a call has answered
 pub ok_then : {T : Type 0} (r : Result T DiskErr) (P : Type 0) → result_err r ≡ None → OnOk r P → P
@@ -107,9 +109,9 @@ all_idle d parts u shares = record {
       inl (ap entries_in (is.is_log.settled c (subst (λ dev. d.image dev c) (sym is.device) left) ∙ ap d.bytes is.device));
   idle = λ which log v base p idle. record { bytes = refl; images = λ c left. left };
   gates = λ p x x0 idle a b. ap log_gate (one_of (slice_get parts p) x x0 a b);
+  named = λ which log v base told p low. keeps_all (v p).log.header.sides d d (pages_device p) (λ c left. left);
   others = record { shape = same_shape d; kept = λ dev other. record { bytes = refl; images = λ c left. left }; images = λ dev other c left. left };
   cause = cause_none d;
-  stay = refl;
 }
 
 -- it is of what nodes hold alone
@@ -121,10 +123,36 @@ goes_as d0 d parts0 parts u shares s z same g = record {
   images = g.images;
   idle = λ which log v base p idle. g.idle which log v base p (sym (same p) ∙ idle);
   gates = λ p x x0 idle. g.gates p x x0 (sym (same p) ∙ idle);
+  named = g.named;
   others = g.others;
   cause = g.cause;
-  stay = g.stay;
 }
+
+-- an entry leaves the sides of its header
+same_sides : (k : NodeStatus) (u : Id) (cs : List Change) (v : PartView) → (view_by k u cs v).log.header.sides ≡ v.log.header.sides
+same_sides Prepared u [] v = refl
+same_sides Prepared u (c ∷ cs) v = refl
+same_sides Unknown u cs v = refl
+same_sides Asking u cs v = refl
+same_sides Idle u cs v = refl
+same_sides Commit u cs v = refl
+same_sides Abort u cs v = refl
+
+apart_pages : (p q : ℕ) → p ≢ q → pages_device p ≢ pages_device q
+apart_pages p q other e = other (omega (arith, e))
+
+first_page : (p q : ℕ) → part_device p ≢ pages_device q
+first_page p q e = omega (arith, e)
+
+second_page : (p q : ℕ) → part_device p + 1 ≢ pages_device q
+second_page p q e = omega (arith, e)
+
+log_page : (p q : ℕ) (w : WhichLog) → device_of (part_device p) w ≢ pages_device q
+log_page p q w e = pages_apart q p w (sym e)
+
+coordinator_page : (w : WhichLog) (q : ℕ) → device_of 0 w ≢ pages_device q
+coordinator_page LogA q e = omega (arith, e)
+coordinator_page LogB q e = omega (arith, e)
 
 first_apart : (p q : ℕ) (w : WhichLog) → p ≢ q → part_device p ≢ device_of (part_device q) w
 first_apart p q w other e = other (one_device p q LogA w e)
@@ -153,8 +181,11 @@ module _ (d0 d e : View) (parts0 parts : List Partition) (u : Id) (shares : List
     still_reads = reads_kept d0 d which log (unchanged LogA) (unchanged LogB) g.others.shape.count (λ now. sym g.others.shape.told ∙ now) base.reads
       where
         unchanged : (w : WhichLog) → IsUnchanged d0 d (device_of 0 w)
-        unchanged w = g.others.kept (device_of 0 w) (λ t.
-            coordinator_apart w t.p (v t.p).which (t.log.device ∙ (if_some (slice_get parts0 t.p) t.x (λ z. IsPartition d0 z t.p (v t.p) (decided_in log t.p)) t.at (base.are.each t.p)).device))
+        unchanged w = g.others.kept (device_of 0 w) untouched
+          where
+            untouched : ¬ IsVoteDevice parts0 shares (device_of 0 w)
+            untouched (inl t) = coordinator_apart w t.p (v t.p).which (t.log.device ∙ (if_some (slice_get parts0 t.p) t.x (λ z. IsPartition d0 z t.p (v t.p) (decided_in log t.p)) t.at (base.are.each t.p)).device)
+            untouched (inr t) = coordinator_page w t.p t.is
 
     pub own : (n : ℕ) (x : Partition) → slice_get parts n ≡ Some x → IsPartition d x n (view_by (s n) u (share_at shares n) (v n)) (decided_in log n)
     own n x at = if_some (slice_get parts n) x (λ y. IsPartition d y n (view_by (s n) u (share_at shares n) (v n)) (decided_in log n)) at (g.each which log v base n)
@@ -163,7 +194,7 @@ module _ (d0 d e : View) (parts0 parts : List Partition) (u : Id) (shares : List
     first n x at idle = subst (λ (k : NodeStatus). IsPartition d x n (view_by k u (share_at shares n) (v n)) (decided_in log n)) idle (own n x at)
 
   -- WHAT COMES NEXT may be done
-  pub may_reopen : MayVote d0 parts0 u shares → (n : ℕ) (x : Partition) → slice_get parts n ≡ Some x → n < 8 → (s n ≡ Idle) ⊎ (s n ≡ Prepared) → StandsUnder d x []
+  pub may_reopen : MayVote d0 parts0 u shares → (n : ℕ) (x : Partition) → slice_get parts n ≡ Some x → n < 8 → (s n ≡ Idle) ⊎ (s n ≡ Prepared) → StandsUnder d x
   may_reopen may n x at low held = record {
     which = may.which;
     log = may.log;
@@ -173,8 +204,8 @@ module _ (d0 d e : View) (parts0 parts : List Partition) (u : Id) (shares : List
     v = view_by (s n) u (share_at shares n) (may.v n);
     applied = decided_in may.log n;
     is = own may.which may.log may.v may.stand n x at;
-    goes_on = goes_same (view_by (s n) u (share_at shares n) (may.v n)) (decided_in may.log n);
-    known = λ now. by held (sym g.others.shape.told ∙ now) (omega (arith, within_at parts n x at, g.size));
+    goes_on = λ w not. not;
+    known = λ now. by held (sym g.others.shape.told ∙ now) (omega (arith, slice_get_within parts n x at, g.size));
   }
     where
       by : (s n ≡ Idle) ⊎ (s n ≡ Prepared) → IsTrue d0.told → n < length parts0 → is_known_log may.log.told.boot (decided_in may.log n) (view_by (s n) u (share_at shares n) (may.v n)).log ≡ true
@@ -187,7 +218,7 @@ module _ (d0 d e : View) (parts0 parts : List Partition) (u : Id) (shares : List
   -- A NODE PREPARES, whatever is answered
   module _ (is : List Partition) (n : ℕ) (answer : Option DiskErr) (h : HasPreparedAt d e parts is u shares n answer) (idle : s n ≡ Idle) where
     low : n < length parts0
-    low = omega (arith, within_at parts n h.x h.at, g.size)
+    low = omega (arith, slice_get_within parts n h.x h.at, g.size)
 
     was : (x0 : Partition) × (slice_get parts0 n ≡ Some x0)
     was = some_at parts0 n low
@@ -195,8 +226,17 @@ module _ (d0 d e : View) (parts0 parts : List Partition) (u : Id) (shares : List
     same_device : log_device h.x ≡ log_device was.0
     same_device = (first which0 log0 v0 base0 n h.x h.at idle).device ∙ sym (if_some (slice_get parts0 n) was.0 (λ y. IsPartition d0 y n (v0 n) (decided_in log0 n)) was.1 (base0.are.each n)).device
 
-    touched : (dev : ℕ) → IsShareLog h.x (share_at shares n) dev → IsLogOfShares parts0 shares (length parts0) dev
-    touched dev t = record { p = n; low = low; x = was.0; at = was.1; log = record { changed = t.changed; device = t.device ∙ same_device } }
+    touched : (dev : ℕ) → IsShareLog h.x (share_at shares n) dev → IsVoteDevice parts0 shares dev
+    touched dev t = inl (record { p = n; low = low; x = was.0; at = was.1; log = record { changed = t.changed; device = t.device ∙ same_device } })
+
+    -- no page is written
+    page_apart : (p : ℕ) → ¬ IsShareLog h.x (share_at shares n) (pages_device p)
+    page_apart p t = pages_apart p n (v0 n).which (t.device ∙ (first which0 log0 v0 base0 n h.x h.at idle).device)
+
+    named_next : (which : WhichLog) (log : CoordinatorLog) (v : ℕ → PartView) → MayVoteAs d0 parts0 u shares which log v → IsTrue d0.told → (p : ℕ) → p < length parts0 → KeepsNamed (v p).log.header.sides d0 e (pages_device p)
+    named_next which log v base told p within =
+        let sides = (v p).log.header.sides in
+        keeps_more sides d0 d e (pages_device p) (g.named which log v base told p within) (keeps_all sides d e (pages_device p) (h.others.images (pages_device p) (page_apart p)))
 
     image_next : (which : WhichLog) (log : CoordinatorLog) (v : ℕ → PartView) → MayVoteAs d0 parts0 u shares which log v → (p : ℕ) → p < length parts0 → (p ≡ n) ⊎ (p ≢ n)
         → EachImage e (device_of (part_device p) (v p).which) (IsBeforeOrWith (d0.bytes (device_of (part_device p) (v p).which)) (spell_prepared (prepared u (share_at shares p))))
@@ -212,17 +252,17 @@ module _ (d0 d e : View) (parts0 parts : List Partition) (u : Id) (shares : List
         each_shrinks d e dev (IsBeforeOrWith (d0.bytes dev) (spell_prepared (prepared u (share_at shares p)))) h.others.shape
         (h.others.images dev (λ t. other (one_device p n (v p).which (v n).which (t.device ∙ (first which log v base n h.x h.at idle).device)))) (g.images which log v base p within)
 
-    full_next : (a : Option DiskErr) → FullWhere (PassesLimit d.limit h.x u (share_at shares n)) a → FullWhere (OnePassesLimit d0.limit parts0 u shares) a
+    full_next : (a : Option DiskErr) → FullWhere (PassesLimit d.limit h.x u (share_at shares n)) a → FullWhere (VotesPassLimit d0.limit parts0 u shares) a
     full_next None f = tt
     full_next (Some Failed) f = tt
     full_next (Some Stopped) f = tt
     full_next (Some Memory) f = tt
-    full_next (Some (Full dev)) f = record {
+    full_next (Some (Full dev)) f = inl (record {
       p = n;
       x = was.0;
       at = was.1;
       passes = record { log = record { changed = f.log.changed; device = f.log.device ∙ same_device }; over = omega (arith, f.over, g.others.shape.limit dev, g.gates n h.x was.0 idle h.at was.1) };
-    }
+    })
 
     untouched_next : (k : ℕ) → answer ≡ Some (Full k) → IsUnchanged d0 e k
     untouched_next k is_full =
@@ -235,11 +275,11 @@ module _ (d0 d e : View) (parts0 parts : List Partition) (u : Id) (shares : List
     pub prepared_voted : HaveVoted d0 e parts0 is u shares answer
     prepared_voted = record {
       images = λ which log v base p within. image_next which log v base p within (cases_eq p n);
-      stay = ap (map rows_in) h.set ∙ (map_set rows_in parts n h.x h.y h.at h.rows ∙ g.stay);
-      others = keeps_on (IsLogOfShares parts0 shares (length parts0)) d0 d e answer g.others (keeps_wider (IsShareLog h.x (share_at shares n)) (IsLogOfShares parts0 shares (length parts0)) d e answer touched h.others);
+      named = named_next;
+      others = keeps_on (IsVoteDevice parts0 shares) d0 d e answer g.others (keeps_wider (IsShareLog h.x (share_at shares n)) (IsVoteDevice parts0 shares) d e answer touched h.others);
       cause = cause_on d0 d e answer g.cause h.cause;
-      full = full_next answer h.full;
-      untouched = untouched_next;
+      full = λ told. full_next answer h.full;
+      untouched = λ k is_full log. untouched_next k is_full;
       size = ap (λ (l : List Partition). length l) h.set ∙ (length-set parts n h.y ∙ g.size);
     }
 
@@ -255,7 +295,7 @@ module _ (d0 d e : View) (parts0 parts : List Partition) (u : Id) (shares : List
           → IfSome (slice_get (slice_set parts n h.y) p) (λ y. IsPartition e y p (view_by (s' p) u (share_at shares p) (v p)) (decided_in log p))
       place_next which log v base p (inl same) =
           subst (λ k. IfSome (slice_get (slice_set parts n h.y) k) (λ y. IsPartition e y k (view_by (s' k) u (share_at shares k) (v k)) (decided_in log k))) (sym same)
-          (subst (λ o. IfSome o (λ y. IsPartition e y n (view_by (s' n) u (share_at shares n) (v n)) (decided_in log n))) (sym (set_same parts n h.y (within_at parts n h.x h.at)))
+          (subst (λ o. IfSome o (λ y. IsPartition e y n (view_by (s' n) u (share_at shares n) (v n)) (decided_in log n))) (sym (set_same parts n h.y (slice_get_within parts n h.x h.at)))
           (subst (λ (k : NodeStatus). IsPartition e h.y n (view_by k u (share_at shares n) (v n)) (decided_in log n)) (sym mine)
           (h.goes fine n (v n) (decided_in log n) (first which log v base n h.x h.at idle) (base.may.each n))))
       place_next which log v base p (inr other) =
@@ -265,6 +305,7 @@ module _ (d0 d e : View) (parts0 parts : List Partition) (u : Id) (shares : List
           partition_kept d e y p (view_by (s p) u (share_at shares p) (v p)) (decided_in log p) h.others.shape
           (kept_none.kept (part_device p) (λ t. first_apart p n (v n).which other (t.device ∙ (first which log v base n h.x h.at idle).device)))
           (kept_none.kept (part_device p + 1) (λ t. second_apart p n (v n).which other (t.device ∙ (first which log v base n h.x h.at idle).device)))
+          (kept_none.kept (pages_device p) (page_apart p))
           (own which log v base p y at))))
 
       idle_next : (which : WhichLog) (log : CoordinatorLog) (v : ℕ → PartView) → MayVoteAs d0 parts0 u shares which log v → (p : ℕ) → s' p ≡ Idle → (p ≡ n) ⊎ (p ≢ n) → IsUnchanged d0 e (device_of (part_device p) (v p).which)
@@ -288,75 +329,87 @@ module _ (d0 d e : View) (parts0 parts : List Partition) (u : Id) (shares : List
         images = λ which log v base p within. image_next which log v base p within (cases_eq p n);
         idle = λ which log v base p still. idle_next which log v base p still (cases_eq p n);
         gates = λ p x x0 still a b. gate_next p x x0 still a b (cases_eq p n);
-        others = keeps_on (IsLogOfShares parts0 shares (length parts0)) d0 d e None g.others (keeps_wider (IsShareLog h.x (share_at shares n)) (IsLogOfShares parts0 shares (length parts0)) d e None touched kept_none);
+        named = named_next;
+        others = keeps_on (IsVoteDevice parts0 shares) d0 d e None g.others (keeps_wider (IsShareLog h.x (share_at shares n)) (IsVoteDevice parts0 shares) d e None touched kept_none);
         cause = cause_on d0 d e None g.cause (subst (HasCause d e) fine h.cause);
-        stay = map_set rows_in parts n h.x h.y h.at h.rows ∙ g.stay;
       })
 
-  -- A NODE STARTS AGAIN: nothing is written, and it stands as it did
-  only_fails : (a : Option DiskErr) (k : ℕ) → OnlyFails a → a ≡ Some (Full k) → ⊥
-  only_fails None k o e = cc
-  only_fails (Some Failed) k o e = cc
-  only_fails (Some Stopped) k o e = cc
-  only_fails (Some Memory) k o e = cc
-  only_fails (Some (Full n)) k o e = o
-
-  full_not : (P : ℕ → Type 0) (a : Option DiskErr) → OnlyFails a → FullWhere P a
-  full_not P None o = tt
-  full_not P (Some Failed) o = tt
-  full_not P (Some Stopped) o = tt
-  full_not P (Some Memory) o = tt
-  full_not P (Some (Full n)) o = absurd o
-
+  -- A NODE STARTS AGAIN: it stands as it did, and its pages alone are written
   module _ (is : List Partition) (n : ℕ) (answer : Option DiskErr) (h : HasReopenedAt d e parts is n answer) where
+    within_parts : n < length parts0
+    within_parts = omega (arith, slice_get_within parts n h.x h.at, g.size)
+
+    its_pages : pages_of h.x ≡ pages_device n
+    its_pages = ap pages_device (own which0 log0 v0 base0 n h.x h.at).part
+
     goes_for : answer ≡ None → (which : WhichLog) (log : CoordinatorLog) (v : ℕ → PartView) → MayVoteAs d0 parts0 u shares which log v → IsPartition e h.y n (view_by (s n) u (share_at shares n) (v n)) (decided_in log n)
     goes_for fine which log v base =
         let w = view_by (s n) u (share_at shares n) (v n) in
-        h.goes fine which log n w (decided_in log n) (still_reads which log v base) (own which log v base n h.x h.at) (goes_same w (decided_in log n))
+        h.goes fine which log n w (decided_in log n) (still_reads which log v base) (own which log v base n h.x h.at) (λ k not. not)
 
-    same_rows : rows_in h.y ≡ rows_in h.x
-    same_rows = by answer refl
+    wider : (a : Option DiskErr) → KeepsOthers (pages_of h.x) d e a → KeepsBut (IsVoteDevice parts0 shares) d e a
+    wider a keeps = keeps_wider (λ dev. dev ≡ pages_of h.x) (IsVoteDevice parts0 shares) d e a (λ dev at. inr (record { p = n; low = within_parts; is = at ∙ its_pages })) keeps
+
+    named_again : (which : WhichLog) (log : CoordinatorLog) (v : ℕ → PartView) → MayVoteAs d0 parts0 u shares which log v → IsTrue d0.told → (p : ℕ) → p < length parts0 → KeepsNamed (v p).log.header.sides d0 e (pages_device p)
+    named_again which log v base told p within = keeps_more (v p).log.header.sides d0 d e (pages_device p) (g.named which log v base told p within) (by (cases_eq p n))
       where
-        by : (a : Option DiskErr) → answer ≡ a → rows_in h.y ≡ rows_in h.x
-        by None fine = (goes_for fine which0 log0 v0 base0).rows ∙ sym (own which0 log0 v0 base0 n h.x h.at).rows
-        by (Some k) failed = ap rows_in (h.stays k failed)
+        mine : KeepsNamed (v n).log.header.sides d e (pages_device n)
+        mine =
+            let w = view_by (s n) u (share_at shares n) (v n) in
+            subst (λ k. KeepsNamed (v n).log.header.sides d e k) its_pages
+            (subst (λ sides. KeepsNamed sides d e (pages_of h.x)) (same_sides (s n) u (share_at shares n) (v n))
+            (h.images n w (decided_in log n) (own which log v base n h.x h.at) (g.others.shape.told ∙ told)))
 
-    wider : (a : Option DiskErr) → KeepsAll d e a → KeepsBut (IsLogOfShares parts0 shares (length parts0)) d e a
-    wider a keeps = keeps_wider (λ _. ⊥) (IsLogOfShares parts0 shares (length parts0)) d e a (λ dev none. absurd none) keeps
+        by : (p ≡ n) ⊎ (p ≢ n) → KeepsNamed (v p).log.header.sides d e (pages_device p)
+        by (inl same) = subst (λ k. KeepsNamed (v k).log.header.sides d e (pages_device k)) (sym same) mine
+        by (inr other) = keeps_all (v p).log.header.sides d e (pages_device p) (h.others.images (pages_device p) (λ at. apart_pages p n other (at ∙ its_pages)))
+
+    images_again : (which : WhichLog) (log : CoordinatorLog) (v : ℕ → PartView) → MayVoteAs d0 parts0 u shares which log v → (p : ℕ) → p < length parts0
+        → EachImage e (device_of (part_device p) (v p).which) (IsBeforeOrWith (d0.bytes (device_of (part_device p) (v p).which)) (spell_prepared (prepared u (share_at shares p))))
+    images_again which log v base p within =
+        let dev = device_of (part_device p) (v p).which in
+        each_shrinks d e dev (IsBeforeOrWith (d0.bytes dev) (spell_prepared (prepared u (share_at shares p)))) h.others.shape (h.others.images dev (λ at. log_page p n (v p).which (at ∙ its_pages))) (g.images which log v base p within)
+
+    full_again : (a : Option DiskErr) → FullWhere (λ dev. dev ≡ pages_of h.x) a → FullWhere (VotesPassLimit d0.limit parts0 u shares) a
+    full_again a full = full_maps (λ dev. dev ≡ pages_of h.x) (VotesPassLimit d0.limit parts0 u shares) a (λ dev at. inr (record { p = n; low = within_parts; is = at ∙ its_pages })) full
+
+    no_log_full : (k : ℕ) → answer ≡ Some (Full k) → IsLogOfShares parts0 shares (length parts0) k → ⊥
+    no_log_full k is_full t =
+        let at : k ≡ pages_of h.x = subst (FullWhere (λ dev. dev ≡ pages_of h.x)) is_full h.full in
+        log_page t.p n (v0 t.p).which (sym (t.log.device ∙ (if_some (slice_get parts0 t.p) t.x (λ z. IsPartition d0 z t.p (v0 t.p) (decided_in log0 t.p)) t.at (base0.are.each t.p)).device) ∙ (at ∙ its_pages))
 
     pub reopened_voted : HaveVoted d0 e parts0 is u shares answer
     reopened_voted = record {
-      images = λ which log v base p within.
-          let dev = device_of (part_device p) (v p).which in
-          each_shrinks d e dev (IsBeforeOrWith (d0.bytes dev) (spell_prepared (prepared u (share_at shares p)))) h.kept.shape (h.kept.images dev (λ none. none)) (g.images which log v base p within);
-      stay = ap (map rows_in) h.set ∙ (map_set rows_in parts n h.x h.y h.at same_rows ∙ g.stay);
-      others = keeps_on (IsLogOfShares parts0 shares (length parts0)) d0 d e answer g.others (wider answer h.kept);
+      images = images_again;
+      named = named_again;
+      others = keeps_on (IsVoteDevice parts0 shares) d0 d e answer g.others (wider answer h.others);
       cause = cause_on d0 d e answer g.cause h.cause;
-      full = full_not (OnePassesLimit d0.limit parts0 u shares) answer h.answers;
-      untouched = λ k is_full. absurd (only_fails answer k h.answers is_full);
+      full = λ told. full_again answer h.full;
+      untouched = λ k is_full log. absurd (no_log_full k is_full log);
       size = ap (λ (l : List Partition). length l) h.set ∙ (length-set parts n h.y ∙ g.size);
     }
 
     module _ (fine : answer ≡ None) where
-      keeps : KeepsAll d e None
-      keeps = subst (KeepsAll d e) fine h.kept
+      keeps : KeepsOthers (pages_of h.x) d e None
+      keeps = subst (KeepsOthers (pages_of h.x) d e) fine h.others
 
-      unchanged : (dev : ℕ) → IsUnchanged d e dev
-      unchanged dev = keeps.kept dev (λ none. none)
+      unchanged : (dev : ℕ) → dev ≢ pages_device n → IsUnchanged d e dev
+      unchanged dev apart = keeps.kept dev (λ at. apart (at ∙ its_pages))
 
       place_again : (which : WhichLog) (log : CoordinatorLog) (v : ℕ → PartView) → MayVoteAs d0 parts0 u shares which log v → (p : ℕ) → (p ≡ n) ⊎ (p ≢ n)
           → IfSome (slice_get (slice_set parts n h.y) p) (λ y. IsPartition e y p (view_by (s p) u (share_at shares p) (v p)) (decided_in log p))
       place_again which log v base p (inl same) =
           subst (λ k. IfSome (slice_get (slice_set parts n h.y) k) (λ y. IsPartition e y k (view_by (s k) u (share_at shares k) (v k)) (decided_in log k))) (sym same)
-          (subst (λ o. IfSome o (λ y. IsPartition e y n (view_by (s n) u (share_at shares n) (v n)) (decided_in log n))) (sym (set_same parts n h.y (within_at parts n h.x h.at))) (goes_for fine which log v base))
+          (subst (λ o. IfSome o (λ y. IsPartition e y n (view_by (s n) u (share_at shares n) (v n)) (decided_in log n))) (sym (set_same parts n h.y (slice_get_within parts n h.x h.at))) (goes_for fine which log v base))
       place_again which log v base p (inr other) =
           subst (λ o. IfSome o (λ y. IsPartition e y p (view_by (s p) u (share_at shares p) (v p)) (decided_in log p))) (sym (set_other parts n p h.y other))
           (make_some (slice_get parts p) (λ y. IsPartition e y p (view_by (s p) u (share_at shares p) (v p)) (decided_in log p)) (λ y at.
-          partition_kept d e y p (view_by (s p) u (share_at shares p) (v p)) (decided_in log p) keeps.shape (unchanged (part_device p)) (unchanged (part_device p + 1)) (own which log v base p y at)))
+          partition_kept d e y p (view_by (s p) u (share_at shares p) (v p)) (decided_in log p) keeps.shape (unchanged (part_device p) (first_page p n)) (unchanged (part_device p + 1) (second_page p n)) (unchanged (pages_device p) (apart_pages p n other))
+          (own which log v base p y at)))
 
       gate_again : (p : ℕ) (x x0 : Partition) → s p ≡ Idle → slice_get (slice_set parts n h.y) p ≡ Some x → slice_get parts0 p ≡ Some x0 → (p ≡ n) ⊎ (p ≢ n) → log_gate x ≡ log_gate x0
       gate_again p x x0 still a b (inl same) =
-          let mine : h.y ≡ x = one_of (slice_get (slice_set parts n h.y) n) h.y x (set_same parts n h.y (within_at parts n h.x h.at)) (subst (λ k. slice_get (slice_set parts n h.y) k ≡ Some x) same a) in
+          let mine : h.y ≡ x = one_of (slice_get (slice_set parts n h.y) n) h.y x (set_same parts n h.y (slice_get_within parts n h.x h.at)) (subst (λ k. slice_get (slice_set parts n h.y) k ≡ Some x) same a) in
           ap log_gate (sym mine) ∙ (h.gate ∙ g.gates n h.x x0 (subst (λ k. s k ≡ Idle) same still) h.at (subst (λ k. slice_get parts0 k ≡ Some x0) same b))
       gate_again p x x0 still a b (inr other) = g.gates p x x0 still (sym (set_other parts n p h.y other) ∙ a) b
 
@@ -364,18 +417,18 @@ module _ (d0 d e : View) (parts0 parts : List Partition) (u : Id) (shares : List
       reopened_goes = subst (λ l. GoesAt d0 e parts0 l u shares s) (sym h.set) (record {
         size = length-set parts n h.y ∙ g.size;
         each = λ which log v base p. place_again which log v base p (cases_eq p n);
-        images = reopened_voted.images;
-        idle = λ which log v base p idle. let dev = device_of (part_device p) (v p).which in kept_on d0 d e dev (g.idle which log v base p idle) (unchanged dev);
+        images = images_again;
+        idle = λ which log v base p idle. let dev = device_of (part_device p) (v p).which in kept_on d0 d e dev (g.idle which log v base p idle) (unchanged dev (log_page p n (v p).which));
         gates = λ p x x0 still a b. gate_again p x x0 still a b (cases_eq p n);
-        others = keeps_on (IsLogOfShares parts0 shares (length parts0)) d0 d e None g.others (wider None keeps);
+        named = named_again;
+        others = keeps_on (IsVoteDevice parts0 shares) d0 d e None g.others (wider None keeps);
         cause = cause_on d0 d e None g.cause (subst (HasCause d e) fine h.cause);
-        stay = map_set rows_in parts n h.x h.y h.at same_rows ∙ g.stay;
       })
 
   -- NOTHING is done
   module _ (is : List Partition) (answer : Option DiskErr) (h : HasDoneNothing d e parts is answer) where
-    bare : KeepsBut (IsLogOfShares parts0 shares (length parts0)) d e None
-    bare = keeps_wider (λ _. ⊥) (IsLogOfShares parts0 shares (length parts0)) d e None (λ dev none. absurd none) h.kept
+    bare : KeepsBut (IsVoteDevice parts0 shares) d e None
+    bare = keeps_wider (λ _. ⊥) (IsVoteDevice parts0 shares) d e None (λ dev none. absurd none) h.kept
 
     still : (dev : ℕ) → IsUnchanged d e dev
     still dev = h.kept.kept dev (λ none. none)
@@ -385,15 +438,17 @@ module _ (d0 d e : View) (parts0 parts : List Partition) (u : Id) (shares : List
       size = g.size;
       each = λ which log v base p.
           make_some (slice_get parts p) (λ y. IsPartition e y p (view_by (s p) u (share_at shares p) (v p)) (decided_in log p)) (λ y at.
-          partition_kept d e y p (view_by (s p) u (share_at shares p) (v p)) (decided_in log p) h.kept.shape (still (part_device p)) (still (part_device p + 1)) (own which log v base p y at));
+          partition_kept d e y p (view_by (s p) u (share_at shares p) (v p)) (decided_in log p) h.kept.shape (still (part_device p)) (still (part_device p + 1)) (still (pages_device p)) (own which log v base p y at));
       images = λ which log v base p within.
           let dev = device_of (part_device p) (v p).which in
           each_shrinks d e dev (IsBeforeOrWith (d0.bytes dev) (spell_prepared (prepared u (share_at shares p)))) h.kept.shape (h.kept.images dev (λ none. none)) (g.images which log v base p within);
       idle = λ which log v base p idle. let dev = device_of (part_device p) (v p).which in kept_on d0 d e dev (g.idle which log v base p idle) (still dev);
       gates = g.gates;
-      others = keeps_on (IsLogOfShares parts0 shares (length parts0)) d0 d e None g.others bare;
+      named = λ which log v base told p within.
+          let sides = (v p).log.header.sides in
+          keeps_more sides d0 d e (pages_device p) (g.named which log v base told p within) (keeps_all sides d e (pages_device p) (h.kept.images (pages_device p) (λ none. none)));
+      others = keeps_on (IsVoteDevice parts0 shares) d0 d e None g.others bare;
       cause = cause_on d0 d e None g.cause h.cause;
-      stay = g.stay;
     })
 
     none_full : (k : ℕ) → answer ≡ Some (Full k) → ⊥
@@ -402,11 +457,11 @@ module _ (d0 d e : View) (parts0 parts : List Partition) (u : Id) (shares : List
     pub nothing_voted : HaveVoted d0 e parts0 is u shares answer
     nothing_voted = record {
       images = nothing_goes.images;
-      stay = nothing_goes.stay;
-      others = subst (KeepsBut (IsLogOfShares parts0 shares (length parts0)) d0 e) (sym h.fine) nothing_goes.others;
+      named = nothing_goes.named;
+      others = subst (KeepsBut (IsVoteDevice parts0 shares) d0 e) (sym h.fine) nothing_goes.others;
       cause = subst (HasCause d0 e) (sym h.fine) nothing_goes.cause;
-      full = subst (FullWhere (OnePassesLimit d0.limit parts0 u shares)) (sym h.fine) tt;
-      untouched = λ k is_full. absurd (none_full k is_full);
+      full = λ told. subst (FullWhere (VotesPassLimit d0.limit parts0 u shares)) (sym h.fine) tt;
+      untouched = λ k is_full log. absurd (none_full k is_full);
       size = nothing_goes.size;
     }
 
@@ -441,16 +496,16 @@ module _ (d0 d e : View) (parts0 parts : List Partition) (u : Id) (shares : List
 module _ (d0 d : View) (parts0 parts : List Partition) (u : Id) (shares : List (List Change)) (s : ℕ → NodeStatus) (g : GoesAt d0 d parts0 parts u shares s) where
   -- where no device call was made, and where memory lacks
   pub goes_voted : HaveVoted d0 d parts0 parts u shares None
-  goes_voted = record { images = g.images; stay = g.stay; others = g.others; cause = g.cause; full = tt; untouched = λ k none. absurd (let wrong : None ≡ Some (Full k) = none in cc); size = g.size }
+  goes_voted = record { images = g.images; named = g.named; others = g.others; cause = g.cause; full = λ told. tt; untouched = λ k none log. absurd (let wrong : None ≡ Some (Full k) = none in cc); size = g.size }
 
   pub goes_lacking : HaveVoted d0 d parts0 parts u shares (Some Memory)
   goes_lacking = record {
     images = g.images;
-    stay = g.stay;
+    named = g.named;
     others = record { shape = g.others.shape; kept = g.others.kept; images = g.others.images };
     cause = cause_memory d0 d g.cause;
-    full = tt;
-    untouched = λ k none. absurd (let wrong : Some Memory ≡ Some (Full k) = none in cc);
+    full = λ told. tt;
+    untouched = λ k none log. absurd (let wrong : Some Memory ≡ Some (Full k) = none in cc);
     size = g.size;
   }
 

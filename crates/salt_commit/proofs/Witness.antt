@@ -7,8 +7,8 @@ use Rattle.salt_bytes.specs.Partition.{spell_partition_header}
 use Rattle.salt_bytes.specs.declared.moves.Move.TheVariants.{Plain}
 use Rattle.salt_commit.proofs.Firsts.{first_store}
 use Rattle.salt_commit.specs.Commits.{MayCommitUnit}
-use Rattle.salt_commit.specs.Openings.{HasRoom, IsSchemaWhere}
-use Rattle.salt_commit.specs.Stores.{ArePartitions, StandsOnDevices, reading}
+use Rattle.salt_commit.specs.Openings.{IsSchemaWhere}
+use Rattle.salt_commit.specs.Stores.{StandsOnDevices, reading}
 use Rattle.salt_commit.specs.declared.store.Store.{Store}
 use Rattle.salt_decisions.proofs.Begun.{first_log}
 use Rattle.salt_decisions.proofs.Contents.{log_bytes}
@@ -19,19 +19,23 @@ use Rattle.salt_disk.specs.Disks.{View}
 use Rattle.salt_gatelog.specs.Log as gates
 use Rattle.salt_gatelog.specs.Log.{IsLog}
 use Rattle.salt_gatelog.specs.declared.log.GateLog.{GateLog}
+use Rattle.salt_paged.specs.Partitions.{ArePartitions, IsPartition}
 use Rattle.salt_partition.proofs.Lasts.{no_last}
-use Rattle.salt_partition.specs.Partitions.{IsPartition, rows_in}
-use Rattle.salt_partition.specs.declared.partition.Partition.{Partition}
+use Rattle.salt_paged.specs.declared.partition.Partition.{Partition}
+use Rattle.salt_parts.specs.Openings.{HasRoom}
 use Rattle.salt_stands.specs.Coordinator.{coordinator_pair}
 use Rattle.salt_stands.specs.CoordinatorLog.{coordinator_generation, coordinator_in}
 use Rattle.salt_stands.specs.FirstOpening.{first_coordinator, first_part_header, first_view}
-use Rattle.salt_stands.specs.Partition.{part_tables}
 use Rattle.salt_stands.specs.PartitionLog.{own_log, partition_generation, partition_in}
 use Rattle.salt_stands.specs.Stands.{logs_of}
 use Rattle.salt_place.specs.declared.placement.PlaceKind.TheVariants.{Remainder}
 use Rattle.salt_place.specs.declared.placement.Shape.{Shape}
 use Rattle.std.proofs.Common.{List, None, Some, [], ap, arith, false, refl, suc, true, zero, ℕ, ◌++◌, ◌≡◌, ◌∙◌, ◌∷◌}
-use Rattle.salt_model.specs.Tables.{with_changes}
+use Rattle.salt_checkpoint.specs.Checkpoints.{NamedSettled}
+use Rattle.salt_codec.specs.Entries.{header_of}
+use Rattle.salt_model.specs.Tables.{no_rows, with_changes}
+use Rattle.salt_partition.specs.Choices.{which_of}
+use Rattle.salt_rows.specs.Stores.{IsRowStore}
 use Rattle.std.proofs.Common.{subst, sym}
 use Rattle.std.specs.Prelude.{IfSome, length, slice_get, option_and_then}
 
@@ -123,35 +127,40 @@ part_behind : pair_of partition_generation (IsRead (first_view 2 0).log) (conten
 unfolding entries_in
 part_behind = refl
 
-no_rows_yet : (part_tables [] (first_view 2 0).log []).list ≡ []
-unfolding with_changes
-no_rows_yet = refl
+no_page_named : NamedSettled [] view 4
+no_page_named c left = record { each = λ page side named. cc }
 
-part_stands : (x : Partition) → x.part ≡ 0 → x.nulls ≡ true → x.log ≡ part_gate → rows_in x ≡ [] → IsPartition view x 0 (first_view 2 0) []
-part_stands x part nulls log rows = record {
+part_stands : (x : Partition) → x.part ≡ 0 → header_of x.header ≡ first_part_header 2 0 → which_of x.side ≡ LogA → x.log ≡ part_gate → IsRowStore view x.rows 4 [] no_rows → IsPartition view x 0 (first_view 2 0) []
+unfolding with_changes
+part_stands x part head at log rows = record {
   part = part;
+  header = head;
+  which = at;
   entries = header ∷ [];
   is_log = subst (λ l. IsLog view l (header ∷ [])) (sym log) part_log;
   some = omega arith;
   device = ap gates.device_of log;
   known = omega arith;
   other = λ c left. left;
-  nulls = nulls;
-  pages = refl;
-  none = refl;
-  keyed = tt;
+  put = tt;
   last = no_last [] x.last;
-  rows = rows ∙ sym no_rows_yet;
+  rows = rows;
+  keyed = tt;
   told = λ told. record {
     reads = part_reads;
     counts =
         ap (λ o. pair_of partition_generation (content_of (partition_in 0) o) (content_of (partition_in 0) (entries_in []))) (log_bytes view part_gate (header ∷ []) refl part_log)
         ∙ ap (λ o. pair_of partition_generation (read_or_outside o) (content_of (partition_in 0) (entries_in []))) part_reads ∙ part_behind;
+    pages = [];
+    named = refl;
+    rows = refl;
+    apart = refl;
+    settled = no_page_named;
   };
 }
 
-pub store_stands : (x : Store) (q : Partition) → x.decisions ≡ counting → x.parts ≡ q ∷ [] → q.part ≡ 0 → q.nulls ≡ true → q.log ≡ part_gate → rows_in q ≡ [] → StandsOnDevices view x
-store_stands x q decisions parts part nulls log rows = record {
+pub store_stands : (x : Store) (q : Partition) → x.decisions ≡ counting → x.parts ≡ q ∷ [] → q.part ≡ 0 → header_of q.header ≡ first_part_header 2 0 → which_of q.side ≡ LogA → q.log ≡ part_gate → IsRowStore view q.rows 4 [] no_rows → StandsOnDevices view x
+store_stands x q decisions parts part head at log rows = record {
   which = LogA;
   c = first_coordinator shape 3;
   v = first_view 2;
@@ -160,21 +169,21 @@ store_stands x q decisions parts part nulls log rows = record {
 }
   where
     each : (p : ℕ) → IfSome (slice_get (q ∷ []) p) (λ z. IsPartition view z p (first_view 2 p) [])
-    each zero = part_stands q part nulls log rows
+    each zero = part_stands q part head at log rows
     each (suc p) = tt
 
 -- a unit without changes
-pub may_commit_nothing : MayCommitUnit reading (first_coordinator shape 3) (first_view 2) (record { boot = 0; seq = 1 }) [] (0 ∷ []) Plain []
+pub may_commit_nothing : MayCommitUnit true reading (first_coordinator shape 3) (first_view 2) (record { boot = 0; seq = 1 }) [] (0 ∷ []) Plain []
 may_commit_nothing = record {
-  boot = omega arith;
+  boot = λ told. omega arith;
   fresh = λ p low. refl;
   new = λ p low. refl;
   ordered = refl;
-  fits = refl;
+  fits = λ told. refl;
   put = λ p low. tt;
-  spells = refl;
-  moves = refl;
-  named = refl;
+  spells = λ told. refl;
+  moves = λ told. refl;
+  named = λ told. refl;
 }
 
 -- it may be opened again, under the schema of its log, which defines nothing

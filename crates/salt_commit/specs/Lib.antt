@@ -1,7 +1,6 @@
 pub mod Shown
 pub mod Stores
 pub mod Shares
-pub mod Prepares
 pub mod Commits
 pub mod Openings
 pub mod Reads

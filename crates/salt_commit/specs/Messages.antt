@@ -1,5 +1,5 @@
 -- Commits over messages: the nodes of a unit, and the net of a store.
-use Rattle.salt_commit.specs.Shares.{has_changes}
+use Rattle.salt_shares.specs.Shares.{has_changes}
 use Rattle.salt_commit.specs.declared.store.Store.{Store}
 use Rattle.salt_net.specs.Paces.{Pace, turning_of}
 use Rattle.salt_net.specs.Turns.{Turning}

@@ -1,32 +1,14 @@
--- Rows that are read from several partitions.
-use Rattle.salt_bytes.specs.Generations.{WhichLog}
-use Rattle.salt_commit.specs.Stores.{ArePartitions, IsStore, reading}
+-- Where rows are looked for: where a range of keys ends, and which partitions are asked.
+use Rattle.salt_commit.specs.Stores.{shape_of_store}
 use Rattle.salt_commit.specs.declared.store.Store.{Store}
-use Rattle.salt_disk.specs.Disks.{View}
-use Rattle.salt_model.specs.Kept.{Definition}
-use Rattle.salt_model.specs.Tables.{Tables}
-use Rattle.salt_partition.specs.declared.partition.Partition.{Partition}
+use Rattle.salt_model.specs.Tables.{Tables, no_rows}
+use Rattle.salt_paged.specs.Partitions.{places_of}
+use Rattle.salt_place.specs.OneParts.{one_part}
 use Rattle.salt_ranges.specs.declared.range.KeyRange.{KeyRange}
-use Rattle.salt_stands.specs.Commits.{each_tables, partition_count}
-use Rattle.salt_stands.specs.Coordinator.{Coordinator}
-use Rattle.salt_stands.specs.Partition.{part_tables}
-use Rattle.salt_stands.specs.Pieces.{PartView, listed}
-use Rattle.salt_stands.specs.Placed.{IsPlaced}
 use Rattle.salt_stands.specs.Tables.{joined}
-use Rattle.salt_values.specs.declared.id.Id.{Id}
-use Rattle.salt_values.specs.Value.{is_value_at_most, is_value_below, key_of}
+use Rattle.salt_values.specs.Value.{is_value_at_most}
 use Rattle.salt_values.specs.declared.value.Value.{Value}
-use Rattle.std.specs.Prelude.{Bool, List, None, Option, Some, false, if◌then◌else◌, ℕ, ◌<◌}
-
-abbrev pub is_row_below : List Value → List Value → Bool
-is_row_below a b = is_value_below (key_of a) (key_of b)
-
--- of two rows the one with the lesser key, the first where their keys are equal
-abbrev pub lesser_row : Option (List Value) → Option (List Value) → Option (List Value)
-lesser_row None None = None
-lesser_row None (Some b) = Some b
-lesser_row (Some a) None = Some a
-lesser_row (Some a) (Some b) = if is_row_below b a then Some b else Some a
+use Rattle.std.specs.Prelude.{Bool, List, None, Option, Some, [], false, map, suc, zero, ℕ, ◌∷◌}
 
 -- a key at the upper end, or above it
 abbrev pub is_past : Option Value → Value → Bool
@@ -38,24 +20,22 @@ abbrev pub is_over : KeyRange → Option Value → Bool
 is_over range None = false
 is_over range (Some after) = is_past range.hi after
 
--- partitions stand
-pub record StandAll (d : View) (parts : List Partition) : Type 0 where
-  pub v : ℕ → PartView
-  pub applied : ℕ → List Id
-  pub are : ArePartitions d parts v applied
+-- THE PLACES of a store's rows, whatever the disks tell: as tables in which each row is its key alone, one of each partition
 
--- the tables of the first n partitions, as one
-abbrev pub tables_of_all : (ℕ → PartView) → (ℕ → List Id) → ℕ → Tables
-tables_of_all v applied n = joined (listed (λ p. part_tables (applied p) (v p).log (v p).rows) 0 n)
+abbrev pub places_in : Store → List Tables
+places_in x = map places_of x.parts
 
--- each row of each partition is of that partition
-abbrev pub ArePlaced : {D : Type 0} → Coordinator D → (ℕ → PartView) → Type 0
-ArePlaced c v = (p : ℕ) → p < partition_count c → IsPlaced c.log.header.shape p (each_tables c v p)
+-- the one at a place, none past the last
+abbrev pub table_at : List Tables → ℕ → Tables
+table_at [] p = no_rows
+table_at (t ∷ ts) zero = t
+table_at (t ∷ ts) (suc p) = table_at ts p
 
--- a store stands, and each row in the partition of its key; this holds where the disks tell, and where the rows were looked at
-pub record StandsInPlace (d : View) (x : Store) : Type 0 where
-  pub which : WhichLog
-  pub c : Coordinator Definition
-  pub v : ℕ → PartView
-  pub is : IsStore reading d x which c v
-  pub placed : ArePlaced c v
+-- of the partitions that are asked: one, or each
+abbrev pub of_asked : List Tables → Option ℕ → Tables
+of_asked ts None = joined ts
+of_asked ts (Some p) = table_at ts p
+
+-- for a range: one where it tells that its keys stand in one
+abbrev pub places_asked : Store → KeyRange → Tables
+places_asked x range = of_asked (places_in x) (one_part (shape_of_store x) range)

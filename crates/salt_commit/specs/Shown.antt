@@ -2,7 +2,7 @@
 -- over, where they do.
 use Rattle.salt_decisions.specs.declared.decisions.Decisions.{Decisions}
 use Rattle.salt_net.specs.Paces.{Pace}
-use Rattle.salt_partition.specs.declared.partition.Partition.{Partition}
+use Rattle.salt_paged.specs.declared.partition.Partition.{Partition}
 use Rattle.std.specs.Prelude.{List, Option}
 
 pub record Shown : Type 0 where

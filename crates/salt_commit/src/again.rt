@@ -1,11 +1,15 @@
 //! A partition of a store is opened again, as a node does that restarts.
 
 ghost use Rattle.salt_bytes.specs.Generations.{WhichLog};
-ghost use Rattle.salt_commit.specs.Again.{ReadsAs, StandsUnder, decided_in};
+ghost use Rattle.salt_checkpoint.specs.Sides.{KeepsNamed};
+ghost use Rattle.salt_commit.specs.Again.{ReadsAs, StandsUnder};
+ghost use Rattle.salt_commit.specs.Voting.{HasReopenedAt, MayReopenAt};
 ghost use Rattle.salt_decisions.specs.Kept.{IsKept};
-ghost use Rattle.salt_disk.specs.Disks.{HasCause, KeepsAll, OnlyFails};
-ghost use Rattle.salt_partition.specs.Partitions.{IsPartition, log_gate};
-ghost use Rattle.salt_partition.specs.Reopening.{GoesOn, IsLastIn};
+ghost use Rattle.salt_disk.specs.Disks.{HasCause, KeepsAll, KeepsOthers, OnlyFails};
+ghost use Rattle.salt_paged.specs.Partitions.{IsPartition, log_gate, pages_of};
+ghost use Rattle.salt_paged.specs.Reopening.{AreDecided};
+ghost use Rattle.salt_parts.specs.Openings.{decided_in};
+ghost use Rattle.salt_shares.specs.Prepares.{FullWhere};
 ghost use Rattle.salt_stands.specs.CoordinatorLog.{CoordinatorLog};
 ghost use Rattle.salt_stands.specs.Pieces.{PartView};
 ghost use Rattle.salt_values.specs.declared.id.Id.{Id};
@@ -16,8 +20,8 @@ use crate::named::units_in_part;
 use salt_decisions::{Kept, peek};
 use salt_disk::{DiskErr, Disks};
 use salt_gatelog::{PairErr, rejected};
-use salt_partition::Partition;
-use salt_values::{Changes, Ids};
+use salt_paged::Partition;
+use salt_values::Ids;
 use std::alloc::Global;
 
 /// What the coordinator's log keeps. Disks that give none have failed.
@@ -52,43 +56,35 @@ fn said_now<D: Disks>(alloc: Global, disks: &mut D, part: u8) -> Result<(u64, Id
     Ok((kept.boot, units))
 }
 
-/// Opens a partition again while it stands: the coordinator's log is read anew, and the partition opened under it. Its rows are then
-/// those from before with these changes: none where the unit that was prepared last is in doubt, and that unit's where it is decided.
-/// It writes nothing. Disks that give what was not written have failed. After an error the partition is as it was.
-pub fn reopen_part<D: Disks>(
-    alloc: Global,
-    disks: &mut D,
-    part: &mut Partition,
-    changes: &Changes,
-) -> Result<(), DiskErr>
-    requires { StandsUnder (D.view disks.old) part.old changes.now }
+/// Opens a partition again while it stands: the coordinator's log is read anew, and the partition opened under it, with the units
+/// applied that are decided there. Pages may be written, to sides that its header does not name. Disks that give what was not written
+/// have failed. After an error the partition is as it was.
+fn reopen_part<D: Disks>(alloc: Global, disks: &mut D, part: &mut Partition) -> Result<(), DiskErr>
+    requires { StandsUnder (D.view disks.old) part.old }
     ensures ok { (which : WhichLog) (log : CoordinatorLog) (p : ℕ) (v : PartView) (applied : List Id) → ReadsAs (D.view disks.old) which log → IsPartition (D.view disks.old) part.old p v applied
-        → GoesOn v applied (decided_in log p) changes.now → OnOk result (IsPartition (D.view disks.new) part.new p v (decided_in log p)) }
+        → AreDecided applied (decided_in log p) → OnOk result (IsPartition (D.view disks.new) part.new p v (decided_in log p)) }
     ensures gate { log_gate part.new ≡ log_gate part.old }
     ensures err { OnErr result (part.new ≡ part.old) }
-    ensures kept { KeepsAll (D.view disks.old) (D.view disks.new) (result_err result) }
+    ensures images { (p : ℕ) (v : PartView) (applied : List Id) → IsPartition (D.view disks.old) part.old p v applied → IsTrue (D.view disks.old).told
+        → KeepsNamed v.log.header.sides (D.view disks.old) (D.view disks.new) (pages_of part.old) }
+    ensures others { KeepsOthers (pages_of part.old) (D.view disks.old) (D.view disks.new) (result_err result) }
     ensures cause { HasCause (D.view disks.old) (D.view disks.new) (result_err result) }
-    ensures answers { OnlyFails (result_err result) }
+    ensures full { FullWhere (λ dev. dev ≡ pages_of part.old) (result_err result) }
 {
-    let told = said_now(alloc, disks, part.number())?;
-    part.reopen(disks, told.0, &told.1, changes)
+    let said = said_now(alloc, disks, part.number())?;
+    part.reopen(disks, said.0, &said.1)
 }
 
-/// Opens a partition again as `reopen_part`, where the unit that was prepared last is decided, and gives what its devices give: it
-/// stands itself as it did.
-pub fn open_behind<D: Disks>(
+/// Opens a partition of a list again, as the coordinator's log says.
+pub fn reopen_at<D: Disks>(
     alloc: Global,
     disks: &mut D,
-    part: &Partition,
-    changes: &Changes,
-) -> Result<Partition, DiskErr>
-    requires { StandsUnder (D.view disks.old) part.now changes.now }
-    ensures ok { (which : WhichLog) (log : CoordinatorLog) (p : ℕ) (v : PartView) (applied : List Id) → ReadsAs (D.view disks.old) which log → IsPartition (D.view disks.old) part.now p v applied
-        → GoesOn v applied (decided_in log p) changes.now → IsLastIn (decided_in log p) v.log.prepared → IfOk result (λ opened. IsPartition (D.view disks.new) opened p v (decided_in log p)) }
-    ensures kept { KeepsAll (D.view disks.old) (D.view disks.new) (result_err result) }
-    ensures cause { HasCause (D.view disks.old) (D.view disks.new) (result_err result) }
-    ensures answers { OnlyFails (result_err result) }
+    parts: &mut Vec<Partition>,
+    number: usize,
+) -> Result<(), DiskErr>
+    requires { MayReopenAt (D.view disks.old) parts.old.items number }
+    ensures { HasReopenedAt (D.view disks.old) (D.view disks.new) parts.old.items parts.new.items number (result_err result) }
 {
-    let told = said_now(alloc, disks, part.number())?;
-    part.opened_anew(disks, told.0, &told.1, changes)
+    let part = &mut parts[number];
+    reopen_part(alloc, disks, part)
 }

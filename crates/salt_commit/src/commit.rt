@@ -2,26 +2,24 @@
 
 ghost use Rattle.salt_bytes.specs.Generations.{WhichLog};
 ghost use Rattle.salt_bytes.specs.declared.moves.Move.{Move};
-ghost use Rattle.salt_commit.specs.Commits.{CommitPassesLimit, IsCommitLog, MayCommitUnit, StandsToCommit};
+ghost use Rattle.salt_commit.specs.Commits.{CommitPassesLimit, IsCommitDevice, IsCommitLog, MayCommitUnit, StandsToCommit};
 ghost use Rattle.salt_commit.specs.Messages.{IsAtRest, IsNewIn, net_of};
-ghost use Rattle.salt_commit.specs.Openings.{NamesPages};
-ghost use Rattle.salt_commit.specs.Prepares.{FullWhere};
 ghost use Rattle.salt_commit.specs.Shares.{next_decision};
-ghost use Rattle.salt_commit.specs.Stores.{IsStore, StandForEither, last_boot, last_decision, reading, rows_of_store, shape_of_store};
-ghost use Rattle.salt_disk.specs.Disks.{HasCause, IsImage, IsUnchanged, KeepsBut};
-ghost use Rattle.salt_disk.specs.declared.disks.DiskErr.{DiskErr};
-ghost use Rattle.salt_disk.specs.declared.disks.DiskErr.TheVariants.{Full, Memory};
+ghost use Rattle.salt_commit.specs.Stores.{Generation, IsStore, StandForEither, last_boot, last_decision, reading, shape_of_store};
+ghost use Rattle.salt_disk.specs.Disks.{HasCause, IsUnchanged, KeepsBut};
+ghost use Rattle.salt_disk.specs.declared.disks.DiskErr.TheVariants.{Full};
 ghost use Rattle.salt_model.specs.Kept.{Definition};
 ghost use Rattle.salt_net.specs.Turns.{commits};
 ghost use Rattle.salt_place.specs.Placement.{GivesPlaceOf, TakesEachKey};
-ghost use Rattle.salt_stands.specs.Commits.{found_after, found_of, partition_count, view_after};
+ghost use Rattle.salt_shares.specs.Prepares.{FullWhere};
+ghost use Rattle.salt_stands.specs.Commits.{found_after, found_of, view_after};
 ghost use Rattle.salt_stands.specs.Coordinator.{Coordinator};
 ghost use Rattle.salt_stands.specs.Pieces.{PartView, with_decision};
 ghost use Rattle.salt_stands.specs.Placed.{nodes_in};
 ghost use Rattle.salt_values.specs.Id.{is_same_id};
 ghost use Rattle.salt_values.specs.declared.cont.Cont.{Cont};
 ghost use Rattle.salt_values.specs.declared.id.Id.{Id};
-ghost use Rattle.std.specs.Prelude.{Err, IfOk, IsTrue, List, OnOk, false, option_map, ℕ, ◌+◌, ◌-◌, ◌<◌, ◌^◌, ◌≡◌, ◌≢◌};
+ghost use Rattle.std.specs.Prelude.{Err, IfOk, IsTrue, List, OnOk, false, option_map, ℕ, ◌+◌, ◌-◌, ◌<◌, ◌^◌, ◌≡◌};
 ghost use Rattle.std.specs.Result.{result_err};
 
 use crate::each::{end_each, prepare_each};
@@ -38,7 +36,8 @@ impl Store {
     /// of numbers, then it is decided with its move, and then applied; or where commits go over messages, by turns of the net, which
     /// then rests. After Ok the unit is kept. Whatever the call answers,
     /// each image of the devices stands for what stood before, or for that with the unit: its changes in the rows, one decision
-    /// more, and the continuations that its move leaves open. No image names pages.
+    /// more, and the continuations that its move leaves open. After an error, also of a device that is full, the unit may be decided or
+    /// not: a device with pages may be full behind the decision.
     pub fn commit<D: Disks, F: Fn(PlaceKind, &Key, u32) -> u32>(
         &mut self,
         disks: &mut D,
@@ -55,30 +54,27 @@ impl Store {
         requires new { IsNewIn self.old unit }
 
         ensures ok { (which : WhichLog) (c : Coordinator Definition) (v : ℕ → PartView) (m : Move) (conts : List Cont) → IsStore reading (D.view disks.old) self.old which c v
-            → MayCommitUnit reading c v unit changes.now mv.now m conts
-            → OnOk result (IsStore reading (D.view disks.new) self.new which (with_decision c (next_decision c unit changes.now mv.now) conts) (view_after c v changes.now (next_decision c unit changes.now mv.now))) }
+            → MayCommitUnit (D.view disks.old).told reading c v unit changes.now mv.now m conts
+            → OnOk result ((g : Generation c v) × IsStore reading (D.view disks.new) self.new g.which (with_decision g.coordinator (next_decision g.coordinator unit changes.now mv.now) conts)
+            (view_after g.coordinator g.views changes.now (next_decision g.coordinator unit changes.now mv.now))) }
         ensures number { IfOk result (λ number. number ≡ last_decision self.old + 1) }
         ensures boot { last_boot self.new ≡ last_boot self.old }
         ensures images { (which : WhichLog) (c : Coordinator Definition) (v : ℕ → PartView) (m : Move) (conts : List Cont) → IsStore reading (D.view disks.old) self.old which c v
-            → MayCommitUnit reading c v unit changes.now mv.now m conts → IsTrue (D.view disks.old).told
+            → MayCommitUnit (D.view disks.old).told reading c v unit changes.now mv.now m conts → IsTrue (D.view disks.old).told
             → StandForEither reading (D.view disks.new) (found_of c v) (found_after c v changes.now (next_decision c unit changes.now mv.now) conts) }
-        ensures pages { (which : WhichLog) (c : Coordinator Definition) (v : ℕ → PartView) (m : Move) (conts : List Cont) → IsStore reading (D.view disks.old) self.old which c v
-            → MayCommitUnit reading c v unit changes.now mv.now m conts → IsTrue (D.view disks.old).told
-            → (image : ℕ → List ℕ) → IsImage (D.view disks.new) image → (p dev : ℕ) → p < partition_count c → NamesPages image p dev → ⊥ }
 
         ensures net { OnOk result (net_of self.new ≡ option_map (commits unit (nodes_in (shape_of_store self.old) changes.now)) (net_of self.old)) }
         ensures rests { OnOk result (IsAtRest self.new) }
         ensures others_new { OnOk result ((w : Id) → is_same_id w unit ≡ false → IsNewIn self.old w → IsNewIn self.new w) }
 
-        ensures stay { (e : DiskErr) → result ≡ Err e → e ≢ Memory → rows_of_store self.new ≡ rows_of_store self.old }
-        ensures others { KeepsBut (IsCommitLog self.old changes.now) (D.view disks.old) (D.view disks.new) (result_err result) }
+        ensures others { KeepsBut (IsCommitDevice self.old changes.now) (D.view disks.old) (D.view disks.new) (result_err result) }
         ensures cause { HasCause (D.view disks.old) (D.view disks.new) (result_err result) }
-        ensures full { FullWhere (CommitPassesLimit (D.view disks.old).limit self.old unit changes.now mv.now) (result_err result) }
-        ensures untouched { (n : ℕ) → result ≡ Err (Full n) → IsUnchanged (D.view disks.old) (D.view disks.new) n }
+        ensures full { IsTrue (D.view disks.old).told → FullWhere (CommitPassesLimit (D.view disks.old).limit self.old unit changes.now mv.now) (result_err result) }
+        ensures untouched { IsTrue (D.view disks.old).told → (n : ℕ) → result ≡ Err (Full n) → IsCommitLog self.old changes.now n → IsUnchanged (D.view disks.old) (D.view disks.new) n }
     {
         told_changes(changes);
         let shape = self.decisions.shape();
-        let shares = shares_of(self.alloc, place, shape, changes)?;
+        let mut shares = shares_of(self.alloc, place, shape, changes)?;
         let mask = mask_of(&shares);
         let mut doubted = Vec::new(self.alloc);
         prepare_each(
@@ -97,7 +93,7 @@ impl Store {
             &mut self.parts,
             &mut self.messages,
             unit,
-            &shares,
+            &mut shares,
             doubted.as_slice(),
         )?;
         Ok(number)

@@ -3,8 +3,7 @@
 ghost use Rattle.salt_bytes.specs.Generations.{WhichLog};
 ghost use Rattle.salt_commit.specs.Loads.{AreRowsOf, IsPartOf};
 ghost use Rattle.salt_commit.specs.Messages.{messages_of};
-ghost use Rattle.salt_commit.specs.Reads.{StandsInPlace};
-ghost use Rattle.salt_commit.specs.Stores.{IsStore, numbers_in, reading, rows_of_store};
+ghost use Rattle.salt_commit.specs.Stores.{IsStore, StandsOnDevices, numbers_in, reading};
 ghost use Rattle.salt_stands.specs.Fitting.{tables_defined};
 ghost use Rattle.salt_disk.specs.Disks.{HasCause, KeepsAll, OnlyFails, UnlessDown};
 ghost use Rattle.salt_eval.specs.Meets.{meets_table};
@@ -69,8 +68,8 @@ fn judge<D: Disks>(
 
 impl Store {
     /// The rows in a reach, each of which meets its table. One partition is asked where the range tells that its keys stand in
-    /// one, and else each. Where memory runs out the store stands as before. A row that does not meet its table, which only disks can give that don't tell their bytes,
-    /// is answered as a failure of the disks.
+    /// one, and else each. Where memory runs out the store stands as before. A row that does not meet its table, which only disks can
+    /// give that don't tell their bytes, is answered as a failure of the disks.
     pub fn load<D: Disks, F: Fn(PlaceKind, &Key, u32) -> u32>(
         &mut self,
         disks: &mut D,
@@ -80,16 +79,15 @@ impl Store {
     ) -> Result<Tables, StoreErr>
         requires callable { TakesEachKey (F.pre place.now.place) }
         requires answers { GivesPlaceOf (F.post place.now.place) }
-        requires stands { StandsInPlace (D.view disks.old) self.old }
+        requires stands { StandsOnDevices (D.view disks.old) self.old }
         requires table { reach.now.table < length schema.now }
         requires schema { (which : WhichLog) (c : Coordinator Definition) (v : ℕ → PartView) → IsStore reading (D.view disks.old) self.old which c v → IsTrue (D.view disks.old).told
             → schema.now ≡ tables_defined c.definitions }
-        ensures rows { (which : WhichLog) (c : Coordinator Definition) (v : ℕ → PartView) → IsStore reading (D.view disks.old) self.old which c v
+        ensures rows { (which : WhichLog) (c : Coordinator Definition) (v : ℕ → PartView) → IsStore reading (D.view disks.old) self.old which c v → IsTrue (D.view disks.old).told
             → IfOk result (λ rows. IsPartOf reach.now (view.tables_of rows.entries) (found_of c v).kept.tables) }
         ensures typed { IfOk result (λ rows. AreRowsOf schema.now (view.tables_of rows.entries)) }
         ensures stands { (which : WhichLog) (c : Coordinator Definition) (v : ℕ → PartView) → IsStore reading (D.view disks.old) self.old which c v
             → UnlessDown (result_err result) (IsStore reading (D.view disks.new) self.new which c v) }
-        ensures stay { rows_of_store self.new ≡ rows_of_store self.old }
         ensures numbers { numbers_in self.new ≡ numbers_in self.old }
         ensures messages { messages_of self.new ≡ messages_of self.old }
         ensures kept { KeepsAll (D.view disks.old) (D.view disks.new) (result_err result) }

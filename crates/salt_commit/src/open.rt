@@ -2,24 +2,26 @@
 
 ghost use Rattle.salt_bytes.specs.Generations.{BothBlank};
 ghost use Rattle.salt_commit.specs.Messages.{messages_of};
-ghost use Rattle.salt_commit.specs.Openings.{HasRoom, IsNoRefusal, IsSchemaWhere, LeavesPages, OpeningFails, OpensStore, PartPassesLimit, StorePassesLimit};
-ghost use Rattle.salt_stands.specs.LogDevices.{IsPartLog, IsStoreLog};
-ghost use Rattle.salt_commit.specs.Prepares.{FullWhere};
-ghost use Rattle.salt_commit.specs.Stores.{ArePartitions, reading};
-ghost use Rattle.salt_gatelog.specs.Answers.{open_disk_err};
+ghost use Rattle.salt_commit.specs.Openings.{IsNoRefusal, IsRefusal, IsSchemaWhere, LeavesStanding, OpeningFails, OpeningPassesLimit, OpensStore, PartPassesLimit, StorePassesLimit, UnitsPassLimit};
+ghost use Rattle.salt_commit.specs.Stores.{IsStoreDevice, reading};
 ghost use Rattle.salt_disk.specs.Disks.{HasCause, IsImage, KeepsAll, KeepsBut};
+ghost use Rattle.salt_gatelog.specs.Answers.{open_disk_err};
+ghost use Rattle.salt_paged.specs.Partitions.{ArePartitions};
+ghost use Rattle.salt_parts.specs.Openings.{HasRoom};
+ghost use Rattle.salt_place.specs.Placement.{GivesPlaceOf, IsParts, TakesEachKey};
+ghost use Rattle.salt_shares.specs.Prepares.{FullWhere};
 ghost use Rattle.salt_stands.specs.Coordinator.{coordinator_pair};
 ghost use Rattle.salt_stands.specs.FirstOpening.{first_view};
+ghost use Rattle.salt_stands.specs.LogDevices.{IsPartLog, IsStoreLog};
 ghost use Rattle.salt_stands.specs.Stands.{stands_on, logs_of, nothing_found};
-ghost use Rattle.salt_place.specs.Placement.{GivesPlaceOf, IsParts, TakesEachKey};
 ghost use Rattle.std.specs.Prelude.{IfErr, IfOk, IsTrue, List, None, Ok, [], length, ℕ, ◌≡◌};
 ghost use Rattle.std.specs.Result.{result_err};
 
-use crate::parts::open_all;
+use crate::parts::open_parts;
 use crate::store::Store;
 use salt_decisions::{Kept, OpenErr, open_decisions, peek};
 use salt_disk::{DiskErr, Disks};
-use salt_partition::{Partition, create_partition};
+use salt_paged::{Partition, create_partition};
 use salt_place::{PlaceKind, Placement, Shape};
 use salt_schema::Schema;
 use salt_values::Key;
@@ -42,7 +44,7 @@ fn create_all<D: Disks>(alloc: Global, disks: &mut D, parts: u8) -> Result<Vec<P
 }
 
 /// Begins a store where both devices of the coordinator are blank: first its partitions, and then the coordinator's log up to
-/// its header. Whatever it answers, each image of the devices stands for a new database, and names no pages.
+/// its header. Whatever it answers, each image of the devices stands for a new database.
 fn begin_store<D: Disks>(
     alloc: Global,
     disks: &mut D,
@@ -55,7 +57,6 @@ fn begin_store<D: Disks>(
     ensures plain { IfOk result (λ made. messages_of made.0 ≡ None) }
     ensures err { IsTrue (D.view disks.old).told → IfErr result IsNoRefusal }
     ensures images { IsTrue (D.view disks.old).told → (image : ℕ → List ℕ) → IsImage (D.view disks.new) image → stands_on reading image shape ≡ Ok (nothing_found shape) }
-    ensures pages { IsTrue (D.view disks.old).told → (image : ℕ → List ℕ) → IsImage (D.view disks.new) image → (dev : ℕ) → LeavesPages shape image dev → ⊥ }
     ensures others { KeepsBut (IsStoreLog shape.parts) (D.view disks.old) (D.view disks.new) (open_disk_err result) }
     ensures cause { HasCause (D.view disks.old) (D.view disks.new) (open_disk_err result) }
     ensures full { IsTrue (D.view disks.old).told → FullWhere (StorePassesLimit (D.view disks.new) shape) (open_disk_err result) }
@@ -90,12 +91,14 @@ fn open_counting<D: Disks, F: Fn(PlaceKind, &Key, u32) -> u32>(
     ensures ok { IfOk result (λ made. OpensStore (D.view disks.old) (D.view disks.new) shape made.0 made.1) }
     ensures plain { IfOk result (λ made. messages_of made.0 ≡ None) }
     ensures err { IsTrue (D.view disks.old).told → IfErr result (OpeningFails shape (D.view disks.old).bytes) }
-    ensures kept { IsTrue (D.view disks.old).told → KeepsAll (D.view disks.old) (D.view disks.new) (open_disk_err result) }
-    ensures others { KeepsBut (IsStoreLog shape.parts) (D.view disks.old) (D.view disks.new) (open_disk_err result) }
+    ensures leaves { IsTrue (D.view disks.old).told → LeavesStanding (D.view disks.old) (D.view disks.new) shape (open_disk_err result) }
+    ensures refused { IsTrue (D.view disks.old).told → IfErr result (λ e. IsRefusal e → KeepsAll (D.view disks.old) (D.view disks.new) (open_disk_err result)) }
+    ensures others { KeepsBut (IsStoreDevice shape.parts) (D.view disks.old) (D.view disks.new) (open_disk_err result) }
     ensures cause { HasCause (D.view disks.old) (D.view disks.new) (open_disk_err result) }
+    ensures full { IsTrue (D.view disks.old).told → FullWhere (UnitsPassLimit (D.view disks.old) shape) (open_disk_err result) }
 {
     let (decisions, kept) = open_decisions(alloc, disks, shape)?;
-    let parts = open_all(alloc, disks, place, shape, schema, &kept)?;
+    let parts = open_parts(alloc, disks, place, shape, schema, &kept)?;
     Ok((
         Store {
             alloc,
@@ -108,12 +111,12 @@ fn open_counting<D: Disks, F: Fn(PlaceKind, &Key, u32) -> u32>(
 }
 
 /// Opens the store of the devices, of the shape that is asked for: what it stands for is what stood on them. Blank devices are
-/// made a new one's, and then each image of them, whatever is answered, stands for a new database and names no pages. Else
-/// nothing is written.
+/// made a new one's, and then each image of them, whatever is answered, stands for a new database. Else all is read and judged before
+/// anything is written: then pages may be, to sides that no header names, so that each image stands for what stood.
 ///
 /// The schema has the tables of the definitions in the coordinator's log, as who opens has read and judged them. The refusals
 /// come in this order, each exactly where it is so: the coordinator's `NotSalt`, `OtherShape`, `NumbersSpent`, and `NotSalt` of
-/// the first partition that does not stand, or that names pages, which are not read yet. Nothing is pending on the devices.
+/// the first partition that does not stand. Nothing is pending on the devices.
 pub fn open_store<D: Disks, F: Fn(PlaceKind, &Key, u32) -> u32>(
     alloc: Global,
     disks: &mut D,
@@ -131,15 +134,15 @@ pub fn open_store<D: Disks, F: Fn(PlaceKind, &Key, u32) -> u32>(
     ensures plain { IfOk result (λ made. messages_of made.0 ≡ None) }
     ensures err { IsTrue (D.view disks.old).told → IfErr result (OpeningFails shape (D.view disks.old).bytes) }
 
-    ensures kept { IsTrue (D.view disks.old).told → ¬ (coordinator_pair (logs_of (D.view disks.old).bytes) ≡ BothBlank) → KeepsAll (D.view disks.old) (D.view disks.new) (open_disk_err result) }
     ensures images { IsTrue (D.view disks.old).told → coordinator_pair (logs_of (D.view disks.old).bytes) ≡ BothBlank
         → (image : ℕ → List ℕ) → IsImage (D.view disks.new) image → stands_on reading image shape ≡ Ok (nothing_found shape) }
-    ensures pages { IsTrue (D.view disks.old).told → coordinator_pair (logs_of (D.view disks.old).bytes) ≡ BothBlank
-        → (image : ℕ → List ℕ) → IsImage (D.view disks.new) image → (dev : ℕ) → LeavesPages shape image dev → ⊥ }
+    ensures leaves { IsTrue (D.view disks.old).told → ¬ (coordinator_pair (logs_of (D.view disks.old).bytes) ≡ BothBlank)
+        → LeavesStanding (D.view disks.old) (D.view disks.new) shape (open_disk_err result) }
+    ensures refused { IsTrue (D.view disks.old).told → IfErr result (λ e. IsRefusal e → KeepsAll (D.view disks.old) (D.view disks.new) (open_disk_err result)) }
 
-    ensures others { KeepsBut (IsStoreLog shape.parts) (D.view disks.old) (D.view disks.new) (open_disk_err result) }
+    ensures others { KeepsBut (IsStoreDevice shape.parts) (D.view disks.old) (D.view disks.new) (open_disk_err result) }
     ensures cause { HasCause (D.view disks.old) (D.view disks.new) (open_disk_err result) }
-    ensures full { IsTrue (D.view disks.old).told → FullWhere (StorePassesLimit (D.view disks.new) shape) (open_disk_err result) }
+    ensures full { IsTrue (D.view disks.old).told → FullWhere (OpeningPassesLimit (D.view disks.old) (D.view disks.new) shape) (open_disk_err result) }
 {
     if peek(alloc, disks)?.is_none() {
         return begin_store(alloc, disks, shape);

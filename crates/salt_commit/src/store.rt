@@ -3,7 +3,7 @@
 ghost use Rattle.salt_bytes.specs.Coordinator.{Boots, Defines, spell_entry};
 ghost use Rattle.salt_bytes.specs.Generations.{WhichLog};
 ghost use Rattle.salt_commit.specs.Messages.{IsAtRest, IsNewIn, messages_of, net_of, nothing_sent, with_waiting};
-ghost use Rattle.salt_commit.specs.Stores.{IsStore, MayDefine, StandForEither, StandsOnDevices, StandsToDefine, coordinator_device, coordinator_gate, last_boot, last_decision, next_text, numbers_in, reading, rows_of_store};
+ghost use Rattle.salt_commit.specs.Stores.{Generation, IsStore, MayDefine, StandForEither, StandsOnDevices, coordinator_device, coordinator_gate, last_boot, last_decision, next_text, numbers_in, reading};
 ghost use Rattle.salt_decisions.specs.Decisions.{next_definition};
 ghost use Rattle.salt_disk.specs.Disks.{FullExactly, HasCause, IsUnchanged, KeepsOthers};
 ghost use Rattle.salt_disk.specs.declared.disks.DiskErr.TheVariants.{Full};
@@ -12,18 +12,20 @@ ghost use Rattle.salt_place.specs.Placement.{GivesPlaceOf, TakesEachKey};
 ghost use Rattle.salt_stands.specs.Commits.{found_of};
 ghost use Rattle.salt_stands.specs.Coordinator.{Coordinator};
 ghost use Rattle.salt_stands.specs.Pieces.{PartView, with_boot, with_definition};
+ghost use Rattle.salt_net.specs.declared.kinds.NodeStatus.TheVariants.{Unknown};
+ghost use Rattle.salt_turns.specs.Amid.{status_now};
 ghost use Rattle.salt_values.specs.declared.id.Id.{Id};
-ghost use Rattle.std.specs.Prelude.{Err, IfOk, IsTrue, OnErr, OnOk, Some, length, option_map, ℕ, ◌+◌, ◌-◌, ◌<◌, ◌^◌, ◌≡◌};
+ghost use Rattle.std.specs.Prelude.{Err, IfOk, IsTrue, OnErr, OnOk, Some, length, option_map, true, ℕ, ◌+◌, ◌-◌, ◌<◌, ◌^◌, ◌≡◌};
 ghost use Rattle.std.specs.Result.{result_err};
 
 use crate::error::StoreErr;
 use salt_decisions::Decisions;
 use salt_disk::Disks;
-use salt_net::{Messages, Net};
-use salt_partition::Partition;
+use salt_net::{Messages, Net, NodeStatus};
+use salt_paged::Partition;
 use salt_place::{PlaceKind, Placement};
 use salt_stands::what_fits_still_fits;
-use salt_values::Key;
+use salt_values::{Id, Key};
 use std::alloc::{AllocError, Global};
 use std::marker::Model;
 
@@ -41,13 +43,24 @@ pub struct Store {
 impl Model for Store {
     ghost use Rattle.salt_commit.specs.Shown.{Shown};
     ghost use Rattle.salt_decisions.specs.Decisions.{shape_of};
+    ghost use Rattle.salt_paged.specs.contracts.partition.Partition as partition;
+    ghost use Rattle.std.specs.Coded.{codes};
     ghost use Rattle.std.specs.Prelude.{length, ◌≡◌};
 
     ghost Value = { Shown };
 
+    ghost coded = { Prim.hlevel (codes, partition.the_row.coded) };
+
     ghost view = { λ x. record { decisions = x.decisions; parts = x.parts.items; messages = x.messages } };
 
     ghost invariant = { λ x. length x.parts.items ≡ (shape_of x.decisions).parts };
+}
+
+/// Whether the coordinator knows nothing of the unit.
+fn is_unknown(messages: &Messages, unit: Id) -> bool
+    ensures { result ≡ true → status_now messages.now unit 0 ≡ Unknown }
+{
+    messages.net().status(unit, 0) == NodeStatus::Unknown
 }
 
 impl Store {
@@ -88,6 +101,16 @@ impl Store {
         messages.arm(pairs)
     }
 
+    /// Whether the unit was not started in the net that commits go over, where they do.
+    pub fn is_new(&self, unit: Id) -> bool
+        ensures { IsTrue result → IsNewIn self.now unit }
+    {
+        match &self.messages {
+            Some(messages) => is_unknown(messages, unit),
+            None => true,
+        }
+    }
+
     /// Gives the net, where commits go over messages.
     pub fn into_net(self) -> Option<Net>
         requires { IsAtRest self }
@@ -107,13 +130,12 @@ impl Store {
         requires below { last_boot self.old < 2 ^ 64 - 1 }
 
         ensures ok { (which : WhichLog) (c : Coordinator Definition) (v : ℕ → PartView) → IsStore reading (D.view disks.old) self.old which c v
-            → OnOk result (IsStore reading (D.view disks.new) self.new which (with_boot c) v) }
+            → OnOk result ((g : Generation c v) × IsStore reading (D.view disks.new) self.new g.which (with_boot g.coordinator) g.views) }
         ensures number { IfOk result (λ boot. boot ≡ last_boot self.old + 1) }
         ensures same { OnErr result (numbers_in self.new ≡ numbers_in self.old) }
         ensures images { (which : WhichLog) (c : Coordinator Definition) (v : ℕ → PartView) → IsStore reading (D.view disks.old) self.old which c v → IsTrue (D.view disks.old).told
             → StandForEither reading (D.view disks.new) (found_of c v) (found_of (with_boot c) v) }
 
-        ensures stay { rows_of_store self.new ≡ rows_of_store self.old }
         ensures messages { messages_of self.new ≡ messages_of self.old }
         ensures others { KeepsOthers (coordinator_device self.old) (D.view disks.old) (D.view disks.new) (result_err result) }
         ensures cause { HasCause (D.view disks.old) (D.view disks.new) (result_err result) }
@@ -135,17 +157,16 @@ impl Store {
     ) -> Result<u64, StoreErr>
         requires callable { TakesEachKey (F.pre _place.now.place) }
         requires answers { GivesPlaceOf (F.post _place.now.place) }
-        requires stands { StandsToDefine (D.view disks.old) self.old text.now }
+        requires stands { StandsOnDevices (D.view disks.old) self.old }
         requires below { last_decision self.old < 2 ^ 64 - 1 }
 
-        ensures ok { (which : WhichLog) (c : Coordinator Definition) (v : ℕ → PartView) (def : Definition) → IsStore reading (D.view disks.old) self.old which c v → MayDefine reading c text.now def
-            → OnOk result (IsStore reading (D.view disks.new) self.new which (with_definition c (next_text c text.now) def) v) }
+        ensures ok { (which : WhichLog) (c : Coordinator Definition) (v : ℕ → PartView) (def : Definition) → IsStore reading (D.view disks.old) self.old which c v
+            → (IsTrue (D.view disks.old).told → MayDefine reading c text.now def) → OnOk result ((g : Generation c v) × IsStore reading (D.view disks.new) self.new g.which (with_definition g.coordinator (next_text g.coordinator text.now) def) g.views) }
         ensures number { IfOk result (λ number. number ≡ last_decision self.old + 1) }
         ensures same { OnErr result (numbers_in self.new ≡ numbers_in self.old) }
         ensures images { (which : WhichLog) (c : Coordinator Definition) (v : ℕ → PartView) (def : Definition) → IsStore reading (D.view disks.old) self.old which c v → MayDefine reading c text.now def → IsTrue (D.view disks.old).told
             → StandForEither reading (D.view disks.new) (found_of c v) (found_of (with_definition c (next_text c text.now) def) v) }
 
-        ensures stay { rows_of_store self.new ≡ rows_of_store self.old }
         ensures messages { messages_of self.new ≡ messages_of self.old }
         ensures others { KeepsOthers (coordinator_device self.old) (D.view disks.old) (D.view disks.new) (result_err result) }
         ensures cause { HasCause (D.view disks.old) (D.view disks.new) (result_err result) }

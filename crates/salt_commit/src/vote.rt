@@ -2,11 +2,11 @@
 //! unit's shares.
 
 ghost use Rattle.salt_bytes.specs.Generations.{WhichLog};
-ghost use Rattle.salt_commit.specs.Again.{decided_in};
 ghost use Rattle.salt_commit.specs.Messages.{nodes_of};
-ghost use Rattle.salt_commit.specs.Prepares.{with_shares};
-ghost use Rattle.salt_commit.specs.Stores.{ArePartitions};
-ghost use Rattle.salt_commit.specs.Voting.{DidNext, HasPreparedAt, HasReopenedAt, HaveVoted, MayDoNext, MayPrepareAt, MayReopenAt, MayVote, MayVoteAs};
+ghost use Rattle.salt_commit.specs.Voting.{DidNext, HasPreparedAt, HaveVoted, MayDoNext, MayPrepareAt, MayVote, MayVoteAs};
+ghost use Rattle.salt_paged.specs.Partitions.{ArePartitions};
+ghost use Rattle.salt_parts.specs.Openings.{decided_in};
+ghost use Rattle.salt_shares.specs.Prepares.{with_shares};
 ghost use Rattle.salt_stands.specs.CoordinatorLog.{CoordinatorLog};
 ghost use Rattle.salt_stands.specs.Pieces.{PartView};
 ghost use Rattle.salt_turns.specs.Amid.{IsOnTheWay, IsUnknown, Rests, first_of};
@@ -14,31 +14,15 @@ ghost use Rattle.salt_turns.specs.declared.coming.Next.TheVariants.{Restarts};
 ghost use Rattle.std.specs.Prelude.{OnOk, length, ℕ, ◌≡◌, ◌≤◌};
 ghost use Rattle.std.specs.Result.{result_err};
 
-use crate::again::reopen_part;
+use crate::again::reopen_at;
 use crate::nodes::nodes_of;
-use crate::prepare::prepare_share;
 use salt_disk::{DiskErr, Disks};
 use salt_net::{Messages, NodeStatus};
-use salt_partition::Partition;
+use salt_paged::Partition;
+use salt_shares::prepare_share;
 use salt_turns::{Next, begin, next_vote, pass};
 use salt_values::{Changes, Id, next_number};
-use sqlite_items::Items;
 use std::alloc::{AllocError, Global};
-
-/// Opens a partition of a list again, whose last unit is in doubt or none of this commit.
-fn reopen_at<D: Disks>(
-    alloc: Global,
-    disks: &mut D,
-    parts: &mut Vec<Partition>,
-    number: usize,
-) -> Result<(), DiskErr>
-    requires { MayReopenAt (D.view disks.old) parts.old.items number }
-    ensures { HasReopenedAt (D.view disks.old) (D.view disks.new) parts.old.items parts.new.items number (result_err result) }
-{
-    let none = Items::new(alloc);
-    let part = &mut parts[number];
-    reopen_part(alloc, disks, part, &none)
-}
 
 /// Prepares a unit's share in a partition of a list.
 fn prepare_at<D: Disks>(
@@ -97,8 +81,8 @@ fn mind_doubt(
 }
 
 /// Starts a unit, and goes on by turns until the coordinator decides next, or has no node to ask. Then each share is prepared; whatever
-/// is answered, each image of each partition's log has the entries from before, with the share's or without it. What nodes were
-/// restarted in doubt is kept in mind.
+/// is answered, each image of each partition's log has the entries from before, with the share's or without it, and pages are written to
+/// no side that a header names. What nodes were restarted in doubt is kept in mind.
 pub fn vote_all<D: Disks>(
     alloc: Global,
     disks: &mut D,

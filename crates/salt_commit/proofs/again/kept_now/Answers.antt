@@ -1,5 +1,4 @@
 use Rattle.salt_commit.proofs.Restarted.{kept_is, masks_many, never_blank, never_faulty}
-use Rattle.salt_commit.proofs.Standing.{if_some}
 use Rattle.salt_commit.proofs.again.kept_now.Goals as goal
 use Rattle.salt_decisions.specs.Kept.{IsKept}
 use Rattle.salt_decisions.specs.Opened.{PeekFails, Peeks}
@@ -7,6 +6,7 @@ use Rattle.salt_disk.specs.Disks.{KeepsAll}
 use Rattle.salt_disk.specs.declared.disks.DiskErr.TheVariants.{Failed}
 use Rattle.salt_gatelog.proofs.Entries.{keeps_then}
 use Rattle.salt_gatelog.specs.Pair.{pair_err_of}
+use Rattle.salt_parts.proofs.Lists.{if_some}
 use Rattle.salt_stands.specs.Coordinator.{coordinator_pair}
 use Rattle.salt_stands.specs.CoordinatorLog.{CoordinatorLog}
 use Rattle.salt_stands.specs.Stands.{logs_of}

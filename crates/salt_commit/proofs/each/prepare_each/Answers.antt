@@ -1,13 +1,15 @@
+use Rattle.salt_commit.proofs.Sharing.{all_voted_at_once}
 use Rattle.salt_commit.proofs.Voting.{err_is, on_given}
 use Rattle.salt_commit.proofs.each.prepare_each.Goals as goal
-use Rattle.salt_commit.specs.Again.{decided_in}
 use Rattle.salt_commit.specs.Messages.{nodes_of}
 use Rattle.salt_commit.specs.Telling.{HaveStarted}
 use Rattle.salt_disk.specs.declared.disks.DiskErr.TheVariants.{Full}
 use Rattle.salt_net.specs.Paces.{Pace}
+use Rattle.salt_parts.specs.Openings.{decided_in}
 use Rattle.salt_turns.specs.Amid.{IsUnknown, Rests}
 use Rattle.std.proofs.Common.{None, Option, Some, subst, sym}
 use Rattle.std.specs.Prelude.{IfSome, OnOk}
+use Rattle.std.specs.Result.{result_err}
 
 pub vote_all-requires-clause-rests : goal.vote_all-requires-clause-rests
 vote_all-requires-clause-rests g c = subst (λ (o : Option Pace). IfSome o Rests) c.in-Some.is c.requires.rests
@@ -30,15 +32,8 @@ returns-in-None-clause-ok g c which log v base = c.prepare_all.ensures.ok v (dec
 pub returns-in-None-clause-voted : goal.returns-in-None-clause-voted
 returns-in-None-clause-voted g c =
     let h = c.prepare_all.ensures in
-    record {
-      images = λ which log v base p low. h.images v (decided_in log) base.are p low;
-      stay = h.stay;
-      others = h.others;
-      cause = h.cause;
-      full = h.full;
-      untouched = λ k is. h.untouched k (err_is c.prepare_all.result (Full k) is);
-      size = h.size;
-    }
+    all_voted_at_once (g.D.Disks.view c.args.disks.now) (g.D.Disks.view c.prepare_all.new.disks) c.args.parts.now.items c.prepare_all.new.parts.items c.args.unit c.args.shares.now (result_err c.prepare_all.result)
+    h.images h.others h.cause h.full (λ k is. h.untouched k (err_is c.prepare_all.result (Full k) is)) h.size
 
 pub returns-in-None-clause-started : goal.returns-in-None-clause-started
 returns-in-None-clause-started g c =

@@ -1,4 +1,4 @@
-use Rattle.salt_commit.proofs.Beginning.{begins, begun_image, begun_unnamed, blank_image, blank_unnamed, open_answer, still_blank, still_blank_image, wider_opened, wider_parts}
+use Rattle.salt_commit.proofs.Beginning.{begins, begun_image, blank_image, open_answer, still_blank, wider_opened, wider_parts}
 use Rattle.salt_commit.proofs.Fields.{as_many}
 use Rattle.salt_commit.proofs.Limits.{decisions_full, parts_full}
 use Rattle.salt_commit.proofs.open.begin_store.Goals as goal
@@ -52,33 +52,6 @@ returns-clause-images g c told image left =
 
 pub returns-clause-others : goal.returns-clause-others
 returns-clause-others g c = wider_opened c.args.shape.parts (g.D.Disks.view c.args.disks.now) (g.D.Disks.view c.create_all.new.disks) (g.D.Disks.view c.open_decisions.new.disks) None c.in_ok-parts.ensures.others c.in_ok-decisions.ensures.others
-
-pub returns-in_err-parts-clause-pages : goal.returns-in_err-parts-clause-pages
-returns-in_err-parts-clause-pages g c told image left dev leaves =
-    let d = g.D.Disks.view c.args.disks.now in
-    let known : 1 < d.count = omega (arith, c.requires.room.known 0 (omega (arith, c.requires.parts.0))) in
-    blank_unnamed c.args.shape image dev
-    (still_blank_image d (g.D.Disks.view c.create_all.new.disks) c.args.shape.parts (result_err c.create_all.result) c.create_all.ensures.others known (c.requires.room.settled 0 (omega (arith, known))) (c.requires.room.settled 1 known) (c.requires.blank told) image left) leaves
-
-pub returns-in_err-decisions-clause-pages : goal.returns-in_err-decisions-clause-pages
-returns-in_err-decisions-clause-pages g c told image left dev leaves =
-    let d = g.D.Disks.view c.args.disks.now in
-    let b = g.D.Disks.view c.create_all.new.disks in
-    let keeps = c.in_ok-parts.ensures.others in
-    let known : 1 < b.count = omega (arith, c.requires.room.known 0 (omega (arith, c.requires.parts.0)), keeps.shape.count) in
-    let blank = still_blank d b c.args.shape.parts keeps.kept (c.requires.blank told) in
-    begun_unnamed reading c.args.shape c.requires.parts b (g.D.Disks.view c.open_decisions.new.disks) (open_disk_err c.open_decisions.result) c.open_decisions.ensures.others c.in_ok-parts.parts.items c.in_ok-parts.ensures.made.0 c.in_ok-parts.ensures.made.1 (keeps.shape.told ∙ told) known
-    (c.open_decisions.ensures.images_a blank) (c.open_decisions.ensures.images_b blank) image left dev leaves
-
-pub returns-clause-pages : goal.returns-clause-pages
-returns-clause-pages g c told image left dev leaves =
-    let d = g.D.Disks.view c.args.disks.now in
-    let b = g.D.Disks.view c.create_all.new.disks in
-    let keeps = c.in_ok-parts.ensures.others in
-    let known : 1 < b.count = omega (arith, c.requires.room.known 0 (omega (arith, c.requires.parts.0)), keeps.shape.count) in
-    let blank = still_blank d b c.args.shape.parts keeps.kept (c.requires.blank told) in
-    begun_unnamed reading c.args.shape c.requires.parts b (g.D.Disks.view c.open_decisions.new.disks) (open_disk_err c.open_decisions.result) c.open_decisions.ensures.others c.in_ok-parts.parts.items c.in_ok-parts.ensures.made.0 c.in_ok-parts.ensures.made.1 (keeps.shape.told ∙ told) known
-    (c.open_decisions.ensures.images_a blank) (c.open_decisions.ensures.images_b blank) image left dev leaves
 
 pub returns-in_err-parts-clause-full : goal.returns-in_err-parts-clause-full
 returns-in_err-parts-clause-full g c told =

@@ -1,32 +1,16 @@
-use Rattle.salt_commit.proofs.Lists.{within_at}
-use Rattle.salt_commit.proofs.Sharing.{share_read}
-use Rattle.salt_commit.proofs.Voting.{read_at}
 use Rattle.salt_commit.proofs.tell.open_at.Goals as goal
-use Rattle.salt_commit.specs.Again.{StandsUnder, decided_in}
-use Rattle.salt_commit.specs.Shares.{share_at}
-use Rattle.salt_partition.specs.Reopening.{GoesOn}
-use Rattle.std.proofs.Common.{Some, ap, arith, refl, subst, sym, ◌∙◌}
+use Rattle.salt_disk.specs.declared.disks.DiskErr.{DiskErr}
+use Rattle.salt_values.specs.declared.change.Change.{Change}
+use Rattle.std.proofs.Common.{List, None, Some, ap, slice_set, ◌≡◌}
+use Rattle.std.proofs.lemmas.Result.{err_from_is_err_and}
 
-pub open_behind-requires : goal.open_behind-requires
-open_behind-requires g c =
-    let h = c.requires.may in
-    let d = g.D.Disks.view c.args.disks.now in
-    let low = within_at c.args.parts.now c.args.number h.x h.at in
-    let same = read_at c.args.parts.now c.args.number h.x c.index-parts-number.result h.at c.index-parts-number.is in
-    let read = share_read c.args.shares.now c.args.number c.index-shares-number.result (omega (arith, low, c.requires.size)) c.index-shares-number.is in
-    subst (λ cs. StandsUnder d c.index-parts-number.result cs) read (subst (λ x. StandsUnder d x (share_at c.args.shares.now c.args.number)) (sym same) h.may)
+some_none : (e : DiskErr) → Some e ≡ None → ⊥
+some_none e is = cc
 
-pub returns-clause-ok : goal.returns-clause-ok
-returns-clause-ok g c =
-    let h = c.requires.may in
-    let low = within_at c.args.parts.now c.args.number h.x h.at in
-    let same = read_at c.args.parts.now c.args.number h.x c.index-parts-number.result h.at c.index-parts-number.is in
-    let read = share_read c.args.shares.now c.args.number c.index-shares-number.result (omega (arith, low, c.requires.size)) c.index-shares-number.is in
-    record {
-      x = c.index-parts-number.result;
-      y = c.in_ok-partition.partition;
-      at = h.at ∙ ap (λ z. Some z) (sym same);
-      set = refl;
-      goes = λ which log p v applied reads is goes named.
-          c.in_ok-partition.ensures.ok which log p v applied reads is (subst (λ cs. GoesOn v applied (decided_in log p) cs) read goes) named;
-    }
+pub returns-clause-opened : goal.returns-clause-opened
+returns-clause-opened g c = record { reopened = c.in_ok-reopen_at.ensures; done = λ fine. ap (λ (s : List Change). slice_set c.args.shares.now.items c.args.number s) c.new-none.ensures }
+
+pub returns-in_err-reopen_at-clause-opened : goal.returns-in_err-reopen_at-clause-opened
+returns-in_err-reopen_at-clause-opened g c =
+    let p = err_from_is_err_and c.from_residual.result c.from_residual.ensures.1 in
+    rw (p.1, p.2) (record { reopened = c.in_err-reopen_at.ensures; done = λ fine. absurd (some_none c.in_err-reopen_at.field-0.0 fine) })

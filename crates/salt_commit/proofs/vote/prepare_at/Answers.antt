@@ -1,19 +1,19 @@
-use Rattle.salt_commit.proofs.Lists.{within_at}
-use Rattle.salt_commit.proofs.Sharing.{Prepares, share_read}
 use Rattle.salt_commit.proofs.Voting.{err_is, ok_then, read_at}
 use Rattle.salt_commit.proofs.vote.prepare_at.Goals as goal
-use Rattle.salt_commit.specs.Prepares.{StandsForShare}
-use Rattle.salt_commit.specs.Shares.{MayPrepareShare, share_at, with_share}
 use Rattle.salt_disk.specs.declared.disks.DiskErr.TheVariants.{Full}
-use Rattle.salt_partition.specs.Partitions.{IsPartition}
+use Rattle.salt_paged.specs.Partitions.{IsPartition}
+use Rattle.salt_shares.proofs.Sharing.{Prepares, share_read}
+use Rattle.salt_shares.specs.Prepares.{StandsForShare}
+use Rattle.salt_shares.specs.Shares.{MayPrepareShare, share_at, with_share}
 use Rattle.std.proofs.Common.{Some, ap, arith, refl, subst, sym, ◌∙◌}
+use Rattle.std.proofs.lemmas.Option.{slice_get_within}
 use Rattle.std.specs.Result.{result_err}
 
 pub prepare_share-requires : goal.prepare_share-requires
 prepare_share-requires g c =
     let h = c.requires.may in
     let d = g.D.Disks.view c.args.disks.now in
-    let low = within_at c.args.parts.now.items c.args.number h.x h.at in
+    let low = slice_get_within c.args.parts.now.items c.args.number h.x h.at in
     let same = read_at c.args.parts.now.items c.args.number h.x c.index_mut-part.result.now h.at c.index_mut-part.ensures.value in
     let read = share_read c.args.shares.now c.args.number c.index-shares-number.result (omega (arith, low, c.requires.size)) c.index-shares-number.is in
     subst (λ cs. StandsForShare d c.index_mut-part.result.now c.args.unit cs) read (subst (λ x. StandsForShare d x c.args.unit (share_at c.args.shares.now c.args.number)) (sym same) h.may)
@@ -24,7 +24,7 @@ returns g c =
     let d = g.D.Disks.view c.args.disks.now in
     let e = g.D.Disks.view c.prepare_share.new.disks in
     let x = c.index_mut-part.result.now in
-    let low = within_at c.args.parts.now.items c.args.number h.x h.at in
+    let low = slice_get_within c.args.parts.now.items c.args.number h.x h.at in
     let same = read_at c.args.parts.now.items c.args.number h.x x h.at c.index_mut-part.ensures.value in
     let read = share_read c.args.shares.now c.args.number c.index-shares-number.result (omega (arith, low, c.requires.size)) c.index-shares-number.is in
     let own = share_at c.args.shares.now c.args.number in
@@ -41,7 +41,6 @@ returns g c =
           (c.prepare_share.ensures.ok p v applied is (subst (λ cs. MayPrepareShare v applied c.args.unit cs) read may)) in
           subst (λ cs. IsPartition e c.prepare_share.new.part p (with_share c.args.unit cs v) applied) (sym read) goes;
       images = says_so.images;
-      rows = c.prepare_share.ensures.stay;
       others = says_so.others;
       cause = c.prepare_share.ensures.cause;
       full = says_so.full;

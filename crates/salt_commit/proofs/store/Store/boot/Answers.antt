@@ -1,3 +1,4 @@
+use Rattle.salt_commit.proofs.Committed.{same_generation}
 use Rattle.salt_commit.proofs.Entered.{boot_images, boot_ok}
 use Rattle.salt_commit.proofs.Fields.{shown}
 use Rattle.salt_commit.proofs.store.Store.boot.Goals as goal
@@ -27,7 +28,7 @@ pub returns-clause-ok : goal.returns-clause-ok
 returns-clause-ok g c which co v is =
     let was = subst (λ (y : Store). IsStore reading (g.D.Disks.view c.args.disks.now) y which co v) (sym c.self.view_is) is in
     let room : last_boot (shown c.self.inside) + 1 < 2 ^ 64 = omega (arith, c.requires.below, ap (λ (y : Store). last_boot y) c.self.view_is) in
-    boot_ok reading (g.D.Disks.view c.args.disks.now) (g.D.Disks.view c.boot.new.disks) (shown c.self.inside) which co v was room _ c.in_ok-boot.ensures.others refl (c.in_ok-boot.ensures.ok which co.log was.decisions)
+    (same_generation which co v, boot_ok reading (g.D.Disks.view c.args.disks.now) (g.D.Disks.view c.boot.new.disks) (shown c.self.inside) which co v was room _ c.in_ok-boot.ensures.others refl (c.in_ok-boot.ensures.ok which co.log was.decisions))
 
 pub returns-clause-images : goal.returns-clause-images
 returns-clause-images g c which co v is told =

@@ -1,4 +1,5 @@
 use Rattle.law_definitions.specs.Texts.{definition_in}
+use Rattle.salt_commit.proofs.Committed.{same_generation}
 use Rattle.salt_commit.proofs.Entered.{definition_images, definition_ok}
 use Rattle.salt_commit.proofs.Fields.{shown}
 use Rattle.salt_commit.proofs.store.Store.define.Goals as goal
@@ -20,7 +21,7 @@ returns-in_err-number-clause-images g c which co v def is may told =
     let was = subst (λ (y : Store). IsStore reading (g.D.Disks.view c.args.disks.now) y which co v) (sym c.self.view_is) is in
     let room : last_decision (shown c.self.inside) + 1 < 2 ^ 64 = omega (arith, c.requires.below, ap (λ (y : Store). last_decision y) c.self.view_is) in
     let short : length c.args.text.now < 2 ^ 64 = omega arith in
-    definition_images reading (g.D.Disks.view c.args.disks.now) (g.D.Disks.view c.define.new.disks) (shown c.self.inside) which co v was c.args.text.now def room short may (c.what_fits_still_fits.ensures definition_in co.definitions def)
+    definition_images reading (g.D.Disks.view c.args.disks.now) (g.D.Disks.view c.define.new.disks) (shown c.self.inside) which co v was c.args.text.now def room short (λ now. may) (c.what_fits_still_fits.ensures definition_in co.definitions def)
     (result_err c.define.result) c.define.ensures.others told (c.define.ensures.images which co.log was.decisions)
 
 pub returns-in_err-number-clause-same : goal.returns-in_err-number-clause-same
@@ -30,14 +31,16 @@ pub returns-clause-ok : goal.returns-clause-ok
 returns-clause-ok g c which co v def is may =
     let was = subst (λ (y : Store). IsStore reading (g.D.Disks.view c.args.disks.now) y which co v) (sym c.self.view_is) is in
     let room : last_decision (shown c.self.inside) + 1 < 2 ^ 64 = omega (arith, c.requires.below, ap (λ (y : Store). last_decision y) c.self.view_is) in
-    let short : length c.args.text.now < 2 ^ 64 = omega arith in
-    definition_ok reading (g.D.Disks.view c.args.disks.now) (g.D.Disks.view c.define.new.disks) (shown c.self.inside) which co v was c.args.text.now def room short may (c.what_fits_still_fits.ensures definition_in co.definitions def)
-    _ c.in_ok-number.ensures.others refl (c.in_ok-number.ensures.ok which co.log was.decisions)
+    let short : length c.args.text.now < 2 ^ 64 = omega arith in (
+      same_generation which co v,
+      definition_ok reading (g.D.Disks.view c.args.disks.now) (g.D.Disks.view c.define.new.disks) (shown c.self.inside) which co v was c.args.text.now def room short may (c.what_fits_still_fits.ensures definition_in co.definitions def)
+          _ c.in_ok-number.ensures.others refl (c.in_ok-number.ensures.ok which co.log was.decisions),
+    )
 
 pub returns-clause-images : goal.returns-clause-images
 returns-clause-images g c which co v def is may told =
     let was = subst (λ (y : Store). IsStore reading (g.D.Disks.view c.args.disks.now) y which co v) (sym c.self.view_is) is in
     let room : last_decision (shown c.self.inside) + 1 < 2 ^ 64 = omega (arith, c.requires.below, ap (λ (y : Store). last_decision y) c.self.view_is) in
     let short : length c.args.text.now < 2 ^ 64 = omega arith in
-    definition_images reading (g.D.Disks.view c.args.disks.now) (g.D.Disks.view c.define.new.disks) (shown c.self.inside) which co v was c.args.text.now def room short may (c.what_fits_still_fits.ensures definition_in co.definitions def)
+    definition_images reading (g.D.Disks.view c.args.disks.now) (g.D.Disks.view c.define.new.disks) (shown c.self.inside) which co v was c.args.text.now def room short (λ now. may) (c.what_fits_still_fits.ensures definition_in co.definitions def)
     (result_err c.define.result) c.define.ensures.others told (c.define.ensures.images which co.log was.decisions)

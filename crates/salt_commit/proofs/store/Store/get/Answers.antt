@@ -43,7 +43,7 @@ returns-clause-row g c which co v is told =
     let own = taken reading d x which co v was p q within c.index_mut-part.ensures.value in
     let here : p ≡ part_of_key co.log.header.shape key = c.part_of-number.ensures.part ∙ ap (λ s. part_of_key s key) (c.shape.ensures.value ∙ was.decisions.holds.shape) in
     let low : part_of_key co.log.header.shape key < partition_count co = omega (arith, here, within, was.size) in
-    c.in_ok-row.ensures.row p (v p) _ own ∙ ap (λ k. row_at (place c.args.table key) (tables_at_part co k (v k))) here ∙ sym (row_of_all reading d x which co v was told c.args.table key low)
+    c.in_ok-row.ensures.row p (v p) _ own told ∙ ap (λ k. row_at (place c.args.table key) (tables_at_part co k (v k))) here ∙ sym (row_of_all reading d x which co v was told c.args.table key low)
 
 pub returns-clause-stands : goal.returns-clause-stands
 returns-clause-stands g c which co v is =
