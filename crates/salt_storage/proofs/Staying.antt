@@ -1,7 +1,6 @@
 -- Calls one behind the other stay within what is asked for.
 use Rattle.salt_disk.specs.Disks.{View}
-use Rattle.salt_stands.specs.LogDevices.{IsStoreLog}
-use Rattle.salt_storage.specs.Staying.{Setup, StaysWithin}
+use Rattle.salt_storage.specs.Staying.{IsBeyond, Setup, StaysWithin}
 use Rattle.std.proofs.Common.{subst, sym, ◌∙◌}
 use Rattle.std.specs.Prelude.{IsTrue, refl, ℕ, ◌<◌}
 
@@ -23,5 +22,5 @@ stays-behind g h = record {
   };
   others = λ told dev low out bytes image.
       g.others told dev low out bytes
-      (h.others (subst IsTrue (sym g.shape.told) told) dev (subst (λ (n : ℕ). dev < n) (sym g.shape.count) low) (subst (λ (s : Setup). ¬ IsStoreLog s.shape.parts dev) (sym g.asked) out) bytes image);
+      (h.others (subst IsTrue (sym g.shape.told) told) dev (subst (λ (n : ℕ). dev < n) (sym g.shape.count) low) (subst (λ (s : Setup). IsBeyond s.shape dev) (sym g.asked) out) bytes image);
 }

@@ -61,10 +61,11 @@ IsRefusal (OtherShape kept asked) = ⊤
 IsRefusal (NumbersSpent boot decisions) = ⊤
 IsRefusal e = ⊥
 
--- it has written nothing, so no stop has come
+-- it has written nothing, so no stop has come, and no device was full
 pub record WritesNothing (old new : View) (answer : Option DiskErr) : Type 0 where
   pub keeps : KeepsAll old new answer
   pub unstopped : answer ≡ Some disk.Stopped → ⊥
+  pub not_full : (dev : ℕ) → answer ≡ Some (disk.Full dev) → ⊥
 
 -- the numbers that a refusal tells
 abbrev pub numbers_of : OpenErr → Option Numbers

@@ -3,15 +3,17 @@
 ghost use Rattle.salt_bytes.specs.declared.moves.Move.{Move};
 ghost use Rattle.law_definitions.specs.Texts.{definition_in};
 ghost use Rattle.salt_disk.specs.Disks.{HasCause, KeepsAll, View};
+ghost use Rattle.salt_eval.specs.Scans.{IsKeyed};
+ghost use Rattle.salt_eval.specs.Views.{tables_of};
 ghost use Rattle.salt_model.specs.Kept.{Definition, Kept, schema_of};
 ghost use Rattle.salt_model.specs.Tables.{Tables};
-ghost use Rattle.salt_storage.specs.Answers.{IsLater, IsRefusal, MayFail, WritesNothing, disk_err, open_disk_err};
+ghost use Rattle.salt_storage.specs.Answers.{IsLater, IsRefusal, MayFail, WritesNothing, disk_err, disk_err_of, open_disk_err};
 ghost use Rattle.salt_net.specs.Turns.{Turning};
 ghost use Rattle.salt_storage.specs.Netted.{net_armed, net_begun, net_committed};
 ghost use Rattle.salt_storage.specs.Staying.{Setup, StaysWithin};
 ghost use Rattle.salt_storage.specs.Storing.{IsFound, IsPartOf, IsSoundKept, MayDecide, MayDefine, Reopens, booted, decided, defined};
 ghost use Rattle.salt_storage.specs.Writing.{FindsNoMore, OfBoot, OfDefinition, OfOpening, OfUnit, ToWrite};
-ghost use Rattle.salt_storage.specs.declared.halt.Halt.TheVariants.{DeviceFull};
+ghost use Rattle.salt_storage.specs.declared.halt.Halt.TheVariants.{DeviceFull, DiskFault};
 ghost use Rattle.salt_gatelog.specs.declared.unopened.OpenErr.{OpenErr};
 ghost use Rattle.salt_stands.specs.Stands.{are_spent};
 ghost use Rattle.salt_values.specs.Id.{is_same_id};
@@ -34,12 +36,17 @@ use salt_values::{Change, Id, Key};
 use std::alloc::AllocError;
 
 /// What a database stands on. After an error of a call it is opened anew before it is used. Contracts see the devices by their
-/// view alone, and what is kept on them by the definitions' record of it.
+/// view alone, and what is kept on them by the definitions' record of it. What is kept is known of disks that tell alone: over others
+/// any rows may be given of those that are asked for, and what fits nothing is answered by `reject` and a fault.
 pub trait Storage {
-    /// It stands on the devices, and holds what is kept.
+    /// Whatever the disks tell, it can be called on them, and they can be started again: its devices are there, and are called as they
+    /// may be.
+    ghost able: { View → Self → Type 0 };
+
+    /// It stands on devices that tell, and holds what is kept.
     ghost holds: { View → Self → Kept → Type 0 };
 
-    /// Whatever a stop leaves of the devices, an opening finds the one or the other kept there.
+    /// Whatever a stop leaves of devices that tell, an opening finds the one or the other kept there.
     ghost leaves: { View → Self → Kept → Kept → Type 0 };
 
     /// Whatever a stop leaves of the devices, an opening finds this kept there.
@@ -53,9 +60,6 @@ pub trait Storage {
 
     /// An opening of it was broken off by a stop, so what is there may be opened.
     ghost tried: { View → Self → Type 0 };
-
-    /// Its devices are there, and can be started again.
-    ghost able: { View → Self → Type 0 };
 
     /// No entry and no decision names the unit.
     ghost is_new: { View → Self → Id → Type 0 };
@@ -85,7 +89,8 @@ pub trait Storage {
         requires answers { GivesPlaceOf (F.post place.now.place) }
         requires settled { settled (D.view disks.old) self.old }
         requires unopened { unopened self.old }
-        ensures holds { IfOk result (λ found. (k : Kept) × holds (D.view disks.new) self.new k × IsFound found k × finds (D.view disks.old) self.old k) }
+        ensures found { IfOk result (λ found. (k : Kept) × IsFound found k × IsSoundKept k × finds (D.view disks.old) self.old k
+            × (IsTrue (D.view disks.old).told → holds (D.view disks.new) self.new k)) }
         ensures numbers { IfOk result (λ found. are_spent found.boot found.decisions ≡ false) }
         ensures refuses { IfErr result (refuses (D.view disks.old) self.old) }
         ensures still { OnErr result (FindsNoMore (refuses (D.view disks.old) self.old) (finds (D.view disks.old) self.old) (refuses (D.view disks.new) self.new) (finds (D.view disks.new) self.new)) }
@@ -95,7 +100,7 @@ pub trait Storage {
         ensures later { tried (D.view disks.old) self.old → IfErr result IsLater }
         ensures unwritten { (refusal : OpenErr) → IsRefusal refusal → refuses (D.view disks.old) self.old refusal → IsTrue (D.view disks.old).told
             → WritesNothing (D.view disks.old) (D.view disks.new) (open_disk_err result) }
-        ensures able { OnErr result (able (D.view disks.new) self.new) }
+        ensures able { able (D.view disks.new) self.new }
         ensures full { (dev : ℕ) → result ≡ Err (OpenErr.Full dev) → fills (D.view disks.new) self.new OfOpening dev }
         ensures net { OnOk result (net self.new ≡ net_begun (asked self.new)) }
         ensures within { StaysWithin (asked self.old) (asked self.new) (D.view disks.old) (D.view disks.new) }
@@ -110,20 +115,24 @@ pub trait Storage {
         requires callable { TakesEachKey (F.pre place.now.place) }
         requires answers { GivesPlaceOf (F.post place.now.place) }
         requires settled { settled (D.view disks.old) self.old }
-        requires left { (a b : Kept) × leaves (D.view disks.old) self.old a b }
+        requires left { IsTrue (D.view disks.old).told → (a b : Kept) × leaves (D.view disks.old) self.old a b }
+        ensures able { able (D.view disks.new) self.new }
         ensures holds { IfOk result (λ found. (a b : Kept) → leaves (D.view disks.old) self.old a b →
             Reopens (holds (D.view disks.new) self.new) found a ⊎ Reopens (holds (D.view disks.new) self.new) found b) }
         ensures numbers { IfOk result (λ found. are_spent found.boot found.decisions ≡ false) }
         ensures leaves { OnErr result ((a b : Kept) → leaves (D.view disks.old) self.old a b → leaves (D.view disks.new) self.new a b) }
+        ensures later { IfErr result IsLater }
         ensures known { IfErr result (λ e. (a b : Kept) → leaves (D.view disks.old) self.old a b → MayFail (rests (D.view disks.new) self.new) a b e) }
-        ensures full { (dev : ℕ) → result ≡ Err (OpenErr.Full dev) → ⊥ }
+        ensures full { (dev : ℕ) → result ≡ Err (OpenErr.Full dev) → fills (D.view disks.new) self.new OfOpening dev }
         ensures net { OnOk result (net self.new ≡ net_begun (asked self.new)) }
         ensures within { StaysWithin (asked self.old) (asked self.new) (D.view disks.old) (D.view disks.new) }
         ensures cause { HasCause (D.view disks.old) (D.view disks.new) (open_disk_err result) };
 
     /// Begins the next boot, and gives its number. Each unit of this boot is new.
     fn boot<D: Disks>(&mut self, disks: &mut D) -> Result<u64, Halt>
-        requires { (k : Kept) × holds (D.view disks.old) self.old k × (are_spent k.boot k.decisions ≡ false) }
+        requires able { able (D.view disks.old) self.old }
+        requires held { IsTrue (D.view disks.old).told → (k : Kept) × holds (D.view disks.old) self.old k × (are_spent k.boot k.decisions ≡ false) }
+        ensures able { able (D.view disks.new) self.new }
         ensures number { IfOk result (λ boot. (k : Kept) → holds (D.view disks.old) self.old k → boot ≡ k.boot + 1) }
         ensures holds { OnOk result ((k : Kept) → holds (D.view disks.old) self.old k → holds (D.view disks.new) self.new (booted k)) }
         ensures is_new { IfOk result (λ boot. (u : Id) → u.boot ≡ boot → is_new (D.view disks.new) self.new u) }
@@ -143,7 +152,10 @@ pub trait Storage {
     ) -> Result<Tables, Halt>
         requires callable { TakesEachKey (F.pre place.now.place) }
         requires answers { GivesPlaceOf (F.post place.now.place) }
-        requires reach { (k : Kept) × holds (D.view disks.old) self.old k × (schema.now ≡ schema_of k) × (reach.now.table < length (schema_of k)) }
+        requires able { able (D.view disks.old) self.old }
+        requires reach { IsTrue (D.view disks.old).told → (k : Kept) × holds (D.view disks.old) self.old k × (schema.now ≡ schema_of k) × (reach.now.table < length (schema_of k)) }
+        ensures able { able (D.view disks.new) self.new }
+        ensures keyed { IfOk result (λ rows. IsKeyed (tables_of rows.entries)) }
         ensures rows { IfOk result (λ rows. (k : Kept) → holds (D.view disks.old) self.old k → (es : Tables) → rows.entries ≡ es.list → IsPartOf reach.now es k.tables) }
         ensures holds { OnOk result ((k : Kept) → holds (D.view disks.old) self.old k → holds (D.view disks.new) self.new k) }
         ensures is_new { OnOk result ((u : Id) → is_new (D.view disks.old) self.old u → is_new (D.view disks.new) self.new u) }
@@ -165,8 +177,10 @@ pub trait Storage {
     ) -> Result<u64, Halt>
         requires callable { TakesEachKey (F.pre place.now.place) }
         requires answers { GivesPlaceOf (F.post place.now.place) }
-        requires may { (k : Kept) × holds (D.view disks.old) self.old k × ((conts : List Cont) × MayDecide k unit changes.now made.now conts) }
-        requires new { is_new (D.view disks.old) self.old unit }
+        requires able { able (D.view disks.old) self.old }
+        requires may { IsTrue (D.view disks.old).told → (k : Kept) × holds (D.view disks.old) self.old k × ((conts : List Cont) × MayDecide k unit changes.now made.now conts) }
+        requires new { IsTrue (D.view disks.old).told → is_new (D.view disks.old) self.old unit }
+        ensures able { able (D.view disks.new) self.new }
         ensures number { IfOk result (λ number. (k : Kept) → holds (D.view disks.old) self.old k → number ≡ k.decisions + 1) }
         ensures holds { OnOk result ((k : Kept) (conts : List Cont) → holds (D.view disks.old) self.old k → MayDecide k unit changes.now made.now conts
             → holds (D.view disks.new) self.new (decided k changes.now conts)) }
@@ -174,7 +188,7 @@ pub trait Storage {
         ensures leaves { OnErr result ((k : Kept) (conts : List Cont) → holds (D.view disks.old) self.old k → MayDecide k unit changes.now made.now conts
             → leaves (D.view disks.new) self.new k (decided k changes.now conts)) }
         ensures full { (dev : ℕ) → result ≡ Err (DeviceFull dev) → fills (D.view disks.new) self.new (OfUnit unit changes.now made.now) dev }
-        ensures net { OnOk result (net self.new ≡ net_committed (asked self.old) unit changes.now (net self.old)) }
+        ensures net { OnOk result ((k : Kept) → holds (D.view disks.old) self.old k → net self.new ≡ net_committed (asked self.old) unit changes.now (net self.old)) }
         ensures within { StaysWithin (asked self.old) (asked self.new) (D.view disks.old) (D.view disks.new) }
         ensures cause { HasCause (D.view disks.old) (D.view disks.new) (disk_err result) };
 
@@ -187,7 +201,9 @@ pub trait Storage {
     ) -> Result<u64, Halt>
         requires callable { TakesEachKey (F.pre place.now.place) }
         requires answers { GivesPlaceOf (F.post place.now.place) }
-        requires may { (k : Kept) × holds (D.view disks.old) self.old k × ((d : Definition) × (definition_in text.now ≡ Some d) × MayDefine k d) }
+        requires able { able (D.view disks.old) self.old }
+        requires may { IsTrue (D.view disks.old).told → (k : Kept) × holds (D.view disks.old) self.old k × ((d : Definition) × (definition_in text.now ≡ Some d) × MayDefine k d) }
+        ensures able { able (D.view disks.new) self.new }
         ensures number { IfOk result (λ number. (k : Kept) → holds (D.view disks.old) self.old k → number ≡ k.decisions + 1) }
         ensures holds { OnOk result ((k : Kept) (d : Definition) → holds (D.view disks.old) self.old k → definition_in text.now ≡ Some d → MayDefine k d
             → holds (D.view disks.new) self.new (defined k d)) }
@@ -208,6 +224,7 @@ pub trait Storage {
         ensures faults { (D.view disks.new).faults ≡ (D.view disks.old).faults }
         ensures net { net self.new ≡ net self.old }
         ensures within { StaysWithin (asked self.old) (asked self.new) (D.view disks.old) (D.view disks.new) }
+        ensures able { able (D.view disks.old) self.old → able (D.view disks.new) self.new }
         ensures holds { (k : Kept) → holds (D.view disks.old) self.old k → holds (D.view disks.new) self.new k }
         ensures is_new { (u : Id) → is_new (D.view disks.old) self.old u → is_new (D.view disks.new) self.new u };
 
@@ -216,12 +233,22 @@ pub trait Storage {
         ensures ok { OnOk result (net self.new ≡ net_armed pairs.now (net self.old)) }
         ensures err { OnErr result (net self.new ≡ net self.old) }
         ensures asked { asked self.new ≡ asked self.old }
+        ensures able { able (D.view disks.now) self.old → able (D.view disks.now) self.new }
         ensures holds { (k : Kept) → holds (D.view disks.now) self.old k → holds (D.view disks.now) self.new k }
         ensures is_new { (u : Id) → is_new (D.view disks.now) self.old u → is_new (D.view disks.now) self.new u };
 
     /// Whether its commits go over messages.
     fn over_net(&self) -> bool
         ensures { result ≡ (asked self.now).over_net };
+
+    /// What the disks gave fits nothing that is known, so it is not what was written: a fault is counted.
+    fn reject<D: Disks>(&self, disks: &mut D) -> Halt
+        requires untold { (D.view disks.old).told ≡ false }
+        requires able { able (D.view disks.old) self.now }
+        ensures halt { result ≡ DiskFault }
+        ensures able { able (D.view disks.new) self.now }
+        ensures within { StaysWithin (asked self.now) (asked self.now) (D.view disks.old) (D.view disks.new) }
+        ensures cause { HasCause (D.view disks.old) (D.view disks.new) (Some (disk_err_of result)) };
 
     /// Starts the devices again, after a fault or a stop.
     fn restart<D: Disks>(&mut self, disks: &mut D)
@@ -236,16 +263,18 @@ pub trait Storage {
         ensures stops { (D.view disks.new).armed ≡ (D.view disks.old).armed }
         ensures within { StaysWithin (asked self.old) (asked self.new) (D.view disks.old) (D.view disks.new) };
 
-    /// A law: what it holds may be kept, and a stop leaves it; what is left can be started again; and what rests there is found.
+    /// A law: what it holds is held by disks that tell, may be kept, and a stop leaves it; where nothing is pending it can be called; and
+    /// what rests there is found.
     fn stands<D: Disks>(&self, disks: &D)
+        ensures told { (k : Kept) → holds (D.view disks.now) self.now k → IsTrue (D.view disks.now).told }
         ensures sound { (k : Kept) → holds (D.view disks.now) self.now k → IsSoundKept k }
         ensures stays { (k : Kept) → holds (D.view disks.now) self.now k → leaves (D.view disks.now) self.now k k }
-        ensures able { (a b : Kept) → leaves (D.view disks.now) self.now a b → able (D.view disks.now) self.now }
-        ensures settled { settled (D.view disks.now) self.now → able (D.view disks.now) self.now }
+        ensures able { settled (D.view disks.now) self.now → able (D.view disks.now) self.now }
         ensures finds { (k : Kept) → settled (D.view disks.now) self.now → rests (D.view disks.now) self.now k → finds (D.view disks.now) self.now k };
 
     /// It is given up: the net that its commits have gone over, where they go over messages.
     fn into_net<D: Disks>(self, disks: &D) -> Option<Net>
-        requires { (k : Kept) × holds (D.view disks.now) self k }
-        ensures { result ≡ option_map (λ t. t.events) (net self) };
+        requires able { able (D.view disks.now) self }
+        requires held { IsTrue (D.view disks.now).told → (k : Kept) × holds (D.view disks.now) self k }
+        ensures { (k : Kept) → holds (D.view disks.now) self k → result ≡ option_map (λ t. t.events) (net self) };
 }
