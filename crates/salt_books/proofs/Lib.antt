@@ -19,3 +19,4 @@ pub mod Phases
 pub mod Replaced
 pub mod Shown
 mod Ordered
+pub mod States

@@ -28,14 +28,10 @@ use Rattle.salt_books.specs.declared.coming.Coming.{Coming}
 use Rattle.law_states.specs.OpenUnits.{OpenUnit, unit_named}
 use Rattle.law_states.specs.States.{State}
 use Rattle.salt_model.specs.declared.events.Event.{Event}
-use Rattle.salt_drain.specs.Recovering.{AnswersWithComing, AnswersWith, IsReady, StandsForState}
+use Rattle.salt_drain.specs.Recovering.{AnswersWithComing, AnswersWith, StandsForState}
 use Rattle.salt_drain.specs.declared.recovery.Recovery.{Recovery}
 use Rattle.std.proofs.Common.{ap, subst, sym, ◌∙◌}
 use Rattle.std.specs.Prelude.{IsSome, None, Option, Some, is_some, option_map, refl, true, ◌≡◌}
-
--- where nothing is chosen, nothing has been done
-pub still-stands : (s : State) (a : Option Event) (x : Recovery) (c : Coming) → AnswersWithComing s a x c → c ≡ coming.Nothing → StandsForState x s
-still-stands s a x c h e = (subst (λ (c : Coming). IsReady x s c) e h.ready).0
 
 -- an event for which nothing is asked is given
 pub told : (s : State) (want : Option Event) (x : Recovery) (e : Event) → IsPlain want → AnswersWith s want x (Some e) → AnswersWithComing s want x (coming.Told e)

@@ -114,10 +114,3 @@ ChoosesNext want old new c = (s : State) → StandsForState old s → IsRecoveri
 -- the same of a unit that goes on with a program, if it is open
 abbrev pub ChoosesOf : Id → NextTold → Recovery → Coming → Type 0
 ChoosesOf u want x c = (s : State) → StandsForState x s → IsRecovering s → IsPartIfOpen s.units u → AnswersWithComing s (want s.units) x c
-
--- it stands for some state in an opening
-abbrev pub IsInOpening : Recovery → Type 0
-IsInOpening x = (s : State) × StandsForState x s × IsRecovering s
-
-abbrev pub IsInOpeningOf : Id → Recovery → Type 0
-IsInOpeningOf u x = (s : State) × StandsForState x s × IsRecovering s × IsPartIfOpen s.units u

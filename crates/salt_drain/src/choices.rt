@@ -24,7 +24,7 @@ use std::alloc::AllocError;
 
 impl Recovery {
     ghost use Rattle.salt_drain.specs.Done.{DoesAlone};
-    ghost use Rattle.salt_drain.specs.Recovering.{AnswersWith, ChoosesNext, ChoosesOf, DoesNext, IsInOpening, IsInOpeningOf, IsRecovering, StandsForState, books_of};
+    ghost use Rattle.salt_drain.specs.Recovering.{AnswersWith, ChoosesNext, ChoosesOf, DoesNext, IsRecovering, StandsForState, books_of};
 
     /// A unit of an earlier boot is cut.
     fn cut(&mut self, unit: Id) -> Event
@@ -102,11 +102,13 @@ impl Recovery {
     /// What comes behind an Opened with no decision in flight, and behind each event that nothing follows: a unit of an earlier
     /// boot is cut, or a program goes on, or the opening is done.
     pub fn opened(&mut self) -> Result<Coming, AllocError>
-        requires { IsInOpening self.old }
         ensures { IfOk result (λ coming. ChoosesNext (λ s. rest_in s) self.old self.new coming) }
     {
         match self.books.next_cut() {
-            Some(unit) => Ok(Coming::Told(self.cut(unit))),
+            Some(unit) => match self.books.unit_named(unit) {
+                Some(_) => Ok(Coming::Told(self.cut(unit))),
+                None => Ok(Coming::Nothing),
+            },
             None => {
                 if self.books.count() > 0 {
                     Ok(Coming::Nothing)
@@ -130,7 +132,6 @@ impl Recovery {
 
     /// A unit whose statement has failed is to end by this cause: its program goes on behind the failure.
     fn fail(&self, unit: Id, cause: Cause) -> Coming
-        requires { IsInOpeningOf unit self.now }
         ensures { ChoosesOf unit (λ s. done_of s (Some cause) (unit_named unit s.units)) self.now result }
     {
         let Some(held) = self.books.unit_named(unit) else {
@@ -138,13 +139,13 @@ impl Recovery {
         };
         match held.kind {
             UnitKind::Later { base, .. } => Coming::Branch { unit, base, cause },
-            _ => unreachable!(),
+            // No other goes on in an opening.
+            _ => Coming::Nothing,
         }
     }
 
     /// How a unit is to end that has done a statement, if it ends.
     fn end_behind(&self, unit: Id, failed: Option<Cause>) -> Coming
-        requires { IsInOpeningOf unit self.now }
         ensures { ChoosesOf unit (λ s. done_of s failed (unit_named unit s.units)) self.now result }
     {
         match failed {
@@ -155,7 +156,6 @@ impl Recovery {
 
     /// A unit that has done a statement is to end, or to do its next one.
     fn go_on_behind(&self, unit: Id, failed: Option<Cause>) -> Result<Coming, AllocError>
-        requires { IsInOpeningOf unit self.now }
         ensures { IfOk result (λ coming. ChoosesOf unit (λ s. event_of (Behind.Done unit failed) s) self.now coming) }
     {
         let ending = self.end_behind(unit, failed);
@@ -186,7 +186,6 @@ impl Recovery {
 
     /// What follows the event at hand.
     fn follow_up(&mut self) -> Result<Coming, AllocError>
-        requires { IsInOpening self.old }
         ensures { IfOk result (λ coming. ChoosesNext (λ s. event_of self.old.behind s) self.old self.new coming) }
     {
         match self.behind {
@@ -200,7 +199,6 @@ impl Recovery {
 
     /// What comes behind the event at hand: what follows it, or what the opening goes on with.
     pub fn go_on(&mut self) -> Result<Coming, AllocError>
-        requires { IsInOpening self.old }
         ensures { IfOk result (λ coming. ChoosesNext (λ s. comes_behind self.old.behind s) self.old self.new coming) }
     {
         let following = self.follow_up()?;

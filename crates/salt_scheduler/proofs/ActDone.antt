@@ -2,8 +2,7 @@
 use Rattle.salt_model.specs.declared.locks.Reach.{Reach}
 use Rattle.salt_model.specs.declared.events.Owner.TheVariants.{Unit}
 use Rattle.salt_ast.specs.declared.trees.Statement.{Statement}
-use Rattle.salt_books.proofs.Shown.{have-unit}
-use Rattle.salt_books.specs.Books.{AreBooks, HaveUnit}
+use Rattle.salt_books.specs.Books.{AreBooks}
 use Rattle.salt_scheduler.proofs.Beginning.{first-same}
 use Rattle.salt_scheduler.proofs.ApartCircles.{reads-close-none}
 use Rattle.salt_scheduler.proofs.Calm.{calm-behind, never-calm}
@@ -122,9 +121,6 @@ pub serve-asked : (s : UnitState) (u : Id) (o : OpenUnit) (st : Statement) → u
 serve-asked s u o st named asks = ap (option_and_then (serve_in s)) named ∙ ap (option_map (does_in s o)) asks
 
 -- what is asked is to be done
-
-pub have-asked : (x : Scheduler) (s : State) (a : Asking) (o : OpenUnit) → StandsForState x s → IsAskedBy a s.units o → HaveUnit x.books a.unit
-have-asked x s a o stands asked = have-unit x.books s.units a.unit o stands.books asked.named
 
 pub asked-at : (s : UnitState) (u : Id) (found : Option Asking) (a : Asking) → found ≡ Some a → IsAsked s u found → IsAsked s u (Some a)
 asked-at s u found a is h = subst (λ (f : Option Asking). IsAsked s u f) is h

@@ -10,10 +10,14 @@ use Rattle.law_states.specs.Refused.{UnderWay, busy_in, known_in, refused_in, wr
 use Rattle.salt_model.specs.Refusals.{defines, refusal_by}
 use Rattle.salt_program.specs.Refusals.{program_refusal}
 use Rattle.salt_schema.specs.Refusals.{table_refusal}
-use Rattle.std.proofs.Common.{ap, ◌∙◌}
+use Rattle.salt_books.specs.Books.{programs_in, tables_in}
+use Rattle.salt_books.specs.declared.books.Books.{Books}
+use Rattle.salt_scheduler.specs.Refusals.{known_by, line_refusal}
+use Rattle.salt_scheduler.specs.Standing.{IsDefinable}
+use Rattle.std.proofs.Common.{ap, subst, ◌∙◌}
 use Rattle.std.specs.Bool.{then_some}
 use Rattle.std.specs.Option.{option_or}
-use Rattle.std.specs.Prelude.{Bool, None, Option, Some, false, option_map, refl, true, ◌&&◌, ◌≡◌}
+use Rattle.std.specs.Prelude.{Bool, List, None, Ok, Option, Result, Some, [], false, is_some, option_map, refl, true, ◌&&◌, ◌≡◌}
 use Rattle.salt_model.specs.declared.events.Refusal.TheVariants as refused
 use Rattle.salt_program.specs.Refusals as programs
 use Rattle.salt_program.specs.declared.error.DefineErr.TheVariants as define_error
@@ -70,3 +74,19 @@ program-allowed known p h =
     let fault = none-second first second h in
     ap (λ o. option_or o (option_map programs.fault_error (program_fault known.schema known.catalogue p))) (both-none kept (λ _. define_error.Programs) (program_kept_limit known.catalogue) limit)
     ∙ both-none of_program_fault programs.fault_error (program_fault known.schema known.catalogue p) fault
+
+-- by what the books know
+pub definable : (line : Line) (x : Books) (schema : List TableDef) (catalogue : List ProgramDef) → schema ≡ tables_in x → catalogue ≡ programs_in x →
+    line_refusal (known_by schema catalogue [] 0) line ≡ None → IsDefinable line x
+definable (Table d) x schema catalogue tables programs none =
+    subst (λ (ts : List TableDef). table_refusal ts d ≡ None) tables
+    (table-allowed (known_by schema catalogue [] 0) d (none-mapped refusal_by (line_fault (known_by schema catalogue [] 0) (Table d)) none))
+definable (Program p) x schema catalogue tables programs none =
+    subst (λ (ts : List TableDef). program_refusal ts (programs_in x) p ≡ None) tables
+    (subst (λ (ps : List ProgramDef). program_refusal schema ps p ≡ None) programs
+    (program-allowed (known_by schema catalogue [] 0) p (none-mapped refusal_by (line_fault (known_by schema catalogue [] 0) (Program p)) none)))
+definable line x schema catalogue tables programs none = tt
+
+pub none-refused : {A B : Type 0} (o : Option A) (some : Bool) → some ≡ is_some o → ◌≡◌ {A = Result Bool B} (Ok some) (Ok false) → o ≡ None
+none-refused None some told is = refl
+none-refused (Some x) some told is = let no : some ≡ true = told in let ok = is in cc

@@ -1,8 +1,7 @@
 -- A unit has ended, by a decision or without one.
 use Rattle.std.specs.Option.{option_copied}
 use Rattle.salt_books.proofs.Decided.{undecided as nothing-decided}
-use Rattle.salt_books.proofs.Shown.{have-unit}
-use Rattle.salt_books.specs.Books.{AreBooks, HaveUnit}
+use Rattle.salt_books.specs.Books.{AreBooks}
 use Rattle.salt_books.specs.Called.{name_told}
 use Rattle.salt_books.specs.Coming.{CommitsAtEnd}
 use Rattle.salt_books.specs.Ends.{IsUndecided}
@@ -181,9 +180,6 @@ branch-gives x new u base part cause o s given stands named kind told books watc
 pub copied-none : {A : Type 0} (r : Option (Bor A)) (o : Option A) → option_copied r ≡ o → is_some r ≡ false → o ≡ None
 copied-none None o same none = sym same
 copied-none (Some x) o same none = cc
-
-pub have-named : (x : Scheduler) (s : State) (u : Id) (o : OpenUnit) → StandsForState x s → unit_named u s.units.units ≡ Some o → HaveUnit x.books u
-have-named x s u o stands named = have-unit x.books s.units u o stands.books named
 
 pub undecided-free : (end : End) → IsUndecided end → IsCommitted end → ⊥
 undecided-free (Committed n) h g = h

@@ -13,7 +13,7 @@ pub mod Following
 mod Found
 mod HeldAlready
 mod InTurn
-mod LinesDone
+pub mod LinesDone
 mod Refusing
 mod SettleDone
 mod ShownDone

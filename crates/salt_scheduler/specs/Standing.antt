@@ -1,7 +1,7 @@
 -- What a scheduler stands for: a state; and with an event at hand, which it has done, the state before that.
-use Rattle.salt_ast.specs.declared.lines.Line.TheVariants.{GoAll}
+use Rattle.salt_ast.specs.declared.lines.Line.TheVariants.{GoAll, Program, Table}
 use Rattle.salt_ast.specs.declared.lines.Line.{Line}
-use Rattle.salt_books.specs.Books.{AreBooks, owes_turn, turns_in}
+use Rattle.salt_books.specs.Books.{AreBooks, owes_turn, programs_in, tables_in, turns_in}
 use Rattle.salt_books.specs.Called.{name_told}
 use Rattle.salt_books.specs.Coming.{CanCome, event_meant}
 use Rattle.law_states.specs.Circles.{NoneOnCircle}
@@ -16,7 +16,9 @@ use Rattle.salt_model.specs.Next.{decision_in}
 use Rattle.salt_model.specs.Phases.{Serving}
 use Rattle.salt_model.specs.Trace.{Tree}
 use Rattle.salt_model.specs.declared.events.Event.{Event}
+use Rattle.salt_program.specs.Refusals.{program_refusal}
 use Rattle.salt_scheduler.specs.Follows.{FollowsOn, event_of}
+use Rattle.salt_schema.specs.Refusals.{table_refusal}
 use Rattle.salt_scheduler.specs.Serving.{is_served}
 use Rattle.salt_books.specs.Sound.{IsSoundState}
 use Rattle.salt_books.specs.declared.books.Books.{Books}
@@ -29,7 +31,7 @@ use Rattle.salt_values.specs.declared.id.Id.{Id}
 use Rattle.salt_conflicts.specs.Watched.{IsFinishing, IsWatch, waiters_of}
 use Rattle.salt_conflicts.specs.declared.watching.Watching.{Watching}
 use Rattle.std.specs.Option.{option_or}
-use Rattle.std.specs.Prelude.{Bool, IsTrue, List, None, Option, Some, [], map, true, ◌++◌, ◌∷◌, ◌≡◌, ◌⊎◌}
+use Rattle.std.specs.Prelude.{Bool, IsTrue, List, None, Option, Some, [], map, true, ⊤, ◌++◌, ◌∷◌, ◌≡◌, ◌⊎◌}
 
 -- WHAT IT HAS: the books, and what follows the event at hand; the watch, of it the units that wait, and programs to which `go all` has still to turn
 
@@ -141,13 +143,13 @@ DoesAllowed want now old new e = (s : State) (r : WatchReading s.watch) → Stan
 abbrev pub ChoosesAllowed : NextTold → Line → Scheduler → Scheduler → Coming → Type 0
 ChoosesAllowed want now old new c = (s : State) (r : WatchReading s.watch) → StandsForState old s → ServesAllowed now s → AnswersWithComing s (want s r) new c
 
--- it stands for some state in which a line is served
-abbrev pub IsServing : Line → Scheduler → Type 0
-IsServing now x = (s : State) × StandsForState x s × ServesLine now s
+-- what a line defines, if anything, is not refused by what the books know
+abbrev pub IsDefinable : Line → Books → Type 0
+IsDefinable (Table d) x = table_refusal (tables_in x) d ≡ None
+IsDefinable (Program p) x = program_refusal (tables_in x) (programs_in x) p ≡ None
+IsDefinable line x = ⊤
 
-abbrev pub IsServingBehind : Line → Scheduler → Type 0
-IsServingBehind now x = (s : State) × StandsBehindEvent x s × ServesLine now s
-
+-- it stands for some state in which a line is served that is not refused
 abbrev pub IsAllowed : Line → Scheduler → Type 0
 IsAllowed now x = (s : State) × StandsForState x s × ServesAllowed now s
 

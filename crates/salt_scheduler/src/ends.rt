@@ -27,7 +27,7 @@ use std::alloc::AllocError;
 
 impl Scheduler {
     ghost use Rattle.salt_scheduler.specs.Done.{ChoosesBehind, HasBranched, HasCommitted};
-    ghost use Rattle.salt_scheduler.specs.Standing.{ChoosesNext, DoesNext, IsServing, IsServingBehind, behind_in, books_of, follow_of};
+    ghost use Rattle.salt_scheduler.specs.Standing.{ChoosesNext, DoesNext, behind_in, books_of, follow_of};
 
     /// A unit is to commit, if it is open.
     pub(crate) fn commit(&self, line: &Line, unit: Id) -> Coming
@@ -60,8 +60,7 @@ impl Scheduler {
 
     /// A unit ends by no decision, and leaves nothing.
     pub(crate) fn end(&mut self, line: &Line, unit: Id, end: End) -> Result<Event, AllocError>
-        requires serving { IsServing line.now self.old }
-        requires undecided { IsUndecided end }
+        requires { IsUndecided end }
         ensures { IfOk result (λ e. DoesNext (λ s r. Some (Event.Ended unit end)) line.now self.old self.new e) }
     {
         let Some(held) = self.books.unit_named(unit) else {
@@ -101,7 +100,6 @@ impl Scheduler {
 
     /// A unit whose statement has failed ends by this cause.
     fn fail(&mut self, line: &Line, unit: Id, cause: Cause) -> Result<Coming, AllocError>
-        requires { IsServing line.now self.old }
         ensures { IfOk result (λ coming. ChoosesNext (λ s r. done_of s.units (Some cause) (unit_named unit s.units.units)) line.now self.old self.new coming) }
     {
         let Some(held) = self.books.unit_named(unit) else {
@@ -120,7 +118,6 @@ impl Scheduler {
         unit: Id,
         failed: Option<Cause>,
     ) -> Result<Coming, AllocError>
-        requires { IsServing line.now self.old }
         ensures { IfOk result (λ coming. ChoosesNext (λ s r. done_of s.units failed (unit_named unit s.units.units)) line.now self.old self.new coming) }
     {
         match failed {
@@ -167,7 +164,6 @@ impl Scheduler {
     /// A unit on a circle of waits is given up; where there is none, the unit that has waited longest of those that clash with
     /// nothing goes on.
     pub(crate) fn settle(&mut self, line: &Line) -> Result<Coming, AllocError>
-        requires { IsServing line.now self.old }
         ensures { IfOk result (λ coming. ChoosesNext (λ s r. settles_in s.units (beside_by s r)) line.now self.old self.new coming) }
     {
         if let Some(unit) = self.victim()? {
@@ -182,7 +178,6 @@ impl Scheduler {
 
     /// What follows the event at hand in its turn.
     fn follow_up(&mut self, line: &Line) -> Result<Coming, AllocError>
-        requires { IsServingBehind line.now self.old }
         ensures { IfOk result (ChoosesBehind (λ s r. event_of (follow_of self.old) s.units (beside_by s r)) line.now self.old self.new) }
     {
         match self.follow {
@@ -197,7 +192,6 @@ impl Scheduler {
 
     /// What comes behind the event at hand: what follows it in its turn, or what settles.
     pub fn go_on(&mut self, line: &Line) -> Result<Coming, AllocError>
-        requires { IsServingBehind line.now self.old }
         ensures { IfOk result (ChoosesBehind (λ s r. behind_in s r (follow_of self.old)) line.now self.old self.new) }
     {
         let following = self.follow_up(line)?;

@@ -1,14 +1,16 @@
 //! The first event of a line.
 
 ghost use Rattle.std.specs.Option.{option_copied};
-ghost use Rattle.std.specs.Prelude.{◌≡◌, ◌<◌, ◌^◌, IfOk, Option, Some, false, length, option_map};
+ghost use Rattle.std.specs.Prelude.{◌≡◌, ◌<◌, ◌^◌, IfOk, List, None, Option, Some, false, length, option_map, ℕ};
 ghost use Rattle.salt_ast.specs.declared.lines.Act.{Act};
 ghost use Rattle.salt_ast.specs.declared.lines.Line.{Line};
 ghost use Rattle.salt_books.specs.Held.{seen};
 ghost use Rattle.law_states.specs.OpenUnits.{unit_of_session};
 ghost use Rattle.law_states.specs.Readings.{clash_by, items_by};
 ghost use Rattle.law_states.specs.States.{State};
-ghost use Rattle.salt_program.specs.Refusals.{parts_in};
+ghost use Rattle.salt_books.specs.Books.{programs_in, tables_in};
+ghost use Rattle.salt_program.specs.Refusals.{parts_in, program_refusal};
+ghost use Rattle.salt_schema.specs.Refusals.{table_refusal};
 ghost use Rattle.salt_scheduler.specs.Serving.{is_prepared_line};
 ghost use Rattle.salt_ast.specs.ProgramTexts.{program_text};
 ghost use Rattle.salt_ast.specs.Texts.{table_text};
@@ -35,13 +37,14 @@ fn name_of(held: Option<&Held>) -> Option<Id>
 }
 
 impl Scheduler {
-    ghost use Rattle.salt_scheduler.specs.Standing.{DoesAllowed, ChoosesAllowed, ChoosesNext, DoesNext, IsAllowed, IsServing, StandsForState};
+    ghost use Rattle.salt_scheduler.specs.Standing.{DoesAllowed, ChoosesAllowed, ChoosesNext, DoesNext, StandsForState, books_of};
 
     /// The table of a line has been decided: it is defined.
     pub fn table_defined(&mut self, line: &Line, def: &TableDef) -> Result<Event, AllocError>
-        requires allowed { IsAllowed line.now self.old }
+        requires allowed { table_refusal (tables_in (books_of self.old)) def.now ≡ None }
         requires line { line.now ≡ Line.Table def.now }
-        ensures { IfOk result (λ e. DoesAllowed (λ s r. Some (Event.Defined (next_decision_number s.units) (table_text def.now))) line.now self.old self.new e) }
+        ensures event { IfOk result (λ e. (n : ℕ) × (text : List ℕ) × (e ≡ Event.Defined n text)) }
+        ensures does { IfOk result (λ e. DoesAllowed (λ s r. Some (Event.Defined (next_decision_number s.units) (table_text def.now))) line.now self.old self.new e) }
     {
         let (number, text) = self.books.define_table(def)?;
         self.follow = Follow::Nothing;
@@ -50,10 +53,11 @@ impl Scheduler {
 
     /// The program of a line has been decided: it is defined.
     pub fn program_defined(&mut self, line: &Line, def: &ProgramDef) -> Result<Event, AllocError>
-        requires allowed { IsAllowed line.now self.old }
+        requires allowed { program_refusal (tables_in (books_of self.old)) (programs_in (books_of self.old)) def.now ≡ None }
         requires line { line.now ≡ Line.Program def.now }
         requires parts { length (parts_in def.now.body) < 2 ^ 32 }
-        ensures { IfOk result (λ e. DoesAllowed (λ s r. Some (Event.Defined (next_decision_number s.units) (program_text def.now))) line.now self.old self.new e) }
+        ensures event { IfOk result (λ e. (n : ℕ) × (text : List ℕ) × (e ≡ Event.Defined n text)) }
+        ensures does { IfOk result (λ e. DoesAllowed (λ s r. Some (Event.Defined (next_decision_number s.units) (program_text def.now))) line.now self.old self.new e) }
     {
         let (number, text) = self.books.define_program(def)?;
         self.follow = Follow::Nothing;
@@ -108,7 +112,6 @@ impl Scheduler {
 
     /// What an act of a session brings.
     fn act_of(&mut self, line: &Line, session: u8, act: &Act) -> Result<Coming, AllocError>
-        requires { IsServing line.now self.old }
         ensures { IfOk result (λ coming. ChoosesNext (λ s r. act_in s.units (clash_by s) session act.now (unit_of_session session s.units)) line.now self.old self.new coming) }
     {
         let open = name_of(self.books.unit_of_session(session));
@@ -136,7 +139,6 @@ impl Scheduler {
 
     /// A turn of a program that goes on: of its open unit, or its next part begins.
     pub fn go(&mut self, line: &Line, base: Id) -> Result<Coming, AllocError>
-        requires { IsServing line.now self.old }
         ensures { IfOk result (λ coming. ChoosesNext (λ s r. go_in s.units (clash_by s) base) line.now self.old self.new coming) }
     {
         let open = name_of(self.books.unit_of_program(base));
@@ -154,7 +156,8 @@ impl Scheduler {
 
     /// A line is refused: no turn is owed behind it.
     pub fn refuse(&mut self, line: &Line, refusal: Refusal) -> Event
-        ensures { DoesNext (λ s r. Some (Event.Refused refusal)) line.now self.old self.new result }
+        ensures event { result ≡ Event.Refused refusal }
+        ensures does { DoesNext (λ s r. Some (Event.Refused refusal)) line.now self.old self.new result }
     {
         self.books.refuse();
         self.follow = Follow::Nothing;
@@ -163,7 +166,8 @@ impl Scheduler {
 
     /// Stops have been armed, or what befalls messages.
     pub fn armed(&mut self, line: &Line, pairs: Pairs) -> Event
-        ensures { DoesNext (λ s r. Some (Event.Armed pairs)) line.now self.old self.new result }
+        ensures event { result ≡ Event.Armed pairs }
+        ensures does { DoesNext (λ s r. Some (Event.Armed pairs)) line.now self.old self.new result }
     {
         self.follow = Follow::Nothing;
         Event::Armed(pairs)
@@ -171,8 +175,7 @@ impl Scheduler {
 
     /// What the first event of a line is to be that is not refused, defines nothing and arms nothing.
     pub fn first_of(&mut self, line: &Line) -> Result<Coming, AllocError>
-        requires plain { is_prepared_line line.now ≡ false }
-        requires allowed { IsAllowed line.now self.old }
+        requires { is_prepared_line line.now ≡ false }
         ensures { IfOk result (λ coming. ChoosesAllowed (λ s r. line_in s.units (clash_by s) (items_by s r) line.now) line.now self.old self.new coming) }
     {
         match line {

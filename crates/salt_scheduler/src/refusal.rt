@@ -1,6 +1,6 @@
 //! What is refused of a line.
 
-ghost use Rattle.std.specs.Prelude.{◌≡◌, IfOk};
+ghost use Rattle.std.specs.Prelude.{◌≡◌, IfOk, Ok, false};
 ghost use Rattle.salt_ast.specs.ProgramJudgement.{line_fault};
 ghost use Rattle.salt_books.specs.Held.{seen};
 ghost use Rattle.salt_scheduler.specs.Refused.{IsCountFor, calls, is_turn, refusal_by_state};
@@ -95,7 +95,7 @@ pub fn shares(ids: &[Id], others: &[Id]) -> bool
 }
 
 impl Scheduler {
-    ghost use Rattle.salt_scheduler.specs.Standing.{StandsForState};
+    ghost use Rattle.salt_scheduler.specs.Standing.{IsDefinable, StandsForState, books_of};
 
     /// Whether a program that the last early opening names is not released.
     fn covers(&self) -> bool
@@ -194,6 +194,16 @@ impl Scheduler {
         let known = self.books.known();
         let count = self.count_for(line)?;
         line_refusal(self.alloc, known.schema(), known.catalogue(), count, line)
+    }
+
+    /// Whether what a line defines is refused by what is defined already.
+    pub fn is_refused(&self, line: &Line) -> Result<bool, AllocError>
+        requires { HasFewParts line.now }
+        ensures { result ≡ Ok false → IsDefinable line.now (books_of self.now) }
+    {
+        let known = self.books.known();
+        let refusal = line_refusal(self.alloc, known.schema(), known.catalogue(), 0, line)?;
+        Ok(refusal.is_some())
     }
 
     /// What is refused of a line without a fault, by the state of sessions, programs, disks and messages.

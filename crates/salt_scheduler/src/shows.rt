@@ -11,11 +11,11 @@ use crate::follow::Follow;
 use crate::scheduler::Scheduler;
 use salt_ast::Line;
 use salt_model::{BaseAt, Event, Item, Items};
-use salt_values::{Id, TryCopy, both_in_order, in_order};
+use salt_values::{Id, Name, TryCopy, both_in_order, in_order};
 use std::alloc::AllocError;
 
 impl Scheduler {
-    ghost use Rattle.salt_scheduler.specs.Standing.{DoesNext, IsServing, StandsForState};
+    ghost use Rattle.salt_scheduler.specs.Standing.{DoesNext, StandsForState};
 
     /// The programs in their first part, or accepted and not released, in order of their names.
     pub(crate) fn under_way(&self) -> Result<Vec<Id>, AllocError>
@@ -46,23 +46,20 @@ impl Scheduler {
 
     /// A program that is under way, as it is shown.
     fn base_item(&self, base: Id) -> Result<Item, AllocError>
-        requires { (s : State) × StandsForState self.now s × In base (under_way_by s) }
         ensures { IfOk result (λ item. (s : State) → StandsForState self.now s → In base (under_way_by s) → item ≡ base_item_by s base) }
     {
-        let program = match self.called.name(base) {
-            Some(name) => name.copy(self.alloc)?,
-            None => unreachable!(),
+        let at = self.base_at(base);
+        let Some(name) = self.called.name(base) else {
+            // Each was called by a name: without one it would show none.
+            let program = Name::new(self.alloc);
+            return Ok(Item::Base { base, program, at });
         };
-        Ok(Item::Base {
-            base,
-            program,
-            at: self.base_at(base),
-        })
+        let program = name.copy(self.alloc)?;
+        Ok(Item::Base { base, program, at })
     }
 
     /// Programs that are under way, as they are shown.
     fn base_items(&self, bases: &[Id]) -> Result<Items, AllocError>
-        requires { (s : State) × StandsForState self.now s × Every (λ b. In b (under_way_by s)) bases.now }
         ensures { IfOk result (λ items. (s : State) → StandsForState self.now s → Every (λ b. In b (under_way_by s)) bases.now → items ≡ map (base_item_by s) bases.now) }
     {
         let mut items = Items::new(self.alloc);
@@ -74,7 +71,6 @@ impl Scheduler {
 
     /// The programs that are under way are shown.
     pub(crate) fn show_bases(&mut self, line: &Line) -> Result<Event, AllocError>
-        requires { IsServing line.now self.old }
         ensures { IfOk result (λ e. DoesNext (λ s r. Some (Event.Shown (items_by s r).bases)) line.now self.old self.new e) }
     {
         let bases = self.under_way()?;

@@ -25,7 +25,7 @@ use std::alloc::AllocError;
 
 impl Scheduler {
     ghost use Rattle.salt_scheduler.specs.Done.{HasDone, HasWaited};
-    ghost use Rattle.salt_scheduler.specs.Standing.{ChoosesNext, DoesNext, IsServing, books_of};
+    ghost use Rattle.salt_scheduler.specs.Standing.{ChoosesNext, DoesNext, books_of};
 
     /// A unit begins.
     pub(crate) fn begin(&mut self, line: &Line, kind: UnitKind) -> Result<Event, AllocError>
@@ -98,7 +98,6 @@ impl Scheduler {
     /// A unit takes a turn: it is to do its next statement, or waits for those that hold what it would reach. Where it holds that itself
     /// nobody else does, so that nobody is looked for: as where one row is changed again and again.
     pub(crate) fn take_turn(&mut self, line: &Line, unit: Id) -> Result<Coming, AllocError>
-        requires { IsServing line.now self.old }
         ensures { IfOk result (λ coming. ChoosesNext (λ s r. turn_of_in s.units (clash_by s) (unit_named unit s.units.units)) line.now self.old self.new coming) }
     {
         let Some(asking) = self.books.asking(line, unit)? else {

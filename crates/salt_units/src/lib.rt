@@ -3,6 +3,7 @@
 
 mod acting;
 mod edits;
+mod keys;
 mod laws;
 mod merging;
 mod overlay;
@@ -11,6 +12,7 @@ mod storing;
 mod unit;
 
 pub use acting::execute_under;
+pub use keys::leaves_keys;
 pub use laws::rows_stay_at_their_keys;
 pub use overlay::Overlay;
 pub use putting::put_changes;

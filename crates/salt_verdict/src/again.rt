@@ -5,14 +5,13 @@ ghost use Rattle.salt_model.specs.Statements.{serial};
 ghost use Rattle.salt_verdict.specs.Again.{GivesOutcome};
 ghost use Rattle.std.specs.Prelude.{IfOk, ◌≡◌};
 
-use crate::keys::leaves_keys;
 use law_states::edits_make_the_tables;
 use salt_ast::Statement;
 use salt_audit::has_failed;
 use salt_eval::{RowView, ViewErr};
 use salt_model::{Answer, Vars};
 use salt_schema::Schema;
-use salt_units::OpenUnit;
+use salt_units::{OpenUnit, leaves_keys};
 use salt_values::Id;
 use sqlite_items::Items;
 use std::alloc::Global;

@@ -6,7 +6,6 @@ mod again;
 mod answers;
 mod goings;
 mod honest;
-mod keys;
 mod laws;
 mod ledger;
 mod rows;

@@ -5,11 +5,6 @@ use Rattle.law_states.specs.Readings.{base_item_by, under_way_by}
 use Rattle.std.proofs.Common.{[], sym, ◌++◌, ◌∙◌, ◌∷◌}
 use Rattle.std.proofs.lemmas.List.{map_more}
 
-pub base_item-requires : goal.base_item-requires
-base_item-requires c =
-    let known = c.requires in
-    (known.0, known.1, every-at (λ b. In b (under_way_by known.0)) c.args.bases.now c.loop-base.base-index _ c.loop-base-test.true known.2)
-
 pub loop-base-preserved : goal.loop-base-preserved
 loop-base-preserved c = λ s stands each.
     let one = every-at (λ b. In b (under_way_by s)) c.args.bases.now c.loop-base.base-index (record { boot = 0; seq = 0 }) c.loop-base-test.true each in

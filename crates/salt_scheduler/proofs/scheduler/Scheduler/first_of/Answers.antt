@@ -7,12 +7,6 @@ use Rattle.std.proofs.Common.{ap}
 use Rattle.std.proofs.lemmas.Result.{IfOk-weaker}
 use Rattle.std.specs.Prelude.{refl}
 
-pub act_of-requires : goal.act_of-requires
-act_of-requires c = (c.requires.allowed.0, c.requires.allowed.1, c.requires.allowed.2.serves)
-
-pub go-requires : goal.go-requires
-go-requires c = (c.requires.allowed.0, c.requires.allowed.1, c.requires.allowed.2.serves)
-
 pub returns-in-Session : goal.returns-in-Session
 returns-in-Session c = IfOk-weaker c.act_of.result _ _ (λ e given s r stands h.
     brings-same s _ _ _ _ (ap (line_in s.units (clash_by s) (items_by s r)) c.in-Session.is) (given s r stands h.serves)) c.act_of.ensures
@@ -34,6 +28,6 @@ returns-in_ok-show_bases-in-ShowBases c = λ s r stands h.
 pub returns-in_default : goal.returns-in_default
 returns-in_default c = λ s r stands h.
     brings-none s _ _
-    (nothing-first s.units (clash_by s) (items_by s r) c.args.line.now c.requires.plain (λ t act is. c.in_default.not-Session t act is) (λ b is. c.in_default.not-Go b is)
+    (nothing-first s.units (clash_by s) (items_by s r) c.args.line.now c.requires (λ t act is. c.in_default.not-Session t act is) (λ b is. c.in_default.not-Go b is)
     c.in_default.not-ShowLocks c.in_default.not-ShowBases)
     stands

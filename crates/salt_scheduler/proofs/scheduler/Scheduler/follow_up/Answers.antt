@@ -8,16 +8,6 @@ use Rattle.std.proofs.Common.{ap}
 use Rattle.salt_scheduler.specs.declared.follow.Follow.TheVariants.{Accept, Done, Finish, Turn}
 use Rattle.std.specs.Prelude.{refl}
 
-pub take_turn-requires : goal.take_turn-requires
-take_turn-requires c =
-    let s = c.requires.0 in
-    (s, behind-at (Turn c.in-Turn.unit) c.args.self.now s c.in-Turn.is c.requires.1, c.requires.2)
-
-pub go_on_behind-requires : goal.go_on_behind-requires
-go_on_behind-requires c =
-    let s = c.requires.0 in
-    (s, behind-at (Done c.in-Done.unit c.in-Done.failed) c.args.self.now s c.in-Done.is c.requires.1, c.requires.2)
-
 pub returns-in-Turn : goal.returns-in-Turn
 returns-in-Turn c =
     IfOk-weaker c.take_turn.result _ _ (λ e h s r behind serves.

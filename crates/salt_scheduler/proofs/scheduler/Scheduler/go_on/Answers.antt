@@ -1,14 +1,7 @@
 use Rattle.salt_scheduler.proofs.scheduler.Scheduler.go_on.Goals as goal
-use Rattle.salt_scheduler.proofs.SoundFacts.{reads}
 use Rattle.salt_scheduler.proofs.Done.{brings-same}
 use Rattle.std.proofs.lemmas.Result.{IfOk-weaker}
 use Rattle.salt_scheduler.proofs.SettleDone.{follows-first, settles-then, stands-on}
-
-pub settle-requires : goal.settle-requires
-settle-requires c =
-    let s = c.requires.0 in
-    let h = c.in_ok-following.ensures s (reads s c.requires.2.sound) c.requires.1 c.requires.2 in
-    (s, stands-on s _ _ c.in_ok-following.following c.in-Nothing.is h, c.requires.2)
 
 pub returns-in-Nothing : goal.returns-in-Nothing
 returns-in-Nothing c =

@@ -1,17 +1,10 @@
 use Rattle.salt_scheduler.proofs.scheduler.Scheduler.settle.Goals as goal
-use Rattle.salt_scheduler.proofs.SoundFacts.{reads}
 use Rattle.law_states.specs.Readings.{beside_by}
 use Rattle.salt_scheduler.proofs.Done.{brings-none, brings-same, brings-told}
 use Rattle.salt_scheduler.proofs.SettleDone.{none-of, settles-nothing, settles-serves, settles-victim, watched-anew}
 use Rattle.std.proofs.lemmas.Result.{IfOk-weaker}
 use Rattle.std.proofs.Common.{sym, ◌∙◌}
 use Rattle.std.specs.Prelude.{refl}
-
-pub end-requires-clause-serving : goal.end-requires-clause-serving
-end-requires-clause-serving c =
-    let s = c.requires.0 in
-    let serves = c.requires.2 in
-    (s, (c.in_ok-unit.ensures s (reads s serves.sound) c.requires.1 serves.sound).1, serves)
 
 pub returns-in-Some : goal.returns-in-Some
 returns-in-Some c = λ s r stands serves.

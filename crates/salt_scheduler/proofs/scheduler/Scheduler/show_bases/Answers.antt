@@ -6,12 +6,6 @@ use Rattle.salt_model.specs.Words.{Every}
 use Rattle.std.proofs.Common.{ap, subst, sym, ◌∙◌}
 use Rattle.std.specs.Prelude.{map}
 
-pub base_items-requires : goal.base_items-requires
-base_items-requires c =
-    let known = c.requires in
-    let same = c.as_slice.ensures.value ∙ c.in_ok-bases.ensures known.0 known.1 in
-    (known.0, known.1, subst (Every (λ b. In b (under_way_by known.0))) (sym same) (every-in (under_way_by known.0)))
-
 pub returns : goal.returns
 returns c = λ s r stands serves.
     let same = c.as_slice.ensures.value ∙ c.in_ok-bases.ensures s stands in

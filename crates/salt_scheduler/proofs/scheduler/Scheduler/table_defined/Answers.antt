@@ -1,16 +1,16 @@
 use Rattle.salt_ast.specs.Texts.{table_text}
-use Rattle.salt_scheduler.proofs.LinesDone.{quiet, table-may}
+use Rattle.salt_scheduler.proofs.LinesDone.{quiet}
 use Rattle.salt_scheduler.proofs.scheduler.Scheduler.table_defined.Goals as goal
 use Rattle.law_states.specs.Told.{next_decision_number}
 use Rattle.salt_model.specs.declared.events.Event.TheVariants.{Defined}
 use Rattle.std.proofs.Common.{◌∙◌}
 use Rattle.std.specs.Prelude.{Some, refl}
 
-pub define_table-requires : goal.define_table-requires
-define_table-requires c = table-may c.args.line.now c.args.self.now c.args.def.now c.requires.allowed c.requires.line
-
-pub returns : goal.returns
-returns c = λ s r stands h.
+pub returns-clause-does : goal.returns-clause-does
+returns-clause-does c = λ s r stands h.
     let told = c.in_ok-number.ensures.told s.units stands.books in
     quiet (Defined (next_decision_number s.units) (table_text c.args.def.now)) s c.args.self.now _ _ refl tt (λ x. refl) refl (λ b. refl) stands refl refl refl refl
     (c.in_ok-number.ensures.state s.units stands.books (h.serves.line ∙ c.requires.line)) (λ i. Some (Defined (told.0 i) (told.1 i)))
+
+pub returns-clause-event : goal.returns-clause-event
+returns-clause-event c = (_, _, refl)

@@ -1,4 +1,6 @@
 use Rattle.salt_scheduler.proofs.scheduler.Scheduler.take_turn.Goals as goal
+use Rattle.salt_books.proofs.Shown.{have-unit}
+use Rattle.salt_books.proofs.States.{books-by, state_by}
 use Rattle.salt_scheduler.proofs.SoundFacts.{never-true}
 use Rattle.salt_scheduler.proofs.HeldAlready.{never-saline, none-clash}
 use Rattle.salt_model.specs.declared.events.Owner.TheVariants.{Unit}
@@ -6,15 +8,15 @@ use Rattle.std.specs.Prelude.{Some, [], refl}
 use Rattle.law_states.specs.Readings.{clash_by}
 use Rattle.std.proofs.Common.{ap, sym, ◌∙◌}
 use Rattle.salt_scheduler.proofs.Done.{brings-same, brings-told}
-use Rattle.salt_scheduler.proofs.ActDone.{act-brings, asked-at, asked-name, asks-does, asks-waits, clashes-told, have-asked, turn-asked}
+use Rattle.salt_scheduler.proofs.ActDone.{act-brings, asked-at, asked-name, asks-does, asks-waits, clashes-told, turn-asked}
 
 pub wait-requires : goal.wait-requires
 wait-requires c =
-    let s = c.requires.0 in
-    let stands = c.requires.1 in
-    let serves = c.requires.2 in
-    let asked = asked-at s.units c.args.unit c.in_ok-asking.field-0 c.in-Some.asking c.in-Some.is (c.in_ok-asking.ensures s.units stands.books serves.line) in
-    have-asked c.args.self.now s c.in-Some.asking asked.1.0 stands asked.1.1
+    let x = c.args.self.now.books in
+    let s = state_by x c.args.line.now in
+    let books = books-by x c.args.line.now in
+    let asked = asked-at s c.args.unit c.in_ok-asking.field-0 c.in-Some.asking c.in-Some.is (c.in_ok-asking.ensures s books refl) in
+    have-unit x s c.in-Some.asking.unit asked.1.0 books asked.1.1.named
 
 pub returns-then-holds : goal.returns-then-holds
 returns-then-holds c = λ s r stands serves.
