@@ -129,8 +129,8 @@ module _ (r0 r1 r2 : OpenErr → Type 0) (b0 b1 b2 : Kept → Type 0) where
 pub same-found : (r : OpenErr → Type 0) (b : Kept → Type 0) → FindsNoMore r b r b
 same-found r b = record { refuses_no_more = λ e is. is; finds_no_more = λ k is. is }
 
-pub first-before : (b0 b1 holds : Kept → Type 0) (r0 r1 : OpenErr → Type 0) (x : Found) → FindsNoMore r0 b0 r1 b1 → FindsFirst b1 holds x → FindsFirst b0 holds x
-first-before b0 b1 holds r0 r1 x g f =
+pub first-before : (told : Bool) (b0 b1 holds : Kept → Type 0) (r0 r1 : OpenErr → Type 0) (x : Found) → FindsNoMore r0 b0 r1 b1 → FindsFirst told b1 holds x → FindsFirst told b0 holds x
+first-before told b0 b1 holds r0 r1 x g f =
     record { kept = f.kept; is = f.is; found = g.finds_no_more f.kept f.found; holding = f.holding; sound = f.sound; unspent = f.unspent }
 
 pub fails-to-find : (r0 r1 r2 : OpenErr → Type 0) (b0 b1 b2 : Kept → Type 0) (fills : ToWrite → ℕ → Type 0) (e : OpenErr) (story now : List Event) → now ≡ story → FindsNoMore r0 b0 r1 b1 →
@@ -164,9 +164,9 @@ at-first {D} {S} view refuses first now old new story P (inl same) h = λ refusa
 at-first view refuses first now old new story P (inr never) h = λ refusal is refused told. absurd (never refusal is refused told)
 
 -- what an opening gives
-pub finds-by : (finds holds : Kept → Type 0) (x : Found) → ((k : Kept) × holds k × IsFound x k × finds k) → ((k : Kept) → holds k → IsSoundKept k) → are_spent x.boot x.decisions ≡ false →
-    FindsFirst finds holds x
-finds-by finds holds x h may unspent = record { kept = h.0; is = h.2; found = h.3; holding = h.1; sound = may h.0 h.1; unspent = unspent }
+pub finds-by : (told : Bool) (finds holds : Kept → Type 0) (x : Found) → ((k : Kept) × IsFound x k × IsSoundKept k × finds k × (IsTrue told → holds k)) → are_spent x.boot x.decisions ≡ false →
+    FindsFirst told finds holds x
+finds-by told finds holds x h unspent = record { kept = h.0; is = h.1; sound = h.2; found = h.3; holding = h.4; unspent = unspent }
 
 pub same-some : (x y : Found) → ◌≡◌ {A = Result (Option Found) OpenErr} (Ok (Some x)) (Ok (Some y)) → x ≡ y
 same-some x y e = cc

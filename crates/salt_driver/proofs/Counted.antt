@@ -44,7 +44,7 @@ unfaulted-both es fs g h = let both = faulted-both es fs in omega arith
 unstopped-both : (es fs : List Event) → stopped_in es ≡ 0 → stopped_in fs ≡ 0 → stopped_in (es ++ fs) ≡ 0
 unstopped-both es fs g h = let both = stopped-both es fs in omega arith
 
-rose-on : (a b c : ℕ) → a ≤ b → Rose b c → Rose a c
+pub rose-on : (a b c : ℕ) → a ≤ b → Rose b c → Rose a c
 rose-on a b c h r = let same = r in omega arith
 
 pub not-told : (e : Event) → is_of_run e ≡ false → stops_told e ≡ 0
@@ -185,6 +185,18 @@ count-join line old mid new answer first next story told now g h = record {
       come-same (stops_in answer) (stops_in answer) (mine ++ armed_in line h.more) (before ++ armed_in line (g.more ++ h.more)) new.armed refl
       (append_assoc before (armed_in line g.more) (armed_in line h.more) ∙ ap (λ l. before ++ l) (sym (armed-both line g.more h.more)))
       (h.stops some mine (g.stops before is));
+}
+
+-- what comes next behind it arms nothing, and is left out
+pub count-left : (line : Line) (old new : View) (first : Option Event) (story told : List Event) (next : Option Event) → armed_at line next ≡ [] → CountsSoFar line old new first story told next →
+    CountsSoFar line old new first story told None
+count-left line old new first story told next none g = record {
+  more = g.more;
+  grows = g.grows;
+  unfaulted = g.unfaulted;
+  unstopped = g.unstopped;
+  faults = g.faults;
+  stops = λ before is. g.stops before is ∙ ap (λ l. before ++ armed_in line g.more ++ l) none;
 }
 
 pub count-so-far : (line : Line) (old new : View) (first : Option Event) (story told : List Event) → CountsMore line old new None first story told →

@@ -147,14 +147,6 @@ module _ (devices again : OnDevices) (flies known : Option Flight) (e : OpenErr)
       by (inr w) = within b w
 
 -- where it was stopped it can be opened
-pub reopens-somewhere : (devices : OnDevices) (flies : Option Flight) (e : OpenErr) (start : Start) (trace : Trace) (story told : List Event) →
-    e ≡ opening.Stopped → BreaksOpening devices flies e start trace story told → (room : ℕ) × ((p : Point) × devices.can_reopen_at room p)
-reopens-somewhere devices flies e start trace story told stopped b = by b.stops
-  where
-    by : NotBegun devices flies e b.after b.point ⊎ WithinOpening devices flies e b.after b.point → (room : ℕ) × ((p : Point) × devices.can_reopen_at room p)
-    by (inl n) = (n.room, (b.point, n.again (not-memory e stopped)))
-    by (inr w) = (0, (b.point, w.halts.again (no-memory w.halt (halted-so e w.halt w.halted stopped))))
-
 -- for want of memory it does not even fall
 pub breaks-short : (devices : OnDevices) (flies : Option Flight) (e : OpenErr) (start : Start) (trace : Trace) (story told now : List Event) →
     e ≡ opening.Stopped → now ≡ told → BreaksOpening devices flies e start trace story told → BreaksOpening devices flies opening.Memory start trace story now

@@ -10,3 +10,4 @@ pub mod AtFirst
 pub mod Refusing
 pub mod Owing
 pub mod RefusedAlone
+pub mod Untold

@@ -32,7 +32,7 @@ use Rattle.salt_driver.specs.Along.{StaysInSegment}
 use Rattle.salt_driver.specs.Standing.{BreaksAt, HaltsAt, IsInside, IsSoundPoint, OpensOn}
 use Rattle.salt_storage.proofs.Halted.{halted_later, no_numbers, same_halt}
 use Rattle.salt_storage.specs.Answers.{IsLater, halted_by, numbers_of}
-use Rattle.salt_storage.specs.Writing.{OfBoot}
+use Rattle.salt_storage.specs.Writing.{OfBoot, OfOpening}
 use Rattle.salt_storage.specs.declared.halt.Halt.TheVariants.{DeviceFull, DiskFault, Memory, Stopped}
 use Rattle.salt_storage.specs.declared.halt.Halt.{Halt}
 use Rattle.salt_storage.specs.OpenErr.TheVariants as opening
@@ -201,7 +201,7 @@ module _ (devices : OnDevices) (flies : Option Flight) (start : Start) (story : 
       room = d.room + 1;
       boots = d.boots;
       fails = halted-fails (d.room + 1) d.point halt;
-      full = λ dev is. full dev (same_halt halt (DeviceFull dev) is);
+      full = λ dev is. inr (full dev (same_halt halt (DeviceFull dev) is));
       again = λ some. again (λ is. some (ap halted_by is));
       stays = subst (λ numbers. now.stands_for_kept numbers (d.room + 1) d.point) (sym (no_numbers halt)) stays;
       flies = keeps ∙ d.flies;
@@ -304,7 +304,7 @@ pub finding-fails : (devices now : OnDevices) (flies known : Option Flight) (e :
     ((e ≡ opening.Memory → ⊥) → (room : ℕ) (p : Point) → IsSoundPoint p → p.state.units.phase ≡ Fallen → devices.can_reopen_at room p → now.can_reopen_at room p) →
     ((room : ℕ) (p : Point) → IsSoundPoint p → p.state.units.phase ≡ Fallen → devices.can_reopen_at room p → now.stands_for_kept (numbers_of e) room p) → known ≡ flies →
     ((room : ℕ) (p : Point) → IsSoundPoint p → p.state.units.phase ≡ Fallen → devices.can_reopen_at room p → MayFailAt room p e) →
-    ((dev : ℕ) → e ≡ opening.Full dev → ⊥) → BreaksOpening now known e start trace story story
+    ((dev : ℕ) → e ≡ opening.Full dev → now.fills_device OfOpening dev) → BreaksOpening now known e start trace story story
 finding-fails devices now flies known e start story trace d found stays same fails full =
     let sound = down-sound devices flies start story trace d in
     let fallen = down-fallen devices flies start story trace d in
@@ -323,7 +323,7 @@ finding-fails devices now flies known e start story trace d found stays same fai
         room = d.room;
         boots = let b = d.boots in omega arith;
         fails = fails d.room d.point sound fallen d.again;
-        full = λ dev is. absurd (full dev is);
+        full = λ dev is. inl (full dev is);
         again = λ some. found some d.room d.point sound fallen d.again;
         stays = stays d.room d.point sound fallen d.again;
         flies = same ∙ d.flies;

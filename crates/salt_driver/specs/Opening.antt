@@ -21,7 +21,7 @@ use Rattle.salt_storage.specs.declared.halt.Halt.{Halt}
 use Rattle.salt_storage.specs.OpenErr.TheVariants as opening
 use Rattle.salt_storage.specs.OpenErr.TheVariants.{NotSalt, NumbersSpent, OtherShape}
 use Rattle.salt_storage.specs.OpenErr.{OpenErr}
-use Rattle.std.specs.Prelude.{Bool, IsSome, List, None, Option, Some, false, suc, true, zero, ℕ, [], ⊤, ◌++◌, ◌+◌, ◌-◌, ◌<◌, ◌∷◌, ◌≡◌, ◌≤◌, ◌⊎◌}
+use Rattle.std.specs.Prelude.{Bool, IsSome, IsTrue, List, None, Option, Some, false, suc, true, zero, ℕ, [], ⊤, ◌++◌, ◌+◌, ◌-◌, ◌<◌, ◌∷◌, ◌≡◌, ◌≤◌, ◌⊎◌}
 
 -- the point of a run that has begun, but was not opened
 abbrev pub unopened_point : Start → Point
@@ -84,12 +84,12 @@ pub record IsUnopened (k : Kept) (stoppable can_early over : Bool) (p : Point) :
   pub early : p.state.units.early ≡ can_early
   pub over_net : p.state.over_net ≡ over
 
--- What an opening has found at first: this is held, and may be kept; its numbers are not spent.
-pub record FindsFirst (finds holds : Kept → Type 0) (x : Found) : Type 0 where
+-- What an opening has found at first may be kept, and where the disks tell it is held; its numbers are not spent.
+pub record FindsFirst (told : Bool) (finds holds : Kept → Type 0) (x : Found) : Type 0 where
   pub kept : Kept
   pub is : IsFound x kept
   pub found : finds kept
-  pub holding : holds kept
+  pub holding : IsTrue told → holds kept
   pub sound : IsSoundKept kept
   pub unspent : are_spent x.boot x.decisions ≡ false
 

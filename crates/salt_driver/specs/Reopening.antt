@@ -15,7 +15,7 @@ use Rattle.salt_driver.specs.Opening.{MayFailAt}
 use Rattle.salt_driver.specs.Serving.{GainsEvents, IsDown, IsFitting, ServesTrace}
 use Rattle.salt_driver.specs.Standing.{HaltsAt}
 use Rattle.salt_storage.specs.Answers.{IsLater, halted_by, numbers_of}
-use Rattle.salt_storage.specs.Writing.{OfBoot}
+use Rattle.salt_storage.specs.Writing.{OfBoot, OfOpening}
 use Rattle.salt_storage.specs.declared.halt.Halt.TheVariants.{Memory}
 use Rattle.salt_storage.specs.declared.halt.Halt.{Halt}
 use Rattle.salt_storage.specs.OpenErr.{OpenErr}
@@ -31,13 +31,14 @@ pub record ReopensRun (stands_for : Option Event → State → Type 0) (start : 
   pub along : StaysInSegment trace after grows.0
 
 -- An opening was not begun: what is left of the devices stands here, where they may have one boot more; and unless memory ran out the
--- engine can be opened. It failed by spent numbers, or halted. Where a device was full, the next boot was to be written there.
+-- engine can be opened. It failed by spent numbers, or halted. Where a device was full, the next boot was to be written there, or what an
+-- opening does anew.
 pub record NotBegun (devices : OnDevices) (flight : Option Flight) (e : OpenErr) (trace : Trace) (p : Point) : Type 0 where
   pub fallen : phase trace ≡ Fallen
   pub room : ℕ
   pub boots : room ≤ downs trace + (if has_opened trace then 0 else 1)
   pub fails : MayFailAt room p e
-  pub full : (dev : ℕ) → e ≡ opening.Full dev → devices.fills_device OfBoot dev
+  pub full : (dev : ℕ) → e ≡ opening.Full dev → devices.fills_device OfOpening dev ⊎ devices.fills_device OfBoot dev
   pub again : (e ≡ opening.Memory → ⊥) → devices.can_reopen_at room p
   pub stays : devices.stands_for_kept (numbers_of e) room p
   pub flies : flight ≡ flight_told p.flight

@@ -1,6 +1,6 @@
 -- An engine stands at a point of a run, with what comes next at hand, and goes on from it by moves that its story tells.
 use Rattle.salt_ast.specs.declared.lines.Line.{Line}
-use Rattle.law_states.specs.Laws.{IsSound}
+use Rattle.law_states.specs.Laws.{IsSound, is_of_run}
 use Rattle.law_states.specs.Points.{Ask, IsIdle, KeepsPoint, TraceStep, Moves, Point, Runs, Say, told_by}
 use Rattle.law_states.specs.Settling.{stage}
 use Rattle.law_states.specs.States.{State}
@@ -20,7 +20,7 @@ use Rattle.salt_storage.specs.declared.halt.Halt.{Halt}
 use Rattle.law_types.specs.Played.{HasKey}
 use Rattle.law_types.specs.Typed.{IsTyped}
 use Rattle.salt_values.specs.declared.id.Id.{Id}
-use Rattle.std.specs.Prelude.{List, None, Option, Some, [], length, true, ℕ, ⊤, ◌*◌, ◌++◌, ◌+◌, ◌∷◌, ◌≡◌, ◌⊎◌}
+use Rattle.std.specs.Prelude.{List, None, Option, Some, [], false, length, true, ℕ, ⊤, ◌*◌, ◌++◌, ◌+◌, ◌∷◌, ◌≡◌, ◌⊎◌}
 
 -- It is the point of a trace that is played, from a start that fits its definitions and names what it continues, and over lines whose
 -- tables have keys, so all that laws give of such traces holds of it.
@@ -38,6 +38,15 @@ pub record IsAt (stands_for : Option Event → State → Type 0) (served : Line)
   pub comes : p.next ≡ next
   pub serves : p.state.units.phase ≡ Serving
   pub line : p.state.units.line ≡ served
+
+-- of a segment, or of an opening behind its Opened: neither a fall nor an opening is at hand
+abbrev pub IsOfSegment : Option Event → Type 0
+IsOfSegment None = ⊤
+IsOfSegment (Some e) = is_of_run e ≡ false
+
+-- where the telling of an event was broken off, it was not told for want of memory, or it was
+abbrev pub WasTold : Halt → Event → (story told : List Event) → Type 0
+WasTold halt e story told = ((told ≡ story) × (halt ≡ Memory)) ⊎ (told ≡ story ++ e ∷ [])
 
 -- nothing is missing of the last line's segment
 pub record IsIdleAt (stands_for : Option Event → State → Type 0) (p : Point) : Type 0 where

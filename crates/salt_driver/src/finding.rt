@@ -1,6 +1,7 @@
 //! What a storage stands on is found at first, through the stops that come meanwhile.
 
 ghost use Rattle.salt_disk.specs.Disks.{KeepsAll, stops_left};
+ghost use Rattle.salt_disk.specs.declared.disks.DiskErr.{DiskErr};
 ghost use Rattle.salt_model.specs.Kept.{Kept};
 ghost use Rattle.salt_driver.specs.Counting.{CountsOpening};
 ghost use Rattle.salt_driver.specs.Opening.{FailsToFind, FallsUnfound, FindsFirst, IsUnfound};
@@ -32,7 +33,7 @@ fn try_find<S: Storage, D: Disks, F: Fn(PlaceKind, &Key, u32) -> u32>(
     requires answers { GivesPlaceOf (F.post place.now.place) }
     requires unopened { S.unopened storage.old }
     requires settled { S.settled (D.view disks.old) storage.old }
-    ensures found { (x : Found) → result ≡ Ok (Some x) → FindsFirst (S.finds (D.view disks.old) storage.old) (S.holds (D.view disks.new) storage.new) x }
+    ensures found { (x : Found) → result ≡ Ok (Some x) → FindsFirst (D.view disks.old).told (S.finds (D.view disks.old) storage.old) (S.holds (D.view disks.new) storage.new) x }
     ensures untold { (x : Found) → result ≡ Ok (Some x) → story.new ≡ story.old }
     ensures net { (x : Found) → result ≡ Ok (Some x) → S.net storage.new ≡ net_begun (S.asked storage.new) }
     ensures unopened { result ≡ Ok None → S.unopened storage.new }
@@ -44,7 +45,7 @@ fn try_find<S: Storage, D: Disks, F: Fn(PlaceKind, &Key, u32) -> u32>(
     ensures refuses { IfErr result (λ e. S.refuses (D.view disks.old) storage.old e ⊎ (e ≡ OpenErr.Memory)) }
     ensures unrefused { OnErr result (story.new ≡ story.old) }
     ensures stays { OnErr result (S.unopened storage.new) }
-    ensures able { OnErr result (S.able (D.view disks.new) storage.new) }
+    ensures able { S.able (D.view disks.new) storage.new }
     ensures unwritten { (refusal : OpenErr) → IsRefusal refusal → S.refuses (D.view disks.old) storage.old refusal → IsTrue (D.view disks.old).told
         → WritesNothing (D.view disks.old) (D.view disks.new) (open_disk_err result) × (result ≡ Ok None → ⊥) }
     ensures rests { OnErr result ((k : Kept) → S.finds (D.view disks.old) storage.old k → S.rests (D.view disks.new) storage.new k) }
@@ -85,15 +86,17 @@ pub fn find<S: Storage, D: Disks, F: Fn(PlaceKind, &Key, u32) -> u32>(
     requires unopened { S.unopened storage.old }
     requires settled { S.settled (D.view disks.old) storage.old }
     requires empty { story.old ≡ [] }
-    ensures found { IfOk result (FindsFirst (S.finds (D.view disks.old) storage.old) (S.holds (D.view disks.new) storage.new)) }
+    ensures found { IfOk result (FindsFirst (D.view disks.old).told (S.finds (D.view disks.old) storage.old) (S.holds (D.view disks.new) storage.new)) }
     ensures net { OnOk result (S.net storage.new ≡ net_begun (S.asked storage.new)) }
     ensures unfound { IsUnfound story.new }
     ensures err { IfErr result (λ e. FailsToFind (S.refuses (D.view disks.old) storage.old) (S.finds (D.view disks.old) storage.old)
         (S.refuses (D.view disks.new) storage.new) (S.finds (D.view disks.new) storage.new) (S.fills (D.view disks.new) storage.new) e story.new) }
     ensures stays { OnErr result (S.unopened storage.new) }
-    ensures able { OnErr result (S.able (D.view disks.new) storage.new) }
+    ensures able { S.able (D.view disks.new) storage.new }
     ensures unwritten { (refusal : OpenErr) → IsRefusal refusal → S.refuses (D.view disks.old) storage.old refusal → IsTrue (D.view disks.old).told
         → KeepsAll (D.view disks.old) (D.view disks.new) (open_disk_err result) × (story.new ≡ []) }
+    ensures unfilled { (refusal : OpenErr) → IsRefusal refusal → S.refuses (D.view disks.old) storage.old refusal → IsTrue (D.view disks.old).told
+        → (dev : ℕ) → open_disk_err result ≡ Some (DiskErr.Full dev) → ⊥ }
     ensures rests { OnErr result ((k : Kept) → S.finds (D.view disks.old) storage.old k → S.rests (D.view disks.new) storage.new k) }
     ensures unstopped { result ≡ Err OpenErr.Stopped → ⊥ }
     ensures within { StaysWithin (S.asked storage.old) (S.asked storage.new) (D.view disks.old) (D.view disks.new) }

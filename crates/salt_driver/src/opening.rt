@@ -3,6 +3,7 @@
 ghost use Rattle.salt_ast.specs.declared.lines.Line.TheVariants.{Nothing};
 ghost use Rattle.salt_storage.specs.OpenErr.{OpenErr};
 ghost use Rattle.salt_disk.specs.Disks.{stops_left};
+ghost use Rattle.law_states.specs.Laws.{is_of_run};
 ghost use Rattle.law_states.specs.Points.{Point};
 ghost use Rattle.law_states.specs.Steps.{units_after};
 ghost use Rattle.salt_model.specs.Trace.{Start, Trace};
@@ -14,11 +15,11 @@ ghost use Rattle.salt_driver.specs.Opening.{halt_of};
 ghost use Rattle.salt_driver.specs.Reopening.{BreaksOpening, OpensOrFalls, ReopensRun};
 ghost use Rattle.salt_driver.specs.Serving.{HaltsRun, IsDown};
 ghost use Rattle.salt_driver.specs.Standing.{IsOpeningAt, IsSoundPoint, OpensOn};
-ghost use Rattle.salt_storage.specs.Answers.{disk_err, halted_by, open_disk_err};
+ghost use Rattle.salt_storage.specs.Answers.{IsLater, disk_err, halted_by, open_disk_err};
 ghost use Rattle.salt_storage.specs.Staying.{StaysWithin};
 ghost use Rattle.salt_storage.specs.declared.halt.Halt.TheVariants.{Stopped};
 ghost use Rattle.salt_place.specs.Placement.{GivesPlaceOf, TakesEachKey};
-ghost use Rattle.std.specs.Prelude.{Err, IfErr, IfOk, List, None, Ok, OnErr, OnOk, Some, [], drop, false, ◌++◌, ◌+◌, ◌<◌, ◌≡◌, ◌≤◌};
+ghost use Rattle.std.specs.Prelude.{Err, IfErr, IfOk, IsTrue, List, None, Ok, OnErr, OnOk, Some, [], drop, false, ◌++◌, ◌+◌, ◌<◌, ◌≡◌, ◌≤◌};
 
 use crate::openable::Openable;
 use salt_disk::Disks;
@@ -71,15 +72,18 @@ pub fn drain<E: Openable, D: Disks, F: Fn(PlaceKind, &Key, u32) -> u32, L: Ledge
 ) -> Result<u64, Halt>
     requires callable { TakesEachKey (F.pre place.now.place) }
     requires answers { GivesPlaceOf (F.post place.now.place) }
-    requires stands { (p : Point) × IsSoundPoint p × IsOpeningAt (E.stands_for (D.view disks.old) database.old) (Some first) p }
+    requires able { E.able (D.view disks.old) database.old }
+    requires stands { IsTrue (D.view disks.old).told → (p : Point) × IsSoundPoint p × IsOpeningAt (E.stands_for (D.view disks.old) database.old) (Some first) p }
     requires unarmed { stops_armed Nothing first ≡ [] }
+    requires plain { is_of_run first ≡ false }
+    ensures able { E.able (D.view disks.new) database.new }
     ensures ok { OnOk result ((p : Point) → IsSoundPoint p → IsOpeningAt (E.stands_for (D.view disks.old) database.old) (Some first) p →
         OpensOn (E.stands_for (D.view disks.new) database.new) p story.old None story.new) }
     ensures err { IfErr result (λ halt. (p : Point) → IsSoundPoint p → IsOpeningAt (E.stands_for (D.view disks.old) database.old) (Some first) p →
         BreaksWithin (E.on_devices (D.view disks.new) database.new) (E.flight database.new) halt p story.old story.new) }
     ensures units { IfOk result (λ units. (more : List Event) → story.new ≡ story.old ++ more → units ≡ units_told more) }
-    ensures ticks { OnOk result (CountsSteps first story.old story.new steps.old steps.new 0) }
-    ensures short { OnErr result (CountsOff first story.old story.new steps.old steps.new) }
+    ensures ticks { OnOk result (IsTrue (D.view disks.old).told → CountsSteps first story.old story.new steps.old steps.new 0) }
+    ensures short { OnErr result (IsTrue (D.view disks.old).told → CountsOff first story.old story.new steps.old steps.new) }
     ensures most { (p : Point) → IsSoundPoint p → IsOpeningAt (E.stands_for (D.view disks.old) database.old) (Some first) p →
         CanDrain (units_after first p.state.units).kept → steps.new ≤ steps.old + rests_behind first p.state.units }
     ensures within { StaysWithin (E.asked database.old) (E.asked database.new) (D.view disks.old) (D.view disks.new) }
@@ -89,6 +93,8 @@ pub fn drain<E: Openable, D: Disks, F: Fn(PlaceKind, &Key, u32) -> u32, L: Ledge
     let mut next = Some(first);
     while let Some(event) = next {
         next = database.go_on(disks, place, event, story, steps)?;
+        // For the proof alone: the story grows, so an opening ends whatever the disks tell.
+        let _length = story.len();
     }
     Ok(units_told(events_behind(story, told)))
 }
@@ -104,11 +110,14 @@ fn finish_opening<E: Openable, D: Disks, F: Fn(PlaceKind, &Key, u32) -> u32, L: 
 ) -> Result<(), Halt>
     requires callable { TakesEachKey (F.pre place.now.place) }
     requires answers { GivesPlaceOf (F.post place.now.place) }
-    requires stands { (p : Point) × IsSoundPoint p × IsOpeningAt (E.stands_for (D.view disks.old) database.old) (Some first) p }
+    requires able { E.able (D.view disks.old) database.old }
+    requires stands { IsTrue (D.view disks.old).told → (p : Point) × IsSoundPoint p × IsOpeningAt (E.stands_for (D.view disks.old) database.old) (Some first) p }
     requires unarmed { stops_armed Nothing first ≡ [] }
+    requires plain { is_of_run first ≡ false }
     requires name { blank.name ≡ L.name }
     requires parts { blank.parts ≡ L.parts }
     requires some { 0 < blank.parts }
+    ensures able { E.able (D.view disks.new) database.new }
     ensures ok { OnOk result ((p : Point) → IsSoundPoint p → IsOpeningAt (E.stands_for (D.view disks.old) database.old) (Some first) p →
         OpensOn (E.stands_for (D.view disks.new) database.new) p story.old None story.new) }
     ensures err { IfErr result (λ halt. (p : Point) → IsSoundPoint p → IsOpeningAt (E.stands_for (D.view disks.old) database.old) (Some first) p →
@@ -131,7 +140,9 @@ pub fn open_found<E: Openable, D: Disks, F: Fn(PlaceKind, &Key, u32) -> u32>(
     requires callable { TakesEachKey (F.pre place.now.place) }
     requires answers { GivesPlaceOf (F.post place.now.place) }
     requires found { E.is_found (D.view disks.old) database.old }
-    requires down { (start : Start) × (trace : Trace) × IsDown (E.on_devices (D.view disks.old) database.old) (E.flight database.old) start story.old trace }
+    requires able { E.able (D.view disks.old) database.old }
+    requires down { IsTrue (D.view disks.old).told → (start : Start) × (trace : Trace) × IsDown (E.on_devices (D.view disks.old) database.old) (E.flight database.old) start story.old trace }
+    ensures able { E.able (D.view disks.new) database.new }
     ensures ok { OnOk result ((start : Start) (trace : Trace) → IsDown (E.on_devices (D.view disks.old) database.old) (E.flight database.old) start story.old trace →
         ReopensRun (E.stands_for (D.view disks.new) database.new) start trace story.old story.new) }
     ensures err { IfErr result (λ halt. (start : Start) (trace : Trace) → IsDown (E.on_devices (D.view disks.old) database.old) (E.flight database.old) start story.old trace →
@@ -153,11 +164,14 @@ fn open_once<E: Openable, D: Disks, F: Fn(PlaceKind, &Key, u32) -> u32>(
     requires callable { TakesEachKey (F.pre place.now.place) }
     requires answers { GivesPlaceOf (F.post place.now.place) }
     requires settled { E.settled (D.view disks.old) database.old }
-    requires down { (start : Start) × (trace : Trace) × IsDown (E.on_devices (D.view disks.old) database.old) (E.flight database.old) start story.old trace }
+    requires able { E.able (D.view disks.old) database.old }
+    requires down { IsTrue (D.view disks.old).told → (start : Start) × (trace : Trace) × IsDown (E.on_devices (D.view disks.old) database.old) (E.flight database.old) start story.old trace }
+    ensures able { E.able (D.view disks.new) database.new }
     ensures ok { OnOk result ((start : Start) (trace : Trace) → IsDown (E.on_devices (D.view disks.old) database.old) (E.flight database.old) start story.old trace →
         ReopensRun (E.stands_for (D.view disks.new) database.new) start trace story.old story.new) }
     ensures err { IfErr result (λ e. (start : Start) (trace : Trace) → IsDown (E.on_devices (D.view disks.old) database.old) (E.flight database.old) start story.old trace →
         BreaksOpening (E.on_devices (D.view disks.new) database.new) (E.flight database.new) e start trace story.old story.new) }
+    ensures late { IfErr result IsLater }
     ensures within { StaysWithin (E.asked database.old) (E.asked database.new) (D.view disks.old) (D.view disks.new) }
     ensures counts { CountsOpening (D.view disks.old) (D.view disks.new) (open_disk_err result) story.old story.new }
 {
@@ -176,7 +190,9 @@ fn try_open<E: Openable, D: Disks, F: Fn(PlaceKind, &Key, u32) -> u32>(
     requires callable { TakesEachKey (F.pre place.now.place) }
     requires answers { GivesPlaceOf (F.post place.now.place) }
     requires settled { E.settled (D.view disks.old) database.old }
-    requires down { (start : Start) × (trace : Trace) × IsDown (E.on_devices (D.view disks.old) database.old) (E.flight database.old) start story.old trace }
+    requires able { E.able (D.view disks.old) database.old }
+    requires down { IsTrue (D.view disks.old).told → (start : Start) × (trace : Trace) × IsDown (E.on_devices (D.view disks.old) database.old) (E.flight database.old) start story.old trace }
+    ensures able { E.able (D.view disks.new) database.new }
     ensures ok { IfOk result (λ opened. (start : Start) (trace : Trace) → IsDown (E.on_devices (D.view disks.old) database.old) (E.flight database.old) start story.old trace →
         OpensOrFalls opened (E.stands_for (D.view disks.new) database.new) (E.on_devices (D.view disks.new) database.new) (E.flight database.new) start trace story.old story.new) }
     ensures settled { result ≡ Ok false → E.settled (D.view disks.new) database.new }
@@ -184,6 +200,7 @@ fn try_open<E: Openable, D: Disks, F: Fn(PlaceKind, &Key, u32) -> u32>(
     ensures err { IfErr result (λ e. (start : Start) (trace : Trace) → IsDown (E.on_devices (D.view disks.old) database.old) (E.flight database.old) start story.old trace →
         BreaksOpening (E.on_devices (D.view disks.new) database.new) (E.flight database.new) e start trace story.old story.new) }
     ensures unstopped { result ≡ Err OpenErr.Stopped → ⊥ }
+    ensures late { IfErr result IsLater }
     ensures within { StaysWithin (E.asked database.old) (E.asked database.new) (D.view disks.old) (D.view disks.new) }
     ensures counts { CountsOpening (D.view disks.old) (D.view disks.new) (open_disk_err result) story.old story.new }
 {
@@ -209,12 +226,15 @@ pub fn open<E: Openable, D: Disks, F: Fn(PlaceKind, &Key, u32) -> u32>(
     requires callable { TakesEachKey (F.pre place.now.place) }
     requires answers { GivesPlaceOf (F.post place.now.place) }
     requires settled { E.settled (D.view disks.old) database.old }
-    requires down { (start : Start) × (trace : Trace) × IsDown (E.on_devices (D.view disks.old) database.old) (E.flight database.old) start story.old trace }
+    requires able { E.able (D.view disks.old) database.old }
+    requires down { IsTrue (D.view disks.old).told → (start : Start) × (trace : Trace) × IsDown (E.on_devices (D.view disks.old) database.old) (E.flight database.old) start story.old trace }
+    ensures able { E.able (D.view disks.new) database.new }
     ensures ok { OnOk result ((start : Start) (trace : Trace) → IsDown (E.on_devices (D.view disks.old) database.old) (E.flight database.old) start story.old trace →
         ReopensRun (E.stands_for (D.view disks.new) database.new) start trace story.old story.new) }
     ensures err { IfErr result (λ e. (start : Start) (trace : Trace) → IsDown (E.on_devices (D.view disks.old) database.old) (E.flight database.old) start story.old trace →
         BreaksOpening (E.on_devices (D.view disks.new) database.new) (E.flight database.new) e start trace story.old story.new) }
     ensures unstopped { result ≡ Err OpenErr.Stopped → ⊥ }
+    ensures late { IfErr result IsLater }
     ensures within { StaysWithin (E.asked database.old) (E.asked database.new) (D.view disks.old) (D.view disks.new) }
     ensures counts { CountsOpening (D.view disks.old) (D.view disks.new) (open_disk_err result) story.old story.new }
 {
@@ -233,12 +253,15 @@ pub fn recover<E: Openable, D: Disks, F: Fn(PlaceKind, &Key, u32) -> u32>(
 ) -> Result<(), OpenErr>
     requires callable { TakesEachKey (F.pre place.now.place) }
     requires answers { GivesPlaceOf (F.post place.now.place) }
-    requires halted { (start : Start) × (trace : Trace) × HaltsRun (E.on_devices (D.view disks.old) database.old) (E.flight database.old) (halt_of why) start story.old trace }
+    requires able { E.able (D.view disks.old) database.old }
+    requires halted { IsTrue (D.view disks.old).told → (start : Start) × (trace : Trace) × HaltsRun (E.on_devices (D.view disks.old) database.old) (E.flight database.old) (halt_of why) start story.old trace }
+    ensures able { E.able (D.view disks.new) database.new }
     ensures ok { OnOk result ((start : Start) (trace : Trace) → HaltsRun (E.on_devices (D.view disks.old) database.old) (E.flight database.old) (halt_of why) start story.old trace →
         ReopensRun (E.stands_for (D.view disks.new) database.new) start trace story.old story.new) }
     ensures err { IfErr result (λ e. (start : Start) (trace : Trace) → HaltsRun (E.on_devices (D.view disks.old) database.old) (E.flight database.old) (halt_of why) start story.old trace →
         BreaksOpening (E.on_devices (D.view disks.new) database.new) (E.flight database.new) e start trace story.old story.new) }
     ensures unstopped { result ≡ Err OpenErr.Stopped → ⊥ }
+    ensures late { IfErr result IsLater }
     ensures within { StaysWithin (E.asked database.old) (E.asked database.new) (D.view disks.old) (D.view disks.new) }
     ensures counts { CountsFall why (D.view disks.old) (D.view disks.new) (open_disk_err result) story.old story.new }
 {

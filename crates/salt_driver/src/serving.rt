@@ -1,18 +1,19 @@
 //! A line is asked, its events are told until none comes next, and so is each turn behind it.
 
 ghost use Rattle.salt_ast.specs.declared.lines.Line.TheVariants.{Nothing};
+ghost use Rattle.salt_disk.specs.Disks.{HasCause};
 ghost use Rattle.law_states.specs.Points.{Point};
 ghost use Rattle.salt_model.specs.Trace.{Rejected, Start, Trace, Tree};
 ghost use Rattle.salt_model.specs.declared.events.Event.TheVariants.{Refused};
 ghost use Rattle.salt_model.specs.declared.events.Refusal.{Refusal};
 ghost use Rattle.salt_driver.specs.Counting.{CountsMore};
 ghost use Rattle.salt_driver.specs.Serving.{BreaksOff, GoesOn, ServesTrace};
-ghost use Rattle.salt_driver.specs.Standing.{AdvancesInLine, FinishesLine, IsAt, IsSoundPoint, StopsWithin};
+ghost use Rattle.salt_driver.specs.Standing.{AdvancesInLine, FinishesLine, IsAt, IsOfSegment, IsSoundPoint, StopsWithin};
 ghost use Rattle.salt_storage.specs.Answers.{disk_err};
 ghost use Rattle.salt_storage.specs.Staying.{StaysWithin};
 ghost use Rattle.law_types.specs.Played.{HasKey};
 ghost use Rattle.salt_place.specs.Placement.{GivesPlaceOf, TakesEachKey};
-ghost use Rattle.std.specs.Prelude.{IfErr, None, OnOk, Some, [], ◌++◌, ◌∷◌, ◌≡◌, ◌≤◌};
+ghost use Rattle.std.specs.Prelude.{IfErr, IfOk, IsTrue, None, OnErr, OnOk, Some, [], false, ◌++◌, ◌<◌, ◌∷◌, ◌≡◌, ◌≤◌};
 
 use crate::engine::Stepping;
 use salt_ast::Line;
@@ -33,21 +34,45 @@ fn settle<E: Stepping, D: Disks, F: Fn(PlaceKind, &Key, u32) -> u32>(
 ) -> Result<(), Halt>
     requires callable { TakesEachKey (F.pre place.now.place) }
     requires answers { GivesPlaceOf (F.post place.now.place) }
-    requires stands { (p : Point) × IsSoundPoint p × IsAt (E.stands_for (D.view disks.old) engine.old) line.now first p }
+    requires able { E.able (D.view disks.old) engine.old }
+    requires stands { IsTrue (D.view disks.old).told → (p : Point) × IsSoundPoint p × IsAt (E.stands_for (D.view disks.old) engine.old) line.now first p }
+    requires plain { IsOfSegment first }
+    ensures able { E.able (D.view disks.new) engine.new }
     ensures ok { OnOk result ((p : Point) → IsSoundPoint p → IsAt (E.stands_for (D.view disks.old) engine.old) line.now first p →
         AdvancesInLine (E.stands_for (D.view disks.new) engine.new) line.now p story.old None story.new) }
     ensures err { IfErr result (λ halt. (p : Point) → IsSoundPoint p → IsAt (E.stands_for (D.view disks.old) engine.old) line.now first p →
         StopsWithin (E.on_devices (D.view disks.new) engine.new) (E.flight engine.new) halt p story.old story.new) }
-    ensures turns { OnOk result (E.turns engine.new ≤ E.turns engine.old) }
-    ensures refused { (refusal : Refusal) → first ≡ Some (Refused refusal) → disks.new ≡ disks.old }
+    ensures turns { OnOk result (IsTrue (D.view disks.old).told → E.turns engine.new ≤ E.turns engine.old) }
+    ensures refused { (refusal : Refusal) → first ≡ Some (Refused refusal) → IsTrue (D.view disks.old).told → disks.new ≡ disks.old }
     ensures within { StaysWithin (E.asked engine.old) (E.asked engine.new) (D.view disks.old) (D.view disks.new) }
     ensures counts { CountsMore line.now (D.view disks.old) (D.view disks.new) (disk_err result) first story.old story.new }
 {
     let mut next = first;
     while let Some(event) = next {
         next = engine.say(disks, place, line, event, story)?;
+        // For the proof alone: the story grows, so a segment ends whatever the disks tell.
+        let _length = story.len();
     }
     Ok(())
+}
+
+/// Counts a turn behind a line over disks that do not tell, where nothing else says that turns end.
+fn count_turn<E: Stepping, D: Disks>(engine: &E, disks: &mut D, turns: u64) -> Result<u64, Halt>
+    requires { E.able (D.view disks.old) engine.now }
+    ensures more { IfOk result (λ now. (D.view disks.old).told ≡ false → turns < now) }
+    ensures same { OnOk result (disks.new ≡ disks.old) }
+    ensures untold { OnErr result ((D.view disks.old).told ≡ false) }
+    ensures able { E.able (D.view disks.new) engine.now }
+    ensures within { StaysWithin (E.asked engine.now) (E.asked engine.now) (D.view disks.old) (D.view disks.new) }
+    ensures cause { HasCause (D.view disks.old) (D.view disks.new) (disk_err result) }
+{
+    if disks.is_told() {
+        return Ok(turns);
+    }
+    match turns.checked_add(1) {
+        Some(turns) => Ok(turns),
+        None => Err(engine.reject(disks)),
+    }
 }
 
 /// Does the rest of a line from its first event on: its own events, and each turn behind it.
@@ -61,18 +86,24 @@ fn finish<E: Stepping, D: Disks, F: Fn(PlaceKind, &Key, u32) -> u32>(
 ) -> Result<(), Halt>
     requires callable { TakesEachKey (F.pre place.now.place) }
     requires answers { GivesPlaceOf (F.post place.now.place) }
-    requires stands { (p : Point) × IsSoundPoint p × IsAt (E.stands_for (D.view disks.old) engine.old) line.now first p }
+    requires able { E.able (D.view disks.old) engine.old }
+    requires stands { IsTrue (D.view disks.old).told → (p : Point) × IsSoundPoint p × IsAt (E.stands_for (D.view disks.old) engine.old) line.now first p }
+    requires plain { IsOfSegment first }
+    ensures able { E.able (D.view disks.new) engine.new }
     ensures ok { OnOk result ((p : Point) → IsSoundPoint p → IsAt (E.stands_for (D.view disks.old) engine.old) line.now first p →
         FinishesLine (E.stands_for (D.view disks.new) engine.new) line.now p story.old story.new) }
     ensures err { IfErr result (λ halt. (p : Point) → IsSoundPoint p → IsAt (E.stands_for (D.view disks.old) engine.old) line.now first p →
         StopsWithin (E.on_devices (D.view disks.new) engine.new) (E.flight engine.new) halt p story.old story.new) }
     ensures refused { (refusal : Refusal) (p : Point) → IsSoundPoint p → IsAt (E.stands_for (D.view disks.old) engine.old) line.now first p →
-        p.state.units.to_go ≡ [] → first ≡ Some (Refused refusal) → disks.new ≡ disks.old }
+        p.state.units.to_go ≡ [] → first ≡ Some (Refused refusal) → IsTrue (D.view disks.old).told → disks.new ≡ disks.old }
     ensures within { StaysWithin (E.asked engine.old) (E.asked engine.new) (D.view disks.old) (D.view disks.new) }
     ensures counts { CountsMore line.now (D.view disks.old) (D.view disks.new) (disk_err result) first story.old story.new }
 {
     settle(engine, disks, place, line, story, first)?;
+    let mut turns = 0;
     while let Some(base) = engine.next_turn(disks) {
+        engine.stands(disks);
+        turns = count_turn(engine, disks, turns)?;
         let next = engine.turn(disks, place, line, base)?;
         settle(engine, disks, place, line, story, next)?;
     }
@@ -92,10 +123,12 @@ pub fn step<E: Stepping, D: Disks, F: Fn(PlaceKind, &Key, u32) -> u32>(
     requires answers { GivesPlaceOf (F.post place.now.place) }
     requires served { E.serves line.now }
     requires key { HasKey (Tree line.now) }
-    requires stands { (start : Start) × (trace : Trace) × ServesTrace (E.stands_for (D.view disks.old) engine.old) start story.old trace }
+    requires able { E.able (D.view disks.old) engine.old }
+    requires stands { IsTrue (D.view disks.old).told → (start : Start) × (trace : Trace) × ServesTrace (E.stands_for (D.view disks.old) engine.old) start story.old trace }
+    ensures able { E.able (D.view disks.new) engine.new }
     ensures segment { OnOk result (GoesOn (E.stands_for (D.view disks.old) engine.old) (E.stands_for (D.view disks.new) engine.new) story.old (Tree line.now) story.new) }
     ensures broken_off { IfErr result (λ halt. BreaksOff (E.stands_for (D.view disks.old) engine.old) (E.on_devices (D.view disks.new) engine.new) (E.flight engine.new) halt story.old (Tree line.now) story.new) }
-    ensures refused { (refusal : Refusal) → story.new ≡ story.old ++ Refused refusal ∷ [] → disks.new ≡ disks.old }
+    ensures refused { (refusal : Refusal) → story.new ≡ story.old ++ Refused refusal ∷ [] → IsTrue (D.view disks.old).told → disks.new ≡ disks.old }
     ensures within { StaysWithin (E.asked engine.old) (E.asked engine.new) (D.view disks.old) (D.view disks.new) }
     ensures counts { CountsMore line.now (D.view disks.old) (D.view disks.new) (disk_err result) None story.old story.new }
 {
@@ -113,10 +146,12 @@ pub fn refuse<E: Stepping, D: Disks, F: Fn(PlaceKind, &Key, u32) -> u32>(
 ) -> Result<(), Halt>
     requires callable { TakesEachKey (F.pre place.now.place) }
     requires answers { GivesPlaceOf (F.post place.now.place) }
-    requires stands { (start : Start) × (trace : Trace) × ServesTrace (E.stands_for (D.view disks.old) engine.old) start story.old trace }
+    requires able { E.able (D.view disks.old) engine.old }
+    requires stands { IsTrue (D.view disks.old).told → (start : Start) × (trace : Trace) × ServesTrace (E.stands_for (D.view disks.old) engine.old) start story.old trace }
+    ensures able { E.able (D.view disks.new) engine.new }
     ensures segment { OnOk result (GoesOn (E.stands_for (D.view disks.old) engine.old) (E.stands_for (D.view disks.new) engine.new) story.old (Rejected refusal) story.new) }
     ensures broken_off { IfErr result (λ halt. BreaksOff (E.stands_for (D.view disks.old) engine.old) (E.on_devices (D.view disks.new) engine.new) (E.flight engine.new) halt story.old (Rejected refusal) story.new) }
-    ensures unwritten { disks.new ≡ disks.old }
+    ensures unwritten { IsTrue (D.view disks.old).told → disks.new ≡ disks.old }
     ensures within { StaysWithin (E.asked engine.old) (E.asked engine.new) (D.view disks.old) (D.view disks.new) }
     ensures counts { CountsMore Nothing (D.view disks.old) (D.view disks.new) (disk_err result) None story.old story.new }
 {

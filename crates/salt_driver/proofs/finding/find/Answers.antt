@@ -4,7 +4,7 @@ use Rattle.salt_driver.proofs.Counted.{opening-join, opening-none}
 use Rattle.salt_driver.proofs.AtFirst.{at-first, fails-to-find, falls-unfound, first-before, later-by, no-more-behind, none-told, same-found}
 use Rattle.salt_driver.proofs.finding.find.Goals as goal
 use Rattle.salt_driver.specs.Counting.{CountsOpening}
-use Rattle.salt_driver.specs.Opening.{IsUnfound}
+use Rattle.salt_driver.specs.Opening.{FindsFirst, IsUnfound}
 use Rattle.salt_storage.proofs.Staying.{stays-behind, stays-same}
 use Rattle.std.proofs.Common.{ap, inl, inr, subst, sym, ◌∙◌}
 use Rattle.std.proofs.lemmas.Result.{err_from_is_err_and}
@@ -49,9 +49,10 @@ pub returns-in-Some-clause-found : goal.returns-in-Some-clause-found
 returns-in-Some-clause-found g c =
     let view = g.D.Disks.view in
     let known = c.stops.invariant in
-    first-before (g.S.Storage.finds (view c.args.disks.now) c.args.storage.now) (g.S.Storage.finds (view c.stops.disks) c.stops.storage) (g.S.Storage.holds (view c.try_find.new.disks) c.try_find.new.storage)
+    first-before _ (g.S.Storage.finds (view c.args.disks.now) c.args.storage.now) (g.S.Storage.finds (view c.stops.disks) c.stops.storage) (g.S.Storage.holds (view c.try_find.new.disks) c.try_find.new.storage)
     (g.S.Storage.refuses (view c.args.disks.now) c.args.storage.now) (g.S.Storage.refuses (view c.stops.disks) c.stops.storage) c.in-Some.found known.less
-    (c.in_ok-found.ensures.found c.in-Some.found (ap Ok c.in-Some.is))
+    (subst (λ b. FindsFirst b (g.S.Storage.finds (view c.stops.disks) c.stops.storage) (g.S.Storage.holds (view c.try_find.new.disks) c.try_find.new.storage) c.in-Some.found) known.within.shape.told
+    (c.in_ok-found.ensures.found c.in-Some.found (ap Ok c.in-Some.is)))
 
 pub returns-in-Some-clause-unfound : goal.returns-in-Some-clause-unfound
 returns-in-Some-clause-unfound g c = subst IsUnfound (sym (c.in_ok-found.ensures.untold c.in-Some.found (ap Ok c.in-Some.is))) c.stops.invariant.unfound
@@ -98,3 +99,9 @@ returns-in_err-found-clause-counts g c =
 
 pub returns-in_err-found-clause-within : goal.returns-in_err-found-clause-within
 returns-in_err-found-clause-within g c = stays-behind c.stops.invariant.within c.in_err-found.ensures.within
+
+pub returns-in-Some-clause-able : goal.returns-in-Some-clause-able
+returns-in-Some-clause-able g c = c.try_find.ensures.able
+
+pub returns-in_err-found-clause-able : goal.returns-in_err-found-clause-able
+returns-in_err-found-clause-able g c = c.try_find.ensures.able

@@ -13,9 +13,10 @@ use Rattle.std.specs.Prelude.{None}
 pub returns-in-Ok-clause-found : goal.returns-in-Ok-clause-found
 returns-in-Ok-clause-found g c = λ x is.
     let view = g.D.Disks.view in
+    let told = (view c.args.disks.now).told in
     let finds = g.S.Storage.finds (view c.args.disks.now) c.args.storage.now in
     let holds = g.S.Storage.holds (view c.open.new.disks) c.open.new.self in
-    subst (FindsFirst finds holds) (same-some c.in-Ok.found x is) (finds-by finds holds c.in-Ok.found c.in-Ok.ensures.holds c.stands.ensures.sound c.in-Ok.ensures.numbers)
+    subst (FindsFirst told finds holds) (same-some c.in-Ok.found x is) (finds-by told finds holds c.in-Ok.found c.in-Ok.ensures.found c.in-Ok.ensures.numbers)
 
 pub returns-in-Ok-clause-counts : goal.returns-in-Ok-clause-counts
 returns-in-Ok-clause-counts g c =
@@ -74,3 +75,18 @@ pub returns-in_err-push-in-Err-Stopped-clause-unwritten : goal.returns-in_err-pu
 returns-in_err-push-in-Err-Stopped-clause-unwritten g c = λ refusal is refused told.
     let stop = c.in-Err-Stopped in
     absurd ((stop.ensures.unwritten refusal is refused told).unstopped (ap open_disk_err_of stop.field-0-is))
+
+pub restart-requires : goal.restart-requires
+restart-requires g c = c.open.ensures.able
+
+pub returns-in-Ok-clause-able : goal.returns-in-Ok-clause-able
+returns-in-Ok-clause-able g c = c.open.ensures.able
+
+pub returns-in_ok-push-in-Err-Stopped-clause-able : goal.returns-in_ok-push-in-Err-Stopped-clause-able
+returns-in_ok-push-in-Err-Stopped-clause-able g c = c.stands-in-Err-Stopped.ensures.able c.restart.ensures.settled
+
+pub returns-in_err-push-in-Err-Stopped-clause-able : goal.returns-in_err-push-in-Err-Stopped-clause-able
+returns-in_err-push-in-Err-Stopped-clause-able g c = c.open.ensures.able
+
+pub returns-in-Err-clause-able : goal.returns-in-Err-clause-able
+returns-in-Err-clause-able g c = c.open.ensures.able

@@ -14,6 +14,7 @@ invariant-stops g l =
     FallsAnew (g.E.Stepping.on_devices (g.D.Disks.view l.disks) l.database) (g.E.Stepping.flight l.database) start trace l.fn.story l.story)
     × CountsOpening (g.D.Disks.view l.fn.disks) (g.D.Disks.view l.disks) None l.fn.story l.story
     × StaysWithin (g.E.Stepping.asked l.fn.database) (g.E.Stepping.asked l.database) (g.D.Disks.view l.fn.disks) (g.D.Disks.view l.disks)
+    × g.E.Stepping.able (g.D.Disks.view l.disks) l.database
 
 abbrev pub decreases-stops : goal.decreases-stops
 decreases-stops g l = stops_left (g.D.Disks.view l.disks)

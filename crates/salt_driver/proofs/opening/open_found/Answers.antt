@@ -1,6 +1,7 @@
 use Rattle.salt_model.specs.declared.events.Event.TheVariants.{Opened}
 use Rattle.salt_driver.proofs.Counted.{opening-join, opening-said, opening-untold}
 use Rattle.salt_driver.proofs.Openings.{behind-opened, down-fallen, down-sound, opened-sound, opening-breaks, opening-ends, opening-fails}
+use Rattle.salt_driver.proofs.Untold.{told-then}
 use Rattle.salt_driver.proofs.opening.open_found.Goals as goal
 use Rattle.salt_storage.proofs.Staying.{stays-behind}
 use Rattle.std.proofs.Common.{ap, refl}
@@ -8,20 +9,22 @@ use Rattle.std.proofs.lemmas.Result.{IfErr-weaker, err_from_is_err_and, on_ok_we
 use Rattle.std.specs.Prelude.{Err, None}
 
 pub open-requires-clause-down : goal.open-requires-clause-down
-open-requires-clause-down g c =
+open-requires-clause-down g c = λ told.
     let view = g.D.Disks.view in
-    let d = c.requires.down.2 in
-    let start = c.requires.down.0 in
-    let trace = c.requires.down.1 in
+    let r = c.requires.down told in
+    let d = r.2 in
+    let start = r.0 in
+    let trace = r.1 in
     let devices = g.E.Stepping.on_devices (view c.args.disks.now) c.args.database.now in
     let flies = g.E.Stepping.flight c.args.database.now in
     (d.room, d.point, down-sound devices flies start c.args.story.now trace d, down-fallen devices flies start c.args.story.now trace d, d.again)
 
 pub finish_opening-requires-clause-stands : goal.finish_opening-requires-clause-stands
-finish_opening-requires-clause-stands g c =
-    let d = c.requires.down.2 in
-    let start = c.requires.down.0 in
-    let trace = c.requires.down.1 in
+finish_opening-requires-clause-stands g c = λ told.
+    let r = c.requires.down (told-then c.in_ok-first.ensures.within.shape told) in
+    let d = r.2 in
+    let start = r.0 in
+    let trace = r.1 in
     let story = c.args.story.now in
     let devices = g.E.Stepping.on_devices (g.D.Disks.view c.args.disks.now) c.args.database.now in
     let flies = g.E.Stepping.flight c.args.database.now in
@@ -57,14 +60,9 @@ pub returns-clause-counts : goal.returns-clause-counts
 returns-clause-counts g c =
     let view = g.D.Disks.view in
     let story = c.args.story.now in
-    let d = c.requires.down.2 in
-    let start = c.requires.down.0 in
-    let trace = c.requires.down.1 in
-    let devices = g.E.Stepping.on_devices (view c.args.disks.now) c.args.database.now in
-    let flies = g.E.Stepping.flight c.args.database.now in
-    let o = c.in_ok-first.ensures.opens d.room d.point (down-sound devices flies start story trace d) (down-fallen devices flies start story trace d) d.again in
+    let o = c.in_ok-first.ensures.tells in
     opening-join (view c.args.disks.now) (view c.open.new.disks) (view c.finish_opening.new.disks) _ story c.open.new.story c.finish_opening.new.story
-    (opening-said (view c.args.disks.now) (view c.open.new.disks) None story c.open.new.story (Opened o.has.boot o.has.number) c.in_ok-first.ensures.counts refl refl refl o.tells)
+    (opening-said (view c.args.disks.now) (view c.open.new.disks) None story c.open.new.story (Opened o.0 o.1) c.in_ok-first.ensures.counts refl refl refl o.2)
     c.finish_opening.ensures.counts
 
 pub returns-in_err-first-clause-err : goal.returns-in_err-first-clause-err
@@ -86,3 +84,18 @@ returns-in_err-first-clause-counts g c =
     let story = c.args.story.now in
     let p = err_from_is_err_and c.from_residual.result c.from_residual.ensures.1 in
     rw (p.1, p.2) (opening-untold (view c.args.disks.now) (view c.open.new.disks) _ story c.open.new.story c.in_err-first.ensures.counts c.in_err-first.ensures.untold)
+
+pub open-requires-clause-able : goal.open-requires-clause-able
+open-requires-clause-able g c = c.requires.able
+
+pub finish_opening-requires-clause-able : goal.finish_opening-requires-clause-able
+finish_opening-requires-clause-able g c = c.open.ensures.able
+
+pub finish_opening-requires-clause-plain : goal.finish_opening-requires-clause-plain
+finish_opening-requires-clause-plain g c = c.in_ok-first.ensures.plain
+
+pub returns-clause-able : goal.returns-clause-able
+returns-clause-able g c = c.finish_opening.ensures.able
+
+pub returns-in_err-first-clause-able : goal.returns-in_err-first-clause-able
+returns-in_err-first-clause-able g c = c.open.ensures.able

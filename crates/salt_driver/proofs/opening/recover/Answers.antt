@@ -1,5 +1,6 @@
 use Rattle.salt_driver.proofs.Counted.{fall-counts, fall-short}
-use Rattle.salt_driver.proofs.Falling.{breaks-behind, falls-served, halted-short, no-short-fall, reopens-behind}
+use Rattle.salt_driver.proofs.Falling.{breaks-behind, falls-served, halted-short, reopens-behind}
+use Rattle.salt_driver.proofs.Untold.{told-then}
 use Rattle.salt_driver.proofs.opening.recover.Goals as goal
 use Rattle.salt_driver.specs.Counting.{CountsFall}
 use Rattle.salt_model.specs.declared.events.Event.{Event}
@@ -22,12 +23,12 @@ returns-in_err-push-clause-counts g c =
     rw (p.1, p.2) (subst (λ (told : List Event). CountsFall c.args.why v v _ c.args.story.now told) (sym c.in_err-push.ensures.err) (fall-short c.args.why v c.args.story.now))
 
 pub fall-requires : goal.fall-requires
-fall-requires g c = let h = c.requires.halted.2 in (0, (h.point, h.halts.again (no-short-fall c.args.why)))
+fall-requires g c = c.requires.able
 
 pub open-requires-clause-down : goal.open-requires-clause-down
-open-requires-clause-down g c =
+open-requires-clause-down g c = λ told.
     let view = g.D.Disks.view in
-    let h = c.requires.halted in
+    let h = c.requires.halted (told-then c.fall.ensures.within.shape told) in
     let f =
     falls-served (g.E.Stepping.on_devices (view c.args.disks.now) c.args.database.now) (g.E.Stepping.flight c.args.database.now) c.args.why h.0 h.1 c.args.story.now h.2
     (g.E.Stepping.on_devices (view c.fall.new.disks) c.fall.new.self) (g.E.Stepping.flight c.fall.new.self) c.push.new.self (c.fall.ensures.reopens 0) c.fall.ensures.flies c.in_ok-push.ensures.ok in
@@ -65,3 +66,18 @@ returns-clause-within g c = stays-behind c.fall.ensures.within c.open.ensures.wi
 
 pub returns-in_err-push-clause-within : goal.returns-in_err-push-clause-within
 returns-in_err-push-clause-within g c = stays-same (g.E.Stepping.asked c.args.database.now) (g.D.Disks.view c.args.disks.now)
+
+pub open-requires-clause-able : goal.open-requires-clause-able
+open-requires-clause-able g c = c.fall.ensures.able
+
+pub returns-clause-able : goal.returns-clause-able
+returns-clause-able g c = c.open.ensures.able
+
+pub returns-in_err-push-clause-able : goal.returns-in_err-push-clause-able
+returns-in_err-push-clause-able g c = c.requires.able
+
+pub returns-clause-late : goal.returns-clause-late
+returns-clause-late g c = c.open.ensures.late
+
+pub returns-in_err-push-clause-late : goal.returns-in_err-push-clause-late
+returns-in_err-push-clause-late g c = let p = err_from_is_err_and c.from_residual.result c.from_residual.ensures.1 in rw (p.1, p.2) tt

@@ -1,21 +1,16 @@
 use Rattle.salt_driver.proofs.Counted.{fewer-stops, opening-fallen, short-counts}
-use Rattle.salt_driver.proofs.Falling.{breaks-short, falls-anew, reopens-somewhere}
+use Rattle.salt_driver.proofs.Falling.{breaks-short, falls-anew}
 use Rattle.salt_driver.proofs.opening.try_open.Goals as goal
 use Rattle.salt_driver.specs.Counting.{CountsOpening}
 use Rattle.salt_driver.specs.Reopening.{BreaksOpening}
 use Rattle.salt_storage.proofs.Staying.{stays-behind}
-use Rattle.salt_storage.specs.Answers.{open_disk_err_of}
+use Rattle.salt_storage.specs.Answers.{IsLater, open_disk_err_of}
 use Rattle.salt_storage.specs.OpenErr.{OpenErr}
 use Rattle.std.proofs.Common.{ap, rules, subst}
 use Rattle.std.proofs.lemmas.Result.{err_from_is_err_and}
 
 pub fall-requires : goal.fall-requires
-fall-requires g c =
-    let down = c.requires.down in
-    let view = g.D.Disks.view c.open_once.new.disks in
-    let e = c.open_once.new.database in
-    reopens-somewhere (g.E.Stepping.on_devices view e) (g.E.Stepping.flight e) c.in-Err-Stopped.field-0 down.0 down.1 c.args.story.now c.open_once.new.story
-    c.in-Err-Stopped.field-0-is (c.in-Err-Stopped.ensures.err down.0 down.1 down.2)
+fall-requires g c = c.open_once.ensures.able
 
 pub returns-in_err-push-in-Err-Stopped-clause-err : goal.returns-in_err-push-in-Err-Stopped-clause-err
 returns-in_err-push-in-Err-Stopped-clause-err g c =
@@ -67,3 +62,9 @@ returns-in-Err-clause-err g c = λ start trace d.
     let e = c.open_once.new.database in
     subst (λ (x : OpenErr). BreaksOpening (g.E.Stepping.on_devices view e) (g.E.Stepping.flight e) x start trace c.args.story.now c.open_once.new.story)
     (search rules) (c.in-Err.ensures.err start trace d)
+
+pub returns-in_err-push-in-Err-Stopped-clause-late : goal.returns-in_err-push-in-Err-Stopped-clause-late
+returns-in_err-push-in-Err-Stopped-clause-late g c = let p = err_from_is_err_and c.from_residual.result c.from_residual.ensures.1 in rw (p.1, p.2) tt
+
+pub returns-in-Err-clause-late : goal.returns-in-Err-clause-late
+returns-in-Err-clause-late g c = subst IsLater (search rules) c.in-Err.ensures.late
