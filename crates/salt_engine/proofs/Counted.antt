@@ -1,15 +1,16 @@
 -- Stops and faults, as a call of the storage counts them.
 use Rattle.salt_ast.specs.declared.lines.Line.{Line}
-use Rattle.salt_disk.proofs.Coming.{none_come}
-use Rattle.salt_disk.specs.Disks.{HasCause, View}
+use Rattle.salt_disk.proofs.Coming.{come_on, none_come}
+use Rattle.salt_disk.specs.Disks.{HasCause, View, stops_in}
 use Rattle.salt_disk.specs.declared.disks.DiskErr.TheVariants.{Memory}
+use Rattle.salt_disk.specs.declared.disks.DiskErr.{DiskErr}
 use Rattle.salt_model.specs.declared.events.Event.{Event}
-use Rattle.salt_driver.proofs.Counted.{counts-cause}
+use Rattle.salt_driver.proofs.Counted.{come-same, counts-cause, rose-on}
 use Rattle.salt_driver.specs.Counting.{CountsStops, armed_told}
 use Rattle.salt_storage.specs.Answers.{disk_err, disk_err_of}
 use Rattle.salt_storage.specs.declared.halt.Halt.{Halt}
 use Rattle.std.proofs.Common.{arith, subst, sym}
-use Rattle.std.specs.Prelude.{Err, List, None, Ok, Option, Result, Some, [], refl, ℕ, ◌++◌, ◌≡◌}
+use Rattle.std.specs.Prelude.{Err, List, None, Ok, Option, Result, Some, [], refl, ℕ, ◌+◌, ◌++◌, ◌≡◌}
 use Rattle.std.specs.Result.{IsErrAnd}
 
 -- a call that was not made
@@ -37,6 +38,14 @@ pub cause-broken : {T : Type 0} (old new : View) (result : Result T Halt) (halt 
     HasCause old new (disk_err result)
 cause-broken old new (Ok e) halt never h = absurd never
 cause-broken old new (Err told) halt is h = subst (λ (t : Halt). HasCause old new (Some (disk_err_of t))) (sym is) h
+
+-- one call behind another
+pub cause-on : (a b c : View) (answer : Option DiskErr) → HasCause a b None → HasCause b c answer → HasCause a c answer
+cause-on a b c answer g h = record {
+  later = let x = g.later in let y = h.later in omega arith;
+  failed = λ is. rose-on a.faults b.faults c.faults g.later (h.failed is);
+  stops = come-same (0 + stops_in answer) (stops_in answer) a.armed a.armed c.armed (omega arith) refl (come_on 0 (stops_in answer) a.armed b.armed c.armed g.stops h.stops);
+}
 
 pub counts-armed : (old new : View) (armed : List (ℕ × ℕ)) → new.faults ≡ old.faults → new.armed ≡ old.armed ++ armed → CountsStops old new None armed 0
 counts-armed old new armed faults stops = record {

@@ -27,3 +27,5 @@ pub mod Resumed
 pub mod TakenUp
 pub mod Stages
 pub mod Unprepared
+pub mod Untold
+pub mod Doing

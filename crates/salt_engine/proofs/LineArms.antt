@@ -49,9 +49,6 @@ module _ (holds : Kept → Type 0) (is_new : Id → Type 0) (stoppable : Bool) (
         let allowed : refused_in s.units (under_way_of s) (Crash pairs) ≡ None = subst (λ (l : Line). refusal_in s.units (under_way_of s) (Tree l) ≡ None) is h.allowed.allowed in
         subst (λ b. IsTrue b) h.can_stop (unless-not s.can_stop (allowed-right s.units (under_way_of s) (Crash pairs) allowed))
 
-    pub arms-picks : Every (λ (p : ℕ × ℕ). p.1 ≤ 4) pairs
-    arms-picks = subst IsServed is h.served
-
     pub stops-armed : Arms s.units line pairs
     stops-armed clash items = ap (line_in s.units clash items) is
 
@@ -69,9 +66,6 @@ module _ (holds : Kept → Type 0) (is_new : Id → Type 0) (stoppable : Bool) (
     arms-performs now new_now stage in_flight y e told same none there stored r g =
         serves-by now new_now stage in_flight (line_in s.units (clash_by s) (items_by s r) line) s y (Armed told) e (none-flies in_flight None s.units none refl) there (arms-meant told same r) g h.allowed.serves.phase
         (stored-plain now new_now (Armed told) (line_in s.units (clash_by s) (items_by s r) line) s (h.played r) (arms-meant told same r) refl refl stored)
-
-    pub arms-armed : (y : Scheduler) (e : Event) (told : List (ℕ × ℕ)) → told ≡ pairs → scheduling.AnswersWith s (Some (Armed told)) y (Some e) → armed_at line (Some e) ≡ stops_asked line pairs
-    arms-armed y e told same g = ap (armed_at line) g.told ∙ ap (stops_asked line) same
 
     -- what is sent behind it
     pub arms-sent : (setup : Setup) (old new : Option Turning) → new ≡ option_map (with_pairs line pairs) old → (r : WatchReading s.watch) →

@@ -110,9 +110,6 @@ module _ (holds : Kept → Type 0) (is_new : Id → Type 0) (stoppable : Bool) (
         (stored-plain holds is_new (Refused refusal) (asked_next s r (Tree line)) now (h.played r) (is-refused r) refl refl
         (record { holding = h.stored.holding; new = h.stored.new }))
 
-    pub refused-unarmed : (e : Event) (y z : Scheduler) → scheduling.DoesNext (λ s r. Some (Refused refusal)) line y z e → scheduling.StandsForState y now → (r : WatchReading s.watch) → armed_at line (Some e) ≡ []
-    refused-unarmed e y z does stands r = ap (armed_at line) (does now r stands h.serves).told
-
 -- A TEXT that is refused
 
 module _ (holds : Kept → Type 0) (is_new : Id → Type 0) (refusal : Refusal) (x y : Scheduler) (p : Point) where
@@ -125,9 +122,6 @@ module _ (holds : Kept → Type 0) (is_new : Id → Type 0) (refusal : Refusal) 
   rejected-performs in_flight e r f stands serves played stored none =
       serves-by holds is_new (at.Going y) in_flight (asked_next p.state r (Rejected refusal)) rejected y (Refused refusal) e (none-flies in_flight None rejected.units none refl) refl refl (f p.state r stands serves) serves.phase
       (stored-plain holds is_new (Refused refusal) (asked_next p.state r (Rejected refusal)) rejected played refl refl refl (record { holding = stored.holding; new = stored.new }))
-
-  pub rejected-unarmed : (e : Event) (r : WatchReading p.state.watch) → Rejects refusal x y e → scheduling.StandsForState x p.state → scheduling.ServesLine Nothing rejected → armed_at Nothing (Some e) ≡ []
-  rejected-unarmed e r f stands serves = ap (armed_at Nothing) (f p.state r stands serves).told
 
 -- no call of the storage was made
 pub counts-same : (d : View) (armed : List (ℕ × ℕ)) → armed ≡ [] → CountsStops d d None armed 0

@@ -13,14 +13,14 @@ use Rattle.salt_engine.proofs.Performed.{serves-by}
 use Rattle.salt_engine.specs.Deciding.{LeavesEventUndone}
 use Rattle.salt_engine.specs.Flights.{IsInFlight, definition_of, text_of}
 use Rattle.salt_model.specs.Refusals.{defines}
-use Rattle.salt_engine.specs.Performing.{AsksLine, BreaksOff, PerformsEvent, WasBroken}
+use Rattle.salt_engine.specs.Performing.{AsksLine, BreaksOff, DefinesSomething, PerformsEvent, WasBroken}
 use Rattle.salt_engine.specs.Stored.{Stored}
 use Rattle.salt_engine.specs.declared.flights.InFlight.TheVariants as asked
 use Rattle.salt_engine.specs.declared.flights.InFlight.{InFlight}
 use Rattle.salt_engine.specs.declared.stage.Stage.TheVariants as at
 use Rattle.salt_engine.specs.declared.stage.Stage.{Stage}
 use Rattle.law_states.proofs.NextTold.{may-stand}
-use Rattle.law_states.specs.Laws.{IsSound}
+use Rattle.law_states.specs.Laws.{IsSound, is_of_run}
 use Rattle.law_states.specs.OpenUnits.{UnitState}
 use Rattle.law_states.specs.Readings.{WatchReading, clash_by, items_by, under_way_of}
 use Rattle.law_states.specs.Refused.{known_in}
@@ -30,13 +30,13 @@ use Rattle.law_states.specs.Told.{line_in, next_decision_number}
 use Rattle.salt_model.specs.Kept.{Definition, Kept, OfProgram, OfTable, programs_of, schema_of}
 use Rattle.salt_model.specs.Printable.{IsSpelledProgram, IsSpelledTable}
 use Rattle.salt_model.specs.Trace.{◌says◌}
-use Rattle.salt_model.specs.declared.events.Event.TheVariants.{Defined}
+use Rattle.salt_model.specs.declared.events.Event.TheVariants.{Armed, Defined, Down, Opened}
 use Rattle.salt_model.specs.declared.events.Event.{Event}
 use Rattle.salt_program.specs.Refusals.{program_refusal}
 use Rattle.salt_scheduler.proofs.Allowing.{allowed-faultless, program-allowed, table-allowed}
-use Rattle.salt_scheduler.proofs.SoundFacts.{reads}
+use Rattle.salt_scheduler.proofs.LinesDone.{program-may, table-may}
 use Rattle.salt_scheduler.specs.Standing as scheduling
-use Rattle.salt_scheduler.specs.Standing.{books_of}
+use Rattle.salt_scheduler.specs.Standing.{IsAllowed, IsDefinable, books_of}
 use Rattle.salt_scheduler.specs.declared.scheduler.Scheduler.{Scheduler}
 use Rattle.salt_schema.specs.Refusals.{table_refusal}
 use Rattle.law_decisions.proofs.Reading.{few-parts}
@@ -48,7 +48,7 @@ use Rattle.salt_storage.specs.declared.halt.Halt.TheVariants.{DeviceFull, Memory
 use Rattle.salt_storage.specs.declared.halt.Halt.{Halt}
 use Rattle.salt_values.specs.declared.id.Id.{Id}
 use Rattle.std.proofs.Common.{ap, inl, inr, subst, sym, ◌∙◌}
-use Rattle.std.specs.Prelude.{Bool, None, Option, Some, [], refl, true, ℕ, ◌≡◌}
+use Rattle.std.specs.Prelude.{Bool, List, None, Ok, Option, Result, Some, [], false, refl, true, ℕ, ◌≡◌}
 use Rattle.salt_engine.specs.Standing.{StandsAtEventIn}
 
 -- the laws of definitions of law_decisions
@@ -58,9 +58,6 @@ TableLaw = (s : UnitState) (d : TableDef) → IsSoundKept s.kept → s.line ≡ 
 abbrev pub ProgramLaw : Type 0
 ProgramLaw = (s : UnitState) (p : ProgramDef) → IsSoundKept s.kept → s.line ≡ line_of.Program p → IsSpelledProgram p →
     program_refusal (schema_of s.kept) (programs_of s.kept) p ≡ None → MayBeDefined s (program_text p) (OfProgram p)
-
-pub reads-there : (holds : Kept → Type 0) (is_new : Id → Type 0) (stoppable : Bool) (line : Line) (x : Scheduler) (s : State) → AsksLine holds is_new stoppable line x s → WatchReading s.watch
-reads-there holds is_new stoppable line x s h = reads s h.allowed.serves.sound
 
 -- by what is asked of the storage, which may be made, and is the event that comes
 pub record Defines (line : Line) (asked : InFlight) (s : State) : Type 0 where
@@ -125,10 +122,6 @@ module _ (holds : Kept → Type 0) (is_new : Id → Type 0) (stoppable : Bool) (
       serves-by now new_now (at.Going y) (Some f) (line_in s.units (clash_by s) (items_by s r) line) s y event e d.flies refl (d.meant r)
       (subst (λ (m : Option Event). scheduling.AnswersWith s m y (Some e)) (d.meant r) g) h.allowed.serves.phase (defined-stored now new_now r holding stays)
 
-  -- it arms nothing
-  pub defined-unarmed : (y : Scheduler) (e : Event) (r : WatchReading s.watch) → scheduling.AnswersWith s (line_in s.units (clash_by s) (items_by s r) line) y (Some e) → armed_at line (Some e) ≡ []
-  defined-unarmed y e r g = ap (armed_at line) (g.told ∙ d.meant r)
-
   module _ (leaves : Kept → Kept → Type 0) (fills : ToWrite → ℕ → Type 0) (stage : Stage Scheduler) (r : WatchReading s.watch) where
     -- memory ran out behind it
     pub defined-lost : stage ≡ at.Lost → leaves (defined s.units.kept d.definition) (defined s.units.kept d.definition) →
@@ -175,3 +168,28 @@ pub no-definition : (line : Line) → ((d : TableDef) → line ≡ line_of.Table
 no-definition (line_of.Table d) no_table no_program is = no_table d refl
 no-definition (line_of.Program p) no_table no_program is = no_program p refl
 no-definition line no_table no_program is = cc
+
+-- WHATEVER THE DISKS TELL
+
+pub by-ok : {A E : Type 0} {r : Result A E} {x y : A} → r ≡ Ok x → x ≡ y → r ≡ Ok y
+by-ok was is = was ∙ ap Ok is
+
+pub defines-event : (e : Event) (n : ℕ) (text : List ℕ) → e ≡ Defined n text → DefinesSomething e
+defines-event e n text is = subst DefinesSomething (sym is) tt
+
+pub defining-unarmed : (line : Line) (e : Event) → DefinesSomething e → armed_at line (Some e) ≡ []
+defining-unarmed line (Defined n text) h = refl
+defining-unarmed line (Armed pairs) h = absurd h
+defining-unarmed line e h = refl
+
+pub defining-plain : (e : Event) → DefinesSomething e → is_of_run e ≡ false
+defining-plain (Defined n text) h = refl
+defining-plain (Down why) h = absurd h
+defining-plain (Opened boot n) h = absurd h
+defining-plain e h = refl
+
+-- a definition that is allowed is not refused
+pub allows-defining : (line : Line) (x : Scheduler) → IsAllowed line x → IsDefinable line (books_of x)
+allows-defining (line_of.Table d) x h = table-may (line_of.Table d) x d h refl
+allows-defining (line_of.Program p) x h = program-may (line_of.Program p) x p h refl
+allows-defining line x h = tt

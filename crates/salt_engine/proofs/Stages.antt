@@ -31,6 +31,13 @@ held-now holds is_new (at.Going x) s h = h.1.holding
 held-now holds is_new (at.Down books) s h = absurd h
 held-now holds is_new at.Lost s h = absurd h
 
+-- with whatever is at hand
+pub held-at : (holds : Kept → Type 0) (is_new : Id → Type 0) (stage : Stage Scheduler) (next : Option Event) (s : State) → StandsAtEventIn holds is_new stage next s → (k : Kept) × holds k
+held-at holds is_new (at.Going x) None s h = (_, h.1.holding)
+held-at holds is_new (at.Going x) (Some e) s h = (_, h.2.holding)
+held-at holds is_new (at.Down books) next s h = absurd h
+held-at holds is_new at.Lost next s h = absurd h
+
 -- by the scheduler that stands in the stage
 pub seen-at : (holds : Kept → Type 0) (is_new : Id → Type 0) (stage now : Stage Scheduler) (given : Option Event) (s : State) → stage ≡ now → StandsAtEventIn holds is_new stage given s →
     StandsAtEventIn holds is_new now given s

@@ -1,5 +1,5 @@
 -- What is to come, and what a storage gives for it.
-use Rattle.salt_books.specs.Books.{AreBooks, AreLoaded}
+use Rattle.salt_books.specs.Books.{AreBooks, AreLoaded, HaveUnit, tables_in}
 use Rattle.salt_books.specs.Coming.{CanCome, IsLaterUnit, event_meant}
 use Rattle.salt_books.specs.Moves.{MovesTo}
 use Rattle.salt_books.specs.Sound.{IsSoundState}
@@ -36,6 +36,21 @@ use Rattle.salt_storage.specs.declared.halt.Halt.{Halt}
 use Rattle.salt_units.specs.Acting.{leaves_keys}
 use Rattle.salt_values.specs.declared.id.Id.{Id}
 use Rattle.std.specs.Prelude.{None, Option, Some, false, true, ℕ, ⊤, ◌≡◌}
+
+-- WHATEVER THE DISKS TELL, it can be done over these books: its unit is open, and its statement sets no key
+
+abbrev pub CanBeDone : Books → Coming → Type 0
+CanBeDone x (coming.Act a) = HaveUnit x a.unit × (leaves_keys (tables_in x) a.statement ≡ true)
+CanBeDone x (coming.Commit u) = HaveUnit x u
+CanBeDone x (coming.Branch u b cause) = HaveUnit x u
+CanBeDone x c = ⊤
+
+-- and so it can with what was given for it
+abbrev pub CanTake : Books → Given → Type 0
+CanTake x (Rows a rows) = HaveUnit x a.unit × (leaves_keys (tables_in x) a.statement ≡ true) × IsKeyed (tables_of rows.entries)
+CanTake x (Committed u m n) = HaveUnit x u
+CanTake x (Branched u b cause m n) = HaveUnit x u
+CanTake x g = ⊤
 
 -- BEFORE it
 

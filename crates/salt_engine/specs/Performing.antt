@@ -14,7 +14,7 @@ use Rattle.salt_engine.specs.declared.flights.InFlight.{InFlight}
 use Rattle.salt_engine.specs.declared.stage.Stage.TheVariants.{Down, Going, Lost}
 use Rattle.salt_engine.specs.declared.stage.Stage.{Stage}
 use Rattle.law_states.specs.KeptWaits.{AreDistinct}
-use Rattle.law_states.specs.Laws.{IsSound}
+use Rattle.law_states.specs.Laws.{IsSound, is_of_run}
 use Rattle.law_states.specs.Nexts.{asked_next, next_turn_of, turned_next}
 use Rattle.law_states.specs.OpenUnits.{UnitState}
 use Rattle.law_states.specs.Readings.{WatchReading, clash_by, items_by}
@@ -43,7 +43,7 @@ use Rattle.law_types.specs.Played.{HasKey}
 use Rattle.law_types.specs.Typed.{IsTyped}
 use Rattle.salt_values.specs.declared.id.Id.{Id}
 use Rattle.std.specs.Result.{MatchResult}
-use Rattle.std.specs.Prelude.{Bool, Err, IsSome, None, Ok, Option, Result, Some, false, true, ℕ, ◌≡◌, ◌≤◌, ◌⊎◌}
+use Rattle.std.specs.Prelude.{Bool, Err, IsSome, None, Ok, Option, Result, Some, false, not, true, ◌&&◌, ℕ, ⊤, ◌≡◌, ◌≤◌, ◌⊎◌}
 
 -- this comes next in a state of a played trace, of a typed start and over lines whose tables have keys
 pub record IsPlayedBefore (comes : Option Event) (s : State) : Type 0 where
@@ -62,6 +62,11 @@ is_prepared (Some (Armed pairs)) = true
 is_prepared (Some (Defined n text)) = true
 is_prepared e = false
 
+-- of a line behind what was prepared of it, whatever the disks tell: it is no such event, and neither a fall nor an opening
+abbrev pub comes_plain : Option Event → Bool
+comes_plain None = true
+comes_plain (Some e) = not (is_of_run e) && not (is_prepared (Some e))
+
 -- it holds what the state keeps; where the event is done already, that is what the event leaves too
 abbrev pub StoredAt : (holds : Kept → Type 0) (is_new : Id → Type 0) → Coming → State → Type 0
 StoredAt holds is_new (coming.Told e) s = Stored holds is_new (units_after e s.units)
@@ -74,6 +79,11 @@ pub record IsToServe (holds : Kept → Type 0) (is_new : Id → Type 0) (x : Sch
   pub plain : is_prepared (event_meant s.units c) ≡ false
   pub ready : scheduling.IsReady x s c
   pub stored : StoredAt holds is_new c s
+
+-- an event that defines something
+abbrev pub DefinesSomething : Event → Type 0
+DefinesSomething (Defined n text) = ⊤
+DefinesSomething e = ⊥
 
 -- so is the scheduler in a stage
 abbrev pub IsToServeIn : (holds : Kept → Type 0) (is_new : Id → Type 0) → Stage Scheduler → Coming → State → Type 0

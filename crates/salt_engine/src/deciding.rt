@@ -1,6 +1,6 @@
 //! What is asked of the storage: the rows that a statement reaches, and decisions of units.
 
-ghost use Rattle.salt_books.specs.Books.{AreBooks};
+ghost use Rattle.salt_books.specs.Books.{AreBooks, HaveUnit};
 ghost use Rattle.salt_disk.specs.Disks.{HasCause};
 ghost use Rattle.salt_engine.specs.Deciding.{AreAsked, CanBranch, CanCommit, CanLoad, DecidesBranch, DecidesCommit, LeavesUnbranched, LeavesUncommitted, LeavesUndone, SendsBranch, SendsCommit, StaysStored};
 ghost use Rattle.salt_eval.specs.Scans.{IsKeyed};
@@ -10,7 +10,7 @@ ghost use Rattle.salt_storage.specs.Answers.{disk_err};
 ghost use Rattle.salt_storage.specs.Staying.{StaysWithin};
 ghost use Rattle.salt_place.specs.Placement.{GivesPlaceOf, TakesEachKey};
 ghost use Rattle.std.specs.Cow.{cow_slice_items};
-ghost use Rattle.std.specs.Prelude.{IfErr, IfOk, OnOk, Some, map, ◌≡◌};
+ghost use Rattle.std.specs.Prelude.{IfErr, IfOk, IsTrue, OnOk, Some, map, ◌≡◌};
 ghost use Rattle.salt_stands.specs.Turning.{change_at};
 
 use law_decisions::decided_ends_may_be_kept;
@@ -35,7 +35,9 @@ pub(crate) fn load<S: Storage, D: Disks, F: Fn(PlaceKind, &Key, u32) -> u32>(
 ) -> Result<Tables, Halt>
     requires callable { TakesEachKey (F.pre place.now.place) }
     requires answers { GivesPlaceOf (F.post place.now.place) }
-    requires ready { CanLoad S.holds S.is_new (D.view disks.old) storage.old books.now asking.now }
+    requires able { S.able (D.view disks.old) storage.old }
+    requires ready { IsTrue (D.view disks.old).told → CanLoad S.holds S.is_new (D.view disks.old) storage.old books.now asking.now }
+    ensures able { S.able (D.view disks.new) storage.new }
     ensures rows { IfOk result (λ rows. AreAsked S.holds S.is_new (D.view disks.old) storage.old asking.now (tables_of rows.entries)) }
     ensures keyed { IfOk result (λ rows. IsKeyed (tables_of rows.entries)) }
     ensures stored { OnOk result (StaysStored S.holds S.is_new (D.view disks.old) (D.view disks.new) storage.old storage.new) }
@@ -44,7 +46,6 @@ pub(crate) fn load<S: Storage, D: Disks, F: Fn(PlaceKind, &Key, u32) -> u32>(
     ensures within { StaysWithin (S.asked storage.old) (S.asked storage.new) (D.view disks.old) (D.view disks.new) }
     ensures cause { HasCause (D.view disks.old) (D.view disks.new) (disk_err result) }
 {
-    storage.stands(disks);
     match &asking.reach {
         Some(reach) => {
             let rows = storage.load(disks, place, books.known().schema(), reach.get())?;
@@ -88,7 +89,10 @@ pub(crate) fn decide_commit<S: Storage, D: Disks, F: Fn(PlaceKind, &Key, u32) ->
 ) -> Result<Decided, Halt>
     requires callable { TakesEachKey (F.pre place.now.place) }
     requires answers { GivesPlaceOf (F.post place.now.place) }
-    requires ready { CanCommit S.holds S.is_new (D.view disks.old) storage.old books.now unit }
+    requires able { S.able (D.view disks.old) storage.old }
+    requires there { HaveUnit books.now unit }
+    requires ready { IsTrue (D.view disks.old).told → CanCommit S.holds S.is_new (D.view disks.old) storage.old books.now unit }
+    ensures able { S.able (D.view disks.new) storage.new }
     ensures committed { IfOk result (DecidesCommit S.holds S.is_new (D.view disks.old) (D.view disks.new) storage.old storage.new books.now unit) }
     ensures undone { IfErr result (LeavesUncommitted S.holds S.is_new S.leaves S.fills (D.view disks.old) (D.view disks.new) storage.old storage.new books.now unit) }
     ensures sent { OnOk result (SendsCommit S.holds S.is_new S.asked S.net (D.view disks.old) storage.old storage.new books.now unit) }
@@ -113,7 +117,10 @@ pub(crate) fn decide_branch<S: Storage, D: Disks, F: Fn(PlaceKind, &Key, u32) ->
 ) -> Result<Decided, Halt>
     requires callable { TakesEachKey (F.pre place.now.place) }
     requires answers { GivesPlaceOf (F.post place.now.place) }
-    requires ready { CanBranch S.holds S.is_new (D.view disks.old) storage.old books.now unit }
+    requires able { S.able (D.view disks.old) storage.old }
+    requires there { HaveUnit books.now unit }
+    requires ready { IsTrue (D.view disks.old).told → CanBranch S.holds S.is_new (D.view disks.old) storage.old books.now unit }
+    ensures able { S.able (D.view disks.new) storage.new }
     ensures branched { IfOk result (DecidesBranch S.holds S.is_new (D.view disks.old) (D.view disks.new) storage.old storage.new books.now unit) }
     ensures undone { IfErr result (LeavesUnbranched S.holds S.is_new S.leaves S.fills (D.view disks.old) (D.view disks.new) storage.old storage.new books.now unit) }
     ensures sent { OnOk result (SendsBranch S.holds S.is_new S.asked S.net (D.view disks.old) storage.old storage.new books.now unit) }

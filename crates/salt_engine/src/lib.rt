@@ -17,6 +17,6 @@ mod stepping;
 
 pub use engine::{Engine, GivenUp};
 pub use flights::{InFlight, flight_of};
-pub use given::{Given, provide};
+pub use given::{Given, is_open, provide};
 pub use resuming::resume;
 pub use stage::Stage;

@@ -3,7 +3,8 @@
 ghost use Rattle.salt_ast.specs.declared.lines.Line.TheVariants as line_of;
 ghost use Rattle.salt_engine.specs.Flights.{definition_of};
 ghost use Rattle.salt_model.specs.Refusals.{defines};
-ghost use Rattle.salt_engine.specs.Performing.{Rejects};
+ghost use Rattle.salt_engine.specs.Performing.{DefinesSomething, IsServed, Rejects};
+ghost use Rattle.salt_driver.specs.Standing.{IsOfSegment};
 ghost use Rattle.salt_engine.specs.Deciding.{StaysStored};
 ghost use Rattle.salt_scheduler.specs.Refusals.{HasFewParts};
 ghost use Rattle.salt_scheduler.specs.Serving.{is_prepared_line};
@@ -17,7 +18,7 @@ ghost use Rattle.salt_model.specs.Words.{Every};
 ghost use Rattle.salt_model.specs.declared.events.Event.TheVariants.{Refused};
 ghost use Rattle.salt_model.specs.declared.events.Refusal.{Refusal};
 ghost use Rattle.salt_driver.specs.Counting.{CountsStops, armed_told};
-ghost use Rattle.salt_scheduler.specs.Standing.{DoesAllowed, IsAllowed, StandsForState};
+ghost use Rattle.salt_scheduler.specs.Standing.{DoesAllowed, IsDefinable, StandsForState, books_of};
 ghost use Rattle.salt_storage.specs.Answers.{disk_err};
 ghost use Rattle.salt_storage.specs.Staying.{StaysWithin};
 ghost use Rattle.salt_place.specs.Placement.{GivesPlaceOf, TakesEachKey};
@@ -56,12 +57,29 @@ fn definition_of(alloc: Global, line: &Line) -> Result<InFlight, AllocError>
     }
 }
 
+/// Whether a line's definition is refused. Where the disks tell it was asked, and is not; so it is looked at over others alone.
+fn is_undefinable<D: Disks>(
+    disks: &D,
+    scheduler: &Scheduler,
+    line: &Line,
+) -> Result<bool, AllocError>
+    requires { HasFewParts line.now }
+    ensures untold { result ≡ Ok true → (D.view disks.now).told ≡ false }
+    ensures fits { result ≡ Ok false → (D.view disks.now).told ≡ false → IsDefinable line.now (books_of scheduler.now) }
+{
+    if disks.is_told() {
+        return Ok(false);
+    }
+    scheduler.is_refused(line)
+}
+
 /// What a line defines has been decided: it is defined.
 fn defined(scheduler: &mut Scheduler, line: &Line) -> Result<Event, AllocError>
     requires definition { defines line.now ≡ true }
-    requires allowed { IsAllowed line.now scheduler.old }
+    requires allowed { IsDefinable line.now (books_of scheduler.old) }
     requires parts { HasFewParts line.now }
-    ensures { IfOk result (λ e. DoesAllowed (λ s r. line_in s.units (clash_by s) (items_by s r) line.now) line.now scheduler.old scheduler.new e) }
+    ensures event { IfOk result (λ e. DefinesSomething e) }
+    ensures does { IfOk result (λ e. DoesAllowed (λ s r. line_in s.units (clash_by s) (items_by s r) line.now) line.now scheduler.old scheduler.new e) }
 {
     match line {
         Line::Table(def) => scheduler.table_defined(line, def),
@@ -88,7 +106,8 @@ fn ask(
 
 /// A line whose text is refused is asked.
 pub(crate) fn reject(scheduler: &mut Scheduler, refusal: Refusal) -> Result<Event, AllocError>
-    ensures { IfOk result (λ e. Rejects refusal scheduler.old scheduler.new e) }
+    ensures event { IfOk result (λ e. e ≡ Refused refusal) }
+    ensures rejects { IfOk result (λ e. Rejects refusal scheduler.old scheduler.new e) }
 {
     scheduler.ask(&Line::Nothing)?;
     Ok(scheduler.refuse(&Line::Nothing, refusal))
@@ -106,6 +125,7 @@ fn arm_each<S: Storage, D: Disks>(
     ensures ok { OnOk result ((D.view disks.new).armed ≡ (D.view disks.old).armed ++ pairs.now) }
     ensures faults { (D.view disks.new).faults ≡ (D.view disks.old).faults }
     ensures net { S.net storage.new ≡ S.net storage.old }
+    ensures able { S.able (D.view disks.old) storage.old → S.able (D.view disks.new) storage.new }
     ensures within { StaysWithin (S.asked storage.old) (S.asked storage.new) (D.view disks.old) (D.view disks.new) }
 {
     for pair in pairs {
@@ -128,7 +148,11 @@ impl<S: Storage> Engine<S> {
         requires answers { GivesPlaceOf (F.post place.now.place) }
         requires definition { defines line.now ≡ true }
         requires none { self.old.in_flight ≡ None }
-        requires ready { (s : State) × AsksLineOver S.holds S.is_new (D.view disks.old) self.old line.now s }
+        requires served { IsServed line.now }
+        requires able { S.able (D.view disks.old) self.old.storage }
+        requires ready { IsTrue (D.view disks.old).told → (s : State) × AsksLineOver S.holds S.is_new (D.view disks.old) self.old line.now s }
+        ensures able { S.able (D.view disks.new) self.new.storage }
+        ensures plain { IfOk result IsOfSegment }
         ensures comes { BeginsOut S.holds S.is_new S.leaves S.fills (D.view disks.old) (D.view disks.new) line.now self.old self.new result }
         ensures sent { OnOk result (SendsBegun S.holds S.is_new S.asked S.net (D.view disks.old) line.now self.old self.new) }
         ensures stays { StaysServing S.asked (D.view disks.old) (D.view disks.new) self.old self.new }
@@ -137,8 +161,11 @@ impl<S: Storage> Engine<S> {
         definitions_may_be_kept();
         self.storage.stands(disks);
         let Stage::Going(scheduler) = &mut self.stage else {
-            unreachable!()
+            return Err(self.storage.reject(disks));
         };
+        if is_undefinable(disks, scheduler, line)? {
+            return Err(self.storage.reject(disks));
+        }
         let asked = definition_of(self.alloc, line)?;
         match self.storage.define(disks, place, asked.text()) {
             Ok(_number) => {
@@ -163,7 +190,11 @@ impl<S: Storage> Engine<S> {
     ) -> Result<Option<Event>, Halt>
         requires line { line.now ≡ line_of.Crash pairs.now }
         requires none { self.old.in_flight ≡ None }
-        requires ready { (s : State) × AsksLineOver S.holds S.is_new (D.view disks.old) self.old line.now s }
+        requires served { IsServed line.now }
+        requires able { S.able (D.view disks.old) self.old.storage }
+        requires ready { IsTrue (D.view disks.old).told → (s : State) × AsksLineOver S.holds S.is_new (D.view disks.old) self.old line.now s }
+        ensures able { S.able (D.view disks.new) self.new.storage }
+        ensures plain { IfOk result IsOfSegment }
         ensures comes { BeginsOut S.holds S.is_new S.leaves S.fills (D.view disks.old) (D.view disks.new) line.now self.old self.new result }
         ensures sent { OnOk result (SendsBegun S.holds S.is_new S.asked S.net (D.view disks.old) line.now self.old self.new) }
         ensures stays { StaysServing S.asked (D.view disks.old) (D.view disks.new) self.old self.new }
@@ -171,8 +202,11 @@ impl<S: Storage> Engine<S> {
     {
         self.storage.stands(disks);
         let Stage::Going(scheduler) = &mut self.stage else {
-            unreachable!()
+            return Err(self.storage.reject(disks));
         };
+        if !disks.can_stop() {
+            return Err(self.storage.reject(disks));
+        }
         let told = Items::from_slice(self.alloc, pairs.as_slice())?;
         match arm_each(&mut self.storage, disks, pairs.as_slice()) {
             Ok(()) => {
@@ -195,7 +229,11 @@ impl<S: Storage> Engine<S> {
     ) -> Result<Option<Event>, Halt>
         requires line { line.now ≡ line_of.Net pairs.now }
         requires none { self.old.in_flight ≡ None }
-        requires ready { (s : State) × AsksLineOver S.holds S.is_new (D.view disks.old) self.old line.now s }
+        requires served { IsServed line.now }
+        requires able { S.able (D.view disks.old) self.old.storage }
+        requires ready { IsTrue (D.view disks.old).told → (s : State) × AsksLineOver S.holds S.is_new (D.view disks.old) self.old line.now s }
+        ensures able { S.able (D.view disks.new) self.new.storage }
+        ensures plain { IfOk result IsOfSegment }
         ensures comes { BeginsOut S.holds S.is_new S.leaves S.fills (D.view disks.old) (D.view disks.new) line.now self.old self.new result }
         ensures sent { OnOk result (SendsBegun S.holds S.is_new S.asked S.net (D.view disks.old) line.now self.old self.new) }
         ensures stays { StaysServing S.asked (D.view disks.old) (D.view disks.new) self.old self.new }
@@ -203,7 +241,7 @@ impl<S: Storage> Engine<S> {
     {
         self.storage.stands(disks);
         let Stage::Going(scheduler) = &mut self.stage else {
-            unreachable!()
+            return Err(self.storage.reject(disks));
         };
         let told = Items::from_slice(self.alloc, pairs.as_slice())?;
         match self.storage.arm_net(disks, pairs.as_slice()) {
@@ -229,7 +267,11 @@ impl<S: Storage> Engine<S> {
         requires answers { GivesPlaceOf (F.post place.now.place) }
         requires plain { is_prepared_line line.now ≡ false }
         requires none { self.old.in_flight ≡ None }
-        requires ready { (s : State) × AsksLineOver S.holds S.is_new (D.view disks.old) self.old line.now s }
+        requires served { IsServed line.now }
+        requires able { S.able (D.view disks.old) self.old.storage }
+        requires ready { IsTrue (D.view disks.old).told → (s : State) × AsksLineOver S.holds S.is_new (D.view disks.old) self.old line.now s }
+        ensures able { S.able (D.view disks.new) self.new.storage }
+        ensures plain { IfOk result IsOfSegment }
         ensures comes { BeginsOut S.holds S.is_new S.leaves S.fills (D.view disks.old) (D.view disks.new) line.now self.old self.new result }
         ensures sent { OnOk result (SendsBegun S.holds S.is_new S.asked S.net (D.view disks.old) line.now self.old self.new) }
         ensures stays { StaysServing S.asked (D.view disks.old) (D.view disks.new) self.old self.new }
@@ -237,7 +279,7 @@ impl<S: Storage> Engine<S> {
     {
         self.storage.stands(disks);
         let Stage::Going(scheduler) = &mut self.stage else {
-            unreachable!()
+            return Err(self.storage.reject(disks));
         };
         let coming = scheduler.first_of(line)?;
         self.perform(disks, place, coming)
@@ -253,7 +295,11 @@ impl<S: Storage> Engine<S> {
         requires callable { TakesEachKey (F.pre place.now.place) }
         requires answers { GivesPlaceOf (F.post place.now.place) }
         requires none { self.old.in_flight ≡ None }
-        requires ready { (s : State) × AsksLineOver S.holds S.is_new (D.view disks.old) self.old line.now s }
+        requires served { IsServed line.now }
+        requires able { S.able (D.view disks.old) self.old.storage }
+        requires ready { IsTrue (D.view disks.old).told → (s : State) × AsksLineOver S.holds S.is_new (D.view disks.old) self.old line.now s }
+        ensures able { S.able (D.view disks.new) self.new.storage }
+        ensures plain { IfOk result IsOfSegment }
         ensures comes { BeginsOut S.holds S.is_new S.leaves S.fills (D.view disks.old) (D.view disks.new) line.now self.old self.new result }
         ensures sent { OnOk result (SendsBegun S.holds S.is_new S.asked S.net (D.view disks.old) line.now self.old self.new) }
         ensures stays { StaysServing S.asked (D.view disks.old) (D.view disks.new) self.old self.new }
@@ -278,16 +324,20 @@ impl<S: Storage> Engine<S> {
         requires callable { TakesEachKey (F.pre place.now.place) }
         requires answers { GivesPlaceOf (F.post place.now.place) }
         requires none { self.old.in_flight ≡ None }
-        requires ready { (s : State) × IsToAskOver S.holds S.is_new (D.view disks.old) self.old line.now s × (s.over_net ≡ (S.asked self.old.storage).over_net) }
+        requires served { IsServed line.now }
+        requires able { S.able (D.view disks.old) self.old.storage }
+        requires ready { IsTrue (D.view disks.old).told → (s : State) × IsToAskOver S.holds S.is_new (D.view disks.old) self.old line.now s × (s.over_net ≡ (S.asked self.old.storage).over_net) }
+        ensures able { S.able (D.view disks.new) self.new.storage }
+        ensures plain { IfOk result IsOfSegment }
         ensures comes { AsksOut S.holds S.is_new S.leaves S.fills S.asked (D.view disks.old) (D.view disks.new) line.now self.old self.new result }
         ensures sent { OnOk result (SendsAsked S.holds S.is_new S.asked S.net (D.view disks.old) line.now self.old self.new) }
         ensures stays { StaysServing S.asked (D.view disks.old) (D.view disks.new) self.old self.new }
-        ensures refused { (refusal : Refusal) → result ≡ Ok (Some (Refused refusal)) → disks.new ≡ disks.old }
+        ensures refused { (refusal : Refusal) → result ≡ Ok (Some (Refused refusal)) → IsTrue (D.view disks.old).told → disks.new ≡ disks.old }
         ensures counts { CountsStops (D.view disks.old) (D.view disks.new) (disk_err result) (armed_told line.now result) 0 }
     {
         self.storage.stands(disks);
         let Stage::Going(scheduler) = &mut self.stage else {
-            unreachable!()
+            return Err(self.storage.reject(disks));
         };
         let refusal = ask(scheduler, line, disks.can_stop(), self.storage.over_net())?;
         match refusal {

@@ -3,17 +3,16 @@
 ghost use Rattle.salt_books.specs.Coming.{event_meant};
 ghost use Rattle.salt_books.specs.declared.coming.Coming.TheVariants.{Nothing};
 ghost use Rattle.salt_disk.specs.Disks.{HasCause};
-ghost use Rattle.salt_engine.specs.Giving.{CanTakeUp, coming_of};
-ghost use Rattle.salt_engine.specs.Performing.{TurnsTo};
+ghost use Rattle.salt_engine.specs.Giving.{CanTake, CanTakeUp, coming_of};
+ghost use Rattle.salt_engine.specs.Performing.{TurnsTo, comes_plain};
 ghost use Rattle.salt_engine.specs.Standing.{follow_in};
 ghost use Rattle.law_states.specs.Nexts.{turned_next};
 ghost use Rattle.law_states.specs.Readings.{WatchReading};
 ghost use Rattle.law_states.specs.States.{State, turned_to};
-ghost use Rattle.salt_scheduler.specs.Standing.{AnswersWith, AnswersWithComing, behind_in};
-ghost use Rattle.salt_driver.specs.Counting.{armed_at};
+ghost use Rattle.salt_scheduler.specs.Standing.{AnswersWith, AnswersWithComing, behind_in, books_of};
 ghost use Rattle.salt_storage.specs.Answers.{disk_err};
 ghost use Rattle.salt_place.specs.Placement.{GivesPlaceOf, TakesEachKey};
-ghost use Rattle.std.specs.Prelude.{IfOk, None, OnOk, [], ◌≡◌};
+ghost use Rattle.std.specs.Prelude.{IfOk, IsTrue, None, OnOk, Some, false, true, ◌≡◌};
 
 use crate::engine::Engine;
 use crate::given::{Given, provide};
@@ -30,7 +29,6 @@ use std::alloc::AllocError;
 
 /// A program has its turn: what that brings.
 fn turn_to(scheduler: &mut Scheduler, line: &Line, base: Id) -> Result<Coming, AllocError>
-    requires { (s : State) × TurnsTo line.now base scheduler.old s }
     ensures { IfOk result (λ coming. (s : State) (r : WatchReading s.watch) → TurnsTo line.now base scheduler.old s
         → AnswersWithComing (turned_to base s) (turned_next s r base) scheduler.new coming) }
 {
@@ -40,7 +38,7 @@ fn turn_to(scheduler: &mut Scheduler, line: &Line, base: Id) -> Result<Coming, A
 
 /// What is to come is done, with what was given for it.
 fn take_up(scheduler: &mut Scheduler, given: Given) -> Result<Option<Event>, AllocError>
-    requires { (s : State) × CanTakeUp scheduler.old given s }
+    requires { CanTake (books_of scheduler.old) given }
     ensures { IfOk result (λ next. (s : State) → CanTakeUp scheduler.old given s → AnswersWith s (event_meant s.units (coming_of given)) scheduler.new next) }
 {
     match given {
@@ -67,6 +65,33 @@ fn take_up(scheduler: &mut Scheduler, given: Given) -> Result<Option<Event>, All
     }
 }
 
+fn is_plain(event: &Event) -> bool
+    ensures { result ≡ comes_plain (Some event.now) }
+{
+    match event {
+        Event::Refused(_refusal) => false,
+        Event::Armed(_pairs) => false,
+        Event::Defined { .. } => false,
+        Event::Down(_why) => false,
+        Event::Opened { .. } => false,
+        _ => true,
+    }
+}
+
+/// Whether what was done fits no segment. Where the disks tell it always fits, so it is looked at over others alone.
+fn is_strange<D: Disks>(disks: &D, next: &Option<Event>) -> bool
+    ensures untold { result ≡ true → (D.view disks.now).told ≡ false }
+    ensures fits { result ≡ false → (D.view disks.now).told ≡ false → comes_plain next.now ≡ true }
+{
+    if disks.is_told() {
+        return false;
+    }
+    match next {
+        Some(event) => !is_plain(event),
+        None => false,
+    }
+}
+
 impl<S: Storage> Engine<S> {
     ghost use Rattle.salt_engine.specs.Serving.{GoesOnOut, GoesOnOver, IsToServeOver, PerformsOut, SendsBehind, SendsPerformed, SendsTurn, StaysServing, TurnsOut, TurnsOver};
 
@@ -80,15 +105,19 @@ impl<S: Storage> Engine<S> {
         requires callable { TakesEachKey (F.pre place.now.place) }
         requires answers { GivesPlaceOf (F.post place.now.place) }
         requires none { self.old.in_flight ≡ None }
-        requires ready { (s : State) × IsToServeOver S.holds S.is_new (D.view disks.old) self.old coming s }
+        requires able { S.able (D.view disks.old) self.old.storage }
+        requires ready { IsTrue (D.view disks.old).told → (s : State) × IsToServeOver S.holds S.is_new (D.view disks.old) self.old coming s }
+        ensures able { S.able (D.view disks.new) self.new.storage }
+        ensures plain { IfOk result (λ next. comes_plain next ≡ true) }
         ensures comes { PerformsOut S.holds S.is_new S.leaves S.fills (D.view disks.old) (D.view disks.new) coming self.old self.new result }
         ensures sent { OnOk result (SendsPerformed S.holds S.is_new S.asked S.net (D.view disks.old) coming self.old self.new) }
         ensures stays { StaysServing S.asked (D.view disks.old) (D.view disks.new) self.old self.new }
         ensures cause { HasCause (D.view disks.old) (D.view disks.new) (disk_err result) }
-        ensures still { coming ≡ Nothing → disks.new ≡ disks.old }
+        ensures still { coming ≡ Nothing → IsTrue (D.view disks.old).told → disks.new ≡ disks.old }
     {
+        self.storage.stands(disks);
         let Stage::Going(scheduler) = &mut self.stage else {
-            unreachable!()
+            return Err(self.storage.reject(disks));
         };
         let given = provide(
             self.alloc,
@@ -101,6 +130,9 @@ impl<S: Storage> Engine<S> {
         )?;
         self.storage.stands(disks);
         let next = take_up(scheduler, given)?;
+        if is_strange(disks, &next) {
+            return Err(self.storage.reject(disks));
+        }
         Ok(next)
     }
 
@@ -114,18 +146,20 @@ impl<S: Storage> Engine<S> {
         requires callable { TakesEachKey (F.pre place.now.place) }
         requires answers { GivesPlaceOf (F.post place.now.place) }
         requires none { self.old.in_flight ≡ None }
-        requires ready { (s : State) × GoesOnOver S.holds S.is_new (D.view disks.old) self.old line.now s }
+        requires able { S.able (D.view disks.old) self.old.storage }
+        requires ready { IsTrue (D.view disks.old).told → (s : State) × GoesOnOver S.holds S.is_new (D.view disks.old) self.old line.now s }
+        ensures able { S.able (D.view disks.new) self.new.storage }
+        ensures plain { IfOk result (λ next. comes_plain next ≡ true) }
         ensures comes { GoesOnOut S.holds S.is_new S.leaves S.fills (D.view disks.old) (D.view disks.new) line.now self.old self.new result }
         ensures sent { OnOk result (SendsBehind S.holds S.is_new S.asked S.net (D.view disks.old) line.now self.old self.new) }
         ensures stays { StaysServing S.asked (D.view disks.old) (D.view disks.new) self.old self.new }
         ensures cause { HasCause (D.view disks.old) (D.view disks.new) (disk_err result) }
-        ensures unarmed { IfOk result (λ next. armed_at line.now next ≡ []) }
         ensures still { (s : State) (r : WatchReading s.watch) → GoesOnOver S.holds S.is_new (D.view disks.old) self.old line.now s
-            → behind_in s r (follow_in self.old.stage) ≡ None → disks.new ≡ disks.old }
+            → behind_in s r (follow_in self.old.stage) ≡ None → IsTrue (D.view disks.old).told → disks.new ≡ disks.old }
     {
         self.storage.stands(disks);
         let Stage::Going(scheduler) = &mut self.stage else {
-            unreachable!()
+            return Err(self.storage.reject(disks));
         };
         let coming = scheduler.go_on(line)?;
         self.perform(disks, place, coming)
@@ -142,16 +176,18 @@ impl<S: Storage> Engine<S> {
         requires callable { TakesEachKey (F.pre place.now.place) }
         requires answers { GivesPlaceOf (F.post place.now.place) }
         requires none { self.old.in_flight ≡ None }
-        requires ready { (s : State) × TurnsOver S.holds S.is_new (D.view disks.old) self.old line.now base s }
+        requires able { S.able (D.view disks.old) self.old.storage }
+        requires ready { IsTrue (D.view disks.old).told → (s : State) × TurnsOver S.holds S.is_new (D.view disks.old) self.old line.now base s }
+        ensures able { S.able (D.view disks.new) self.new.storage }
+        ensures plain { IfOk result (λ next. comes_plain next ≡ true) }
         ensures comes { TurnsOut S.holds S.is_new S.leaves S.fills (D.view disks.old) (D.view disks.new) line.now base self.old self.new result }
         ensures sent { OnOk result (SendsTurn S.holds S.is_new S.asked S.net (D.view disks.old) line.now base self.old self.new) }
         ensures stays { StaysServing S.asked (D.view disks.old) (D.view disks.new) self.old self.new }
         ensures cause { HasCause (D.view disks.old) (D.view disks.new) (disk_err result) }
-        ensures unarmed { IfOk result (λ next. armed_at line.now next ≡ []) }
     {
         self.storage.stands(disks);
         let Stage::Going(scheduler) = &mut self.stage else {
-            unreachable!()
+            return Err(self.storage.reject(disks));
         };
         let coming = turn_to(scheduler, line, base)?;
         self.perform(disks, place, coming)

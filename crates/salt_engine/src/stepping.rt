@@ -14,7 +14,7 @@ ghost use Rattle.salt_storage.specs.Answers.{disk_err};
 ghost use Rattle.law_types.specs.Played.{HasKey};
 ghost use Rattle.salt_storage.specs.Staying.{StaysWithin};
 ghost use Rattle.salt_place.specs.Placement.{GivesPlaceOf, TakesEachKey};
-ghost use Rattle.std.specs.Prelude.{IfErr, None, OnOk, option_map, [], ◌++◌, ◌∷◌, ◌≡◌};
+ghost use Rattle.std.specs.Prelude.{IfErr, IsTrue, None, OnOk, option_map, [], ◌++◌, ◌∷◌, ◌≡◌};
 
 use crate::engine::Engine;
 use crate::lines::reject;
@@ -34,6 +34,8 @@ impl<S: Storage + Drop> Stepping for Engine<S> {
     ghost use Rattle.salt_engine.specs.Engines.{engine_stands_for_kept, engine_can_reopen, engine_stands_for};
     ghost use Rattle.salt_driver.specs.Devices.{on_devices};
     ghost use Rattle.salt_engine.specs.Netted.{CanReopenNet, AgreesWithNet};
+
+    ghost able = { λ d e. S.able d e.storage };
 
     ghost stands_for = { λ d e next s. engine_stands_for (S.holds d) (S.is_new d) d.can_stop e next s × AgreesWithNet (S.asked e.storage) (S.net e.storage) next s };
 
@@ -59,6 +61,7 @@ impl<S: Storage + Drop> Stepping for Engine<S> {
         read_lines_are_spelled();
         self.storage.stands(disks);
         self.single = is_statement_line(line);
+        self.in_flight = None;
         match self.ask_line(disks, place, line) {
             Ok(next) => Ok(next),
             Err(halt) => Err(self.stage.break_by(halt)),
@@ -73,7 +76,7 @@ impl<S: Storage + Drop> Stepping for Engine<S> {
         self.single = false;
         self.storage.stands(disks);
         let Stage::Going(scheduler) = &mut self.stage else {
-            unreachable!()
+            return Err(self.storage.reject(disks));
         };
         match reject(scheduler, refusal) {
             Ok(event) => Ok(Some(event)),
@@ -96,6 +99,7 @@ impl<S: Storage + Drop> Stepping for Engine<S> {
         base: Id,
     ) -> Result<Option<Event>, Halt> {
         self.storage.stands(disks);
+        self.in_flight = None;
         match self.turn_in_line(disks, place, line, base) {
             Ok(next) => Ok(next),
             Err(halt) => Err(self.stage.break_by(halt)),
@@ -123,6 +127,10 @@ impl<S: Storage + Drop> Stepping for Engine<S> {
         }
     }
 
+    fn reject<D: Disks>(&self, disks: &mut D) -> Halt {
+        self.storage.reject(disks)
+    }
+
     fn stands<D: Disks>(&self, disks: &D) {
         self.storage.stands(disks);
     }
@@ -132,7 +140,8 @@ impl<S: Storage + Drop> Engine<S> {
     /// It is given up where nothing is missing of the last line: the net that its commits have gone over since the last opening, where
     /// they go over messages.
     pub fn into_net<D: Disks>(self, disks: &D) -> Option<Net>
-        requires { (s : State) × ⟦<Engine<S> as Stepping>⟧.stands_for (D.view disks.now) self None s }
+        requires able { S.able (D.view disks.now) self.storage }
+        requires stands { IsTrue (D.view disks.now).told → (s : State) × ⟦<Engine<S> as Stepping>⟧.stands_for (D.view disks.now) self None s }
         ensures { (s : State) → ⟦<Engine<S> as Stepping>⟧.stands_for (D.view disks.now) self None s → result ≡ option_map (λ t. t.events) (net_told (S.asked self.storage) s.net) }
     {
         let Engine { storage, .. } = self;
@@ -152,10 +161,12 @@ impl<S: Storage + Drop> Engine<S> {
         requires answers { GivesPlaceOf (F.post place.now.place) }
         requires served { IsServed line.now }
         requires key { HasKey (Tree line.now) }
-        requires stands { (start : Start) × (trace : Trace) × ServesTrace (⟦<Engine<S> as Stepping>⟧.stands_for (D.view disks.old) self.old) start story.old trace }
+        requires able { S.able (D.view disks.old) self.old.storage }
+        requires stands { IsTrue (D.view disks.old).told → (start : Start) × (trace : Trace) × ServesTrace (⟦<Engine<S> as Stepping>⟧.stands_for (D.view disks.old) self.old) start story.old trace }
+        ensures able { S.able (D.view disks.new) self.new.storage }
         ensures segment { OnOk result (GoesOn (⟦<Engine<S> as Stepping>⟧.stands_for (D.view disks.old) self.old) (⟦<Engine<S> as Stepping>⟧.stands_for (D.view disks.new) self.new) story.old (Tree line.now) story.new) }
         ensures broken_off { IfErr result (λ halt. BreaksOff (⟦<Engine<S> as Stepping>⟧.stands_for (D.view disks.old) self.old) (⟦<Engine<S> as Stepping>⟧.on_devices (D.view disks.new) self.new) (flight_of self.new.in_flight) halt story.old (Tree line.now) story.new) }
-        ensures refused { (refusal : Refusal) → story.new ≡ story.old ++ Refused refusal ∷ [] → disks.new ≡ disks.old }
+        ensures refused { (refusal : Refusal) → story.new ≡ story.old ++ Refused refusal ∷ [] → IsTrue (D.view disks.old).told → disks.new ≡ disks.old }
         ensures within { StaysWithin (S.asked self.old.storage) (S.asked self.new.storage) (D.view disks.old) (D.view disks.new) }
         ensures counts { CountsMore line.now (D.view disks.old) (D.view disks.new) (disk_err result) None story.old story.new }
     {

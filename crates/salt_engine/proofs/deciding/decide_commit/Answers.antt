@@ -3,7 +3,6 @@ use Rattle.salt_engine.proofs.Netted.{commit-sent}
 use Rattle.salt_engine.proofs.Outcome.{by-err, not-ok}
 use Rattle.salt_engine.proofs.Committing.{commit-done, commit-may, commit-moves, commit-new, commit-undone}
 use Rattle.salt_engine.proofs.Decided.{undone-before}
-use Rattle.salt_books.proofs.Shown.{have-unit}
 use Rattle.salt_engine.proofs.deciding.decide_commit.Goals as goal
 use Rattle.law_states.specs.Told.{next_decision_number}
 use Rattle.salt_model.specs.Kept.{conts_committed}
@@ -12,18 +11,19 @@ use Rattle.std.proofs.Common.{ap, ◌∙◌}
 use Rattle.std.specs.Prelude.{Err}
 
 pub move_of_commit-requires : goal.move_of_commit-requires
-move_of_commit-requires g c = have-unit c.args.books.now c.requires.ready.0 c.args.unit c.requires.ready.1 c.requires.ready.2.books c.requires.ready.3
+move_of_commit-requires g c = c.requires.there
 
 pub commit-requires-clause-may : goal.commit-requires-clause-may
-commit-requires-clause-may g c =
+commit-requires-clause-may g c = λ told.
+    let ready = c.requires.ready told in
     let view = g.D.Disks.view c.args.disks.now in
     let holds = g.S.Storage.holds view c.args.storage.now in
     let is_new = g.S.Storage.is_new view c.args.storage.now in
     let x = c.args.books.now in
-    let s = c.requires.ready.0 in
-    let o = c.requires.ready.1 in
-    let b = c.requires.ready.2 in
-    let named = c.requires.ready.3 in
+    let s = ready.0 in
+    let o = ready.1 in
+    let b = ready.2 in
+    let named = ready.3 in
     let moves = commit-moves holds is_new x s o c.args.unit c.stands.ensures.sound named b c.in_ok-made.made c.in_ok-made.ensures in (
       s.kept,
       b.stored.holding,
@@ -35,15 +35,16 @@ commit-requires-clause-may g c =
     )
 
 pub commit-requires-clause-new : goal.commit-requires-clause-new
-commit-requires-clause-new g c =
+commit-requires-clause-new g c = λ told.
+    let ready = c.requires.ready told in
     let view = g.D.Disks.view c.args.disks.now in
     let holds = g.S.Storage.holds view c.args.storage.now in
     let is_new = g.S.Storage.is_new view c.args.storage.now in
     let x = c.args.books.now in
-    let s = c.requires.ready.0 in
-    let o = c.requires.ready.1 in
-    let b = c.requires.ready.2 in
-    let named = c.requires.ready.3 in
+    let s = ready.0 in
+    let o = ready.1 in
+    let b = ready.2 in
+    let named = ready.3 in
     let moves = commit-moves holds is_new x s o c.args.unit c.stands.ensures.sound named b c.in_ok-made.made c.in_ok-made.ensures in
     commit-new holds is_new x s o c.args.unit c.stands.ensures.sound named b c.decided_ends_may_be_kept.ensures.commit c.as_slice.result.now c.in_ok-made.made
     (c.as_slice.ensures.value ∙ c.in_ok-changes.ensures s o b.books named) moves
@@ -128,7 +129,7 @@ pub returns-clause-sent : goal.returns-clause-sent
 returns-clause-sent g c = λ s o b named.
     let view = g.D.Disks.view c.args.disks.now in
     commit-sent (g.S.Storage.holds view c.args.storage.now) (g.S.Storage.is_new view c.args.storage.now) c.args.books.now s o c.args.unit named (g.S.Storage.asked c.args.storage.now) _ _ b c.as_slice.result.now
-    (c.as_slice.ensures.value ∙ c.in_ok-changes.ensures s o b.books named) c.in_ok-number.ensures.net
+    (c.as_slice.ensures.value ∙ c.in_ok-changes.ensures s o b.books named) (c.in_ok-number.ensures.net s.kept b.stored.holding)
 
 pub returns-in_err-made-clause-sent : goal.returns-in_err-made-clause-sent
 returns-in_err-made-clause-sent g c = not-ok _ _ c.from_residual.result c.from_residual.ensures.1
@@ -138,3 +139,18 @@ returns-in_err-changes-clause-sent g c = not-ok _ _ c.from_residual-in_err-chang
 
 pub returns-in_err-number-clause-sent : goal.returns-in_err-number-clause-sent
 returns-in_err-number-clause-sent g c = not-ok _ _ c.from_residual-in_err-number.result c.from_residual-in_err-number.ensures.1
+
+pub commit-requires-clause-able : goal.commit-requires-clause-able
+commit-requires-clause-able g c = c.requires.able
+
+pub returns-clause-able : goal.returns-clause-able
+returns-clause-able g c = c.commit.ensures.able
+
+pub returns-in_err-number-clause-able : goal.returns-in_err-number-clause-able
+returns-in_err-number-clause-able g c = c.commit.ensures.able
+
+pub returns-in_err-made-clause-able : goal.returns-in_err-made-clause-able
+returns-in_err-made-clause-able g c = c.requires.able
+
+pub returns-in_err-changes-clause-able : goal.returns-in_err-changes-clause-able
+returns-in_err-changes-clause-able g c = c.requires.able

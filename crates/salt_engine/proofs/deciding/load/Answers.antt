@@ -1,7 +1,7 @@
 use Rattle.salt_engine.proofs.Counted.{cause-broken, same-cause}
 use Rattle.salt_engine.proofs.Outcome.{by-err, not-ok}
 use Rattle.salt_engine.proofs.Decided.{stored-still}
-use Rattle.salt_engine.proofs.Loading.{may-load, rows-keyed, rows-loaded, unloaded}
+use Rattle.salt_engine.proofs.Loading.{may-load, rows-loaded, unloaded}
 use Rattle.salt_engine.proofs.deciding.load.Goals as goal
 use Rattle.salt_books.specs.declared.known.Known.{Known}
 use Rattle.salt_storage.proofs.Staying.{stays-same}
@@ -9,10 +9,11 @@ use Rattle.std.proofs.Common.{ap, sym, ◌∙◌}
 use Rattle.std.specs.Prelude.{Err, Some}
 
 pub load-requires-clause-reach : goal.load-requires-clause-reach
-load-requires-clause-reach g c =
+load-requires-clause-reach g c = λ told.
+    let ready = c.requires.ready told in
     let view = g.D.Disks.view c.args.disks.now in
-    may-load (g.S.Storage.holds view c.args.storage.now) (g.S.Storage.is_new view c.args.storage.now) c.args.books.now c.args.asking.now c.requires.ready.0 c.requires.ready.1 c.get.result.now
-    c.requires.ready.2 c.requires.ready.3 (c.in-Some.is ∙ ap Some (sym c.get.ensures)) c.schema.result.now (c.schema.ensures ∙ ap (λ (x : Known). x.schema) c.known.ensures)
+    may-load (g.S.Storage.holds view c.args.storage.now) (g.S.Storage.is_new view c.args.storage.now) c.args.books.now c.args.asking.now ready.0 ready.1 c.get.result.now
+    ready.2 ready.3 (c.in-Some.is ∙ ap Some (sym c.get.ensures)) c.schema.result.now (c.schema.ensures ∙ ap (λ (x : Known). x.schema) c.known.ensures)
 
 pub returns-in_ok-rows-in-Some-clause-rows : goal.returns-in_ok-rows-in-Some-clause-rows
 returns-in_ok-rows-in-Some-clause-rows g c = λ s stored.
@@ -20,10 +21,7 @@ returns-in_ok-rows-in-Some-clause-rows g c = λ s stored.
     (c.in_ok-rows-in-Some.ensures.rows s.kept stored.holding)
 
 pub returns-in_ok-rows-in-Some-clause-keyed : goal.returns-in_ok-rows-in-Some-clause-keyed
-returns-in_ok-rows-in-Some-clause-keyed g c =
-    let k = c.requires.ready.0.kept in
-    let holding = c.requires.ready.2.stored.holding in
-    rows-keyed k c.get.result.now c.in_ok-rows-in-Some.rows (c.stands.ensures.sound k holding) c.len-count.ensures.ordered (c.in_ok-rows-in-Some.ensures.rows k holding)
+returns-in_ok-rows-in-Some-clause-keyed g c = c.in_ok-rows-in-Some.ensures.keyed
 
 pub returns-in_ok-rows-in-Some-clause-stored : goal.returns-in_ok-rows-in-Some-clause-stored
 returns-in_ok-rows-in-Some-clause-stored g c = λ s stored.
@@ -74,3 +72,15 @@ load-requires-clause-answers g c = c.requires.answers
 
 pub returns-in_err-rows-in-Some-clause-sent : goal.returns-in_err-rows-in-Some-clause-sent
 returns-in_err-rows-in-Some-clause-sent g c = not-ok _ _ c.from_residual.result c.from_residual.ensures.1
+
+pub returns-in_ok-rows-in-Some-clause-able : goal.returns-in_ok-rows-in-Some-clause-able
+returns-in_ok-rows-in-Some-clause-able g c = c.load.ensures.able
+
+pub returns-in_err-rows-in-Some-clause-able : goal.returns-in_err-rows-in-Some-clause-able
+returns-in_err-rows-in-Some-clause-able g c = c.load.ensures.able
+
+pub returns-in-None-clause-able : goal.returns-in-None-clause-able
+returns-in-None-clause-able g c = c.requires.able
+
+pub load-requires-clause-able : goal.load-requires-clause-able
+load-requires-clause-able g c = c.requires.able

@@ -3,10 +3,14 @@ use Rattle.salt_engine.proofs.Counted.{cause-broken, same-cause}
 use Rattle.salt_engine.proofs.Outcome.{by-err, not-ok}
 use Rattle.salt_engine.proofs.Netted.{meant-sent, plain-sent, sent-as}
 use Rattle.salt_engine.proofs.Providing.{act-asked, act-before, act-event, act-given, act-meant, act-undone, act-unit, asks-as, branch-before, branch-given, branch-undone, branch-unit, commit-before, commit-event, commit-given, commit-meant, commit-named, commit-undone, commit-unit, given-as, nothing-given, told-given, undone-as}
+use Rattle.salt_driver.proofs.Untold.{not-both}
+use Rattle.salt_engine.proofs.Doing.{comes-done}
+use Rattle.salt_engine.proofs.Untold.{held-untold, stored-held}
 use Rattle.salt_engine.proofs.given.provide.Goals as goal
+use Rattle.salt_engine.specs.Giving.{CanBeDone}
 use Rattle.salt_engine.specs.declared.given.Given.TheVariants as given
 use Rattle.salt_storage.proofs.Staying.{stays-same}
-use Rattle.std.proofs.Common.{refl, sym, ◌∙◌}
+use Rattle.std.proofs.Common.{refl, subst, sym, ◌∙◌}
 
 -- nothing is asked
 
@@ -40,14 +44,15 @@ pub load-requires-clause-answers : goal.load-requires-clause-answers
 load-requires-clause-answers g c = c.requires.answers
 
 pub load-requires-clause-ready : goal.load-requires-clause-ready
-load-requires-clause-ready g c =
+load-requires-clause-ready g c = λ told.
+    let ready = c.requires.ready told in
     let view = g.D.Disks.view c.args.disks.now in
     let holds = g.S.Storage.holds view c.args.storage.now in
     let is_new = g.S.Storage.is_new view c.args.storage.now in
     let x = c.args.books.now in
     let a = c.in-Act.asking in
-    let s = c.requires.ready.0 in
-    let h = asks-as holds is_new x c.args.coming (Act a) s c.in-Act.is c.requires.ready.1 in
+    let s = ready.0 in
+    let h = asks-as holds is_new x c.args.coming (Act a) s c.in-Act.is ready.1 in
     (s.units, act-unit holds is_new x a s h, act-before holds is_new x a s h, act-asked holds is_new x a s h)
 
 pub returns-in_ok-rows-in-Act-clause-given : goal.returns-in_ok-rows-in-Act-clause-given
@@ -66,7 +71,7 @@ pub returns-in_ok-rows-in-Act-clause-cause : goal.returns-in_ok-rows-in-Act-clau
 returns-in_ok-rows-in-Act-clause-cause g c = c.in_ok-rows-in-Act.ensures.cause
 
 pub returns-in_ok-rows-in-Act-clause-still : goal.returns-in_ok-rows-in-Act-clause-still
-returns-in_ok-rows-in-Act-clause-still g c = λ is. let no = sym is ∙ c.in-Act.is in cc
+returns-in_ok-rows-in-Act-clause-still g c = λ is told. let no = sym is ∙ c.in-Act.is in cc
 
 pub returns-in_err-rows-in-Act-clause-given : goal.returns-in_err-rows-in-Act-clause-given
 returns-in_err-rows-in-Act-clause-given g c = not-ok _ _ c.from_residual.result c.from_residual.ensures.1
@@ -87,7 +92,7 @@ pub returns-in_err-rows-in-Act-clause-cause : goal.returns-in_err-rows-in-Act-cl
 returns-in_err-rows-in-Act-clause-cause g c = cause-broken _ _ c.from_residual.result _ c.from_residual.ensures.1 c.in_err-rows-in-Act.ensures.cause
 
 pub returns-in_err-rows-in-Act-clause-still : goal.returns-in_err-rows-in-Act-clause-still
-returns-in_err-rows-in-Act-clause-still g c = λ is. let no = sym is ∙ c.in-Act.is in cc
+returns-in_err-rows-in-Act-clause-still g c = λ is told. let no = sym is ∙ c.in-Act.is in cc
 
 -- a commit
 
@@ -98,14 +103,15 @@ pub decide_commit-requires-clause-answers : goal.decide_commit-requires-clause-a
 decide_commit-requires-clause-answers g c = c.requires.answers
 
 pub decide_commit-requires-clause-ready : goal.decide_commit-requires-clause-ready
-decide_commit-requires-clause-ready g c =
+decide_commit-requires-clause-ready g c = λ told.
+    let ready = c.requires.ready told in
     let view = g.D.Disks.view c.args.disks.now in
     let holds = g.S.Storage.holds view c.args.storage.now in
     let is_new = g.S.Storage.is_new view c.args.storage.now in
     let x = c.args.books.now in
     let u = c.in-Commit.unit in
-    let s = c.requires.ready.0 in
-    let h = asks-as holds is_new x c.args.coming (Commit u) s c.in-Commit.is c.requires.ready.1 in
+    let s = ready.0 in
+    let h = asks-as holds is_new x c.args.coming (Commit u) s c.in-Commit.is ready.1 in
     (s.units, commit-unit holds is_new x u s h, commit-before holds is_new x u s h, commit-named holds is_new x u s h)
 
 pub returns-in_ok-decided-in-Commit-clause-given : goal.returns-in_ok-decided-in-Commit-clause-given
@@ -124,7 +130,7 @@ pub returns-in_ok-decided-in-Commit-clause-cause : goal.returns-in_ok-decided-in
 returns-in_ok-decided-in-Commit-clause-cause g c = c.in_ok-decided-in-Commit.ensures.cause
 
 pub returns-in_ok-decided-in-Commit-clause-still : goal.returns-in_ok-decided-in-Commit-clause-still
-returns-in_ok-decided-in-Commit-clause-still g c = λ is. let no = sym is ∙ c.in-Commit.is in cc
+returns-in_ok-decided-in-Commit-clause-still g c = λ is told. let no = sym is ∙ c.in-Commit.is in cc
 
 pub returns-in_err-decided-in-Commit-clause-given : goal.returns-in_err-decided-in-Commit-clause-given
 returns-in_err-decided-in-Commit-clause-given g c = not-ok _ _ c.from_residual-in_err-decided-in-Commit.result c.from_residual-in_err-decided-in-Commit.ensures.1
@@ -146,7 +152,7 @@ returns-in_err-decided-in-Commit-clause-cause g c =
     cause-broken _ _ c.from_residual-in_err-decided-in-Commit.result _ c.from_residual-in_err-decided-in-Commit.ensures.1 c.in_err-decided-in-Commit.ensures.cause
 
 pub returns-in_err-decided-in-Commit-clause-still : goal.returns-in_err-decided-in-Commit-clause-still
-returns-in_err-decided-in-Commit-clause-still g c = λ is. let no = sym is ∙ c.in-Commit.is in cc
+returns-in_err-decided-in-Commit-clause-still g c = λ is told. let no = sym is ∙ c.in-Commit.is in cc
 
 -- a branch
 
@@ -157,14 +163,15 @@ pub decide_branch-requires-clause-answers : goal.decide_branch-requires-clause-a
 decide_branch-requires-clause-answers g c = c.requires.answers
 
 pub decide_branch-requires-clause-ready : goal.decide_branch-requires-clause-ready
-decide_branch-requires-clause-ready g c =
+decide_branch-requires-clause-ready g c = λ told.
+    let ready = c.requires.ready told in
     let view = g.D.Disks.view c.args.disks.now in
     let holds = g.S.Storage.holds view c.args.storage.now in
     let is_new = g.S.Storage.is_new view c.args.storage.now in
     let x = c.args.books.now in
     let arm = c.in-Branch in
-    let s = c.requires.ready.0 in
-    let h = asks-as holds is_new x c.args.coming (Branch arm.unit arm.base arm.cause) s arm.is c.requires.ready.1 in
+    let s = ready.0 in
+    let h = asks-as holds is_new x c.args.coming (Branch arm.unit arm.base arm.cause) s arm.is ready.1 in
     (s.units, arm.base, arm.cause, branch-before holds is_new x arm.unit arm.base arm.cause s h, branch-unit holds is_new x arm.unit arm.base arm.cause s h)
 
 pub returns-in_ok-decided-in-Branch-clause-given : goal.returns-in_ok-decided-in-Branch-clause-given
@@ -186,7 +193,7 @@ pub returns-in_ok-decided-in-Branch-clause-cause : goal.returns-in_ok-decided-in
 returns-in_ok-decided-in-Branch-clause-cause g c = c.in_ok-decided-in-Branch.ensures.cause
 
 pub returns-in_ok-decided-in-Branch-clause-still : goal.returns-in_ok-decided-in-Branch-clause-still
-returns-in_ok-decided-in-Branch-clause-still g c = λ is. let no = sym is ∙ c.in-Branch.is in cc
+returns-in_ok-decided-in-Branch-clause-still g c = λ is told. let no = sym is ∙ c.in-Branch.is in cc
 
 pub returns-in_err-decided-in-Branch-clause-given : goal.returns-in_err-decided-in-Branch-clause-given
 returns-in_err-decided-in-Branch-clause-given g c = not-ok _ _ c.from_residual-in_err-decided-in-Branch.result c.from_residual-in_err-decided-in-Branch.ensures.1
@@ -211,7 +218,7 @@ returns-in_err-decided-in-Branch-clause-cause g c =
     cause-broken _ _ c.from_residual-in_err-decided-in-Branch.result _ c.from_residual-in_err-decided-in-Branch.ensures.1 c.in_err-decided-in-Branch.ensures.cause
 
 pub returns-in_err-decided-in-Branch-clause-still : goal.returns-in_err-decided-in-Branch-clause-still
-returns-in_err-decided-in-Branch-clause-still g c = λ is. let no = sym is ∙ c.in-Branch.is in cc
+returns-in_err-decided-in-Branch-clause-still g c = λ is told. let no = sym is ∙ c.in-Branch.is in cc
 
 -- WHAT WAS SENT
 
@@ -258,3 +265,91 @@ returns-in_ok-decided-in-Branch-clause-sent g c = λ s k.
 
 pub returns-in_err-decided-in-Branch-clause-sent : goal.returns-in_err-decided-in-Branch-clause-sent
 returns-in_err-decided-in-Branch-clause-sent g c = not-ok _ _ c.from_residual-in_err-decided-in-Branch.result c.from_residual-in_err-decided-in-Branch.ensures.1
+
+pub reject-requires-clause-untold : goal.reject-requires-clause-untold
+reject-requires-clause-untold g c = c.is_astray.ensures.untold c.if-is_astray.true
+
+pub reject-requires-clause-able : goal.reject-requires-clause-able
+reject-requires-clause-able g c = c.requires.able
+
+pub returns-then-is_astray-clause-able : goal.returns-then-is_astray-clause-able
+returns-then-is_astray-clause-able g c = c.reject.ensures.able
+
+pub returns-then-is_astray-clause-undone : goal.returns-then-is_astray-clause-undone
+returns-then-is_astray-clause-undone g c = λ s h.
+    let k = stored-held _ _ c.args.coming s h.stored in
+    absurd (held-untold _ (c.is_astray.ensures.untold c.if-is_astray.true) c.stands.ensures.told k.0 k.1)
+
+pub returns-then-is_astray-clause-within : goal.returns-then-is_astray-clause-within
+returns-then-is_astray-clause-within g c = c.reject.ensures.within
+
+pub returns-then-is_astray-clause-cause : goal.returns-then-is_astray-clause-cause
+returns-then-is_astray-clause-cause g c = c.reject.ensures.cause
+
+pub returns-then-is_astray-clause-still : goal.returns-then-is_astray-clause-still
+returns-then-is_astray-clause-still g c = λ is told. absurd (not-both (c.is_astray.ensures.untold c.if-is_astray.true) told)
+
+pub load-requires-clause-able : goal.load-requires-clause-able
+load-requires-clause-able g c = c.requires.able
+
+pub decide_commit-requires-clause-able : goal.decide_commit-requires-clause-able
+decide_commit-requires-clause-able g c = c.requires.able
+
+pub decide_branch-requires-clause-able : goal.decide_branch-requires-clause-able
+decide_branch-requires-clause-able g c = c.requires.able
+
+pub decide_commit-requires-clause-there : goal.decide_commit-requires-clause-there
+decide_commit-requires-clause-there g c = subst (CanBeDone c.args.books.now) c.in-Commit.is (comes-done _ _ _ c.args.books.now c.args.coming c.requires.ready (c.is_astray.ensures.fits c.if-is_astray.false))
+
+pub decide_branch-requires-clause-there : goal.decide_branch-requires-clause-there
+decide_branch-requires-clause-there g c = subst (CanBeDone c.args.books.now) c.in-Branch.is (comes-done _ _ _ c.args.books.now c.args.coming c.requires.ready (c.is_astray.ensures.fits c.if-is_astray.false))
+
+pub returns-in-Nothing-clause-able : goal.returns-in-Nothing-clause-able
+returns-in-Nothing-clause-able g c = c.requires.able
+
+pub returns-in-Told-clause-able : goal.returns-in-Told-clause-able
+returns-in-Told-clause-able g c = c.requires.able
+
+pub returns-in-Nothing-clause-taken : goal.returns-in-Nothing-clause-taken
+returns-in-Nothing-clause-taken g c = tt
+
+pub returns-in-Told-clause-taken : goal.returns-in-Told-clause-taken
+returns-in-Told-clause-taken g c = tt
+
+pub returns-in_ok-rows-in-Act-clause-able : goal.returns-in_ok-rows-in-Act-clause-able
+returns-in_ok-rows-in-Act-clause-able g c = c.load.ensures.able
+
+pub returns-in_err-rows-in-Act-clause-able : goal.returns-in_err-rows-in-Act-clause-able
+returns-in_err-rows-in-Act-clause-able g c = c.load.ensures.able
+
+pub returns-in_ok-rows-in-Act-clause-taken : goal.returns-in_ok-rows-in-Act-clause-taken
+returns-in_ok-rows-in-Act-clause-taken g c =
+    let d = subst (CanBeDone c.args.books.now) c.in-Act.is (comes-done _ _ _ c.args.books.now c.args.coming c.requires.ready (c.is_astray.ensures.fits c.if-is_astray.false)) in
+    (d.0, d.1, c.in_ok-rows-in-Act.ensures.keyed)
+
+pub returns-in_err-rows-in-Act-clause-taken : goal.returns-in_err-rows-in-Act-clause-taken
+returns-in_err-rows-in-Act-clause-taken g c = not-ok _ _ c.from_residual.result c.from_residual.ensures.1
+
+pub returns-in_ok-decided-in-Commit-clause-able : goal.returns-in_ok-decided-in-Commit-clause-able
+returns-in_ok-decided-in-Commit-clause-able g c = c.decide_commit.ensures.able
+
+pub returns-in_err-decided-in-Commit-clause-able : goal.returns-in_err-decided-in-Commit-clause-able
+returns-in_err-decided-in-Commit-clause-able g c = c.decide_commit.ensures.able
+
+pub returns-in_ok-decided-in-Commit-clause-taken : goal.returns-in_ok-decided-in-Commit-clause-taken
+returns-in_ok-decided-in-Commit-clause-taken g c = subst (CanBeDone c.args.books.now) c.in-Commit.is (comes-done _ _ _ c.args.books.now c.args.coming c.requires.ready (c.is_astray.ensures.fits c.if-is_astray.false))
+
+pub returns-in_err-decided-in-Commit-clause-taken : goal.returns-in_err-decided-in-Commit-clause-taken
+returns-in_err-decided-in-Commit-clause-taken g c = not-ok _ _ c.from_residual-in_err-decided-in-Commit.result c.from_residual-in_err-decided-in-Commit.ensures.1
+
+pub returns-in_ok-decided-in-Branch-clause-able : goal.returns-in_ok-decided-in-Branch-clause-able
+returns-in_ok-decided-in-Branch-clause-able g c = c.decide_branch.ensures.able
+
+pub returns-in_err-decided-in-Branch-clause-able : goal.returns-in_err-decided-in-Branch-clause-able
+returns-in_err-decided-in-Branch-clause-able g c = c.decide_branch.ensures.able
+
+pub returns-in_ok-decided-in-Branch-clause-taken : goal.returns-in_ok-decided-in-Branch-clause-taken
+returns-in_ok-decided-in-Branch-clause-taken g c = subst (CanBeDone c.args.books.now) c.in-Branch.is (comes-done _ _ _ c.args.books.now c.args.coming c.requires.ready (c.is_astray.ensures.fits c.if-is_astray.false))
+
+pub returns-in_err-decided-in-Branch-clause-taken : goal.returns-in_err-decided-in-Branch-clause-taken
+returns-in_err-decided-in-Branch-clause-taken g c = not-ok _ _ c.from_residual-in_err-decided-in-Branch.result c.from_residual-in_err-decided-in-Branch.ensures.1

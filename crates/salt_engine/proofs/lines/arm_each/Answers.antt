@@ -12,6 +12,7 @@ loop-pair-init g c = record {
   stops = sym (append-nil (g.D.Disks.view c.args.disks.now).armed);
   faults = refl;
   net = refl;
+  able = λ h. h;
   within = stays-same _ _;
 }
 
@@ -29,6 +30,7 @@ loop-pair-preserved g c =
       stops = armed-on _ _ _ c.args.pairs.now c.loop-pair.pair-index (0, 0) c.loop-pair-test.true i.stops c.in_ok-arm.ensures.ok;
       faults = c.arm.ensures.faults ∙ i.faults;
       net = c.arm.ensures.net ∙ i.net;
+      able = λ h. c.arm.ensures.able (i.able h);
       within = stays-behind i.within c.arm.ensures.within;
     }
 
@@ -42,3 +44,9 @@ returns-in_err-arm-clause-within g c = stays-behind c.loop-pair.invariant.within
 
 pub returns-in_err-arm-clause-net : goal.returns-in_err-arm-clause-net
 returns-in_err-arm-clause-net g c = c.arm.ensures.net ∙ c.loop-pair.invariant.net
+
+pub returns-clause-able : goal.returns-clause-able
+returns-clause-able g c = c.loop-pair.invariant.able
+
+pub returns-in_err-arm-clause-able : goal.returns-in_err-arm-clause-able
+returns-in_err-arm-clause-able g c = λ h. c.arm.ensures.able (c.loop-pair.invariant.able h)

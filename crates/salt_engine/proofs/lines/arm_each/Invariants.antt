@@ -12,5 +12,6 @@ invariant-loop-pair g l = record {
   stops : (g.D.Disks.view l.disks).armed ≡ (g.D.Disks.view l.fn.disks).armed ++ take l.pair-index l.pairs;
   faults : (g.D.Disks.view l.disks).faults ≡ (g.D.Disks.view l.fn.disks).faults;
   net : g.S.Storage.net l.storage ≡ g.S.Storage.net l.fn.storage;
+  able : g.S.Storage.able (g.D.Disks.view l.fn.disks) l.fn.storage → g.S.Storage.able (g.D.Disks.view l.disks) l.storage;
   within : StaysWithin (g.S.Storage.asked l.fn.storage) (g.S.Storage.asked l.storage) (g.D.Disks.view l.fn.disks) (g.D.Disks.view l.disks);
 }

@@ -1,6 +1,9 @@
-use Rattle.salt_engine.proofs.TakenUp.{act-asked, act-keys, act-stands, act-taken, act-there, act-unit, branch-stands, branch-there, branch-unit, can-take, commit-named, commit-stands, commit-taken, commit-there, commit-unit, nothing-taken, taken-as, told-taken}
+use Rattle.salt_engine.proofs.TakenUp.{act-asked, act-stands, act-taken, act-unit, branch-stands, branch-unit, commit-named, commit-stands, commit-taken, commit-unit, nothing-taken, taken-as, told-taken}
 use Rattle.salt_engine.proofs.serving.take_up.Goals as goal
+use Rattle.salt_engine.specs.Giving.{CanTake}
 use Rattle.salt_engine.specs.declared.given.Given.TheVariants.{Branched, Committed, Nothing, Rows, Told}
+use Rattle.salt_scheduler.specs.Standing.{books_of}
+use Rattle.std.proofs.Common.{subst}
 use Rattle.std.specs.Prelude.{None, Some}
 
 pub returns-in-Nothing : goal.returns-in-Nothing
@@ -13,25 +16,13 @@ returns-in-Told c = λ s.
     taken-as x x c.args.given (Told e) (Some e) s c.in-Told.is (told-taken x e s)
 
 pub done-requires-clause-there : goal.done-requires-clause-there
-done-requires-clause-there c =
-    let x = c.args.scheduler.now in
-    let a = c.in-Rows.asking in
-    let rows = c.in-Rows.rows in
-    let s = c.requires.0 in
-    act-there x a rows s (can-take x c.args.given (Rows a rows) s c.in-Rows.is c.requires.1)
+done-requires-clause-there c = (subst (CanTake (books_of c.args.scheduler.now)) c.in-Rows.is c.requires).0
 
 pub done-requires-clause-leaves_keys : goal.done-requires-clause-leaves_keys
-done-requires-clause-leaves_keys c =
-    let x = c.args.scheduler.now in
-    let a = c.in-Rows.asking in
-    let rows = c.in-Rows.rows in
-    let s = c.requires.0 in
-    act-keys x a rows s (can-take x c.args.given (Rows a rows) s c.in-Rows.is c.requires.1)
+done-requires-clause-leaves_keys c = (subst (CanTake (books_of c.args.scheduler.now)) c.in-Rows.is c.requires).1
 
 pub done-requires-clause-keyed : goal.done-requires-clause-keyed
-done-requires-clause-keyed c =
-    let s = c.requires.0 in
-    (can-take c.args.scheduler.now c.args.given (Rows c.in-Rows.asking c.in-Rows.rows) s c.in-Rows.is c.requires.1).fits.keyed
+done-requires-clause-keyed c = (subst (CanTake (books_of c.args.scheduler.now)) c.in-Rows.is c.requires).2
 
 pub returns-in_ok-event-in-Rows : goal.returns-in_ok-event-in-Rows
 returns-in_ok-event-in-Rows c = λ s.
@@ -45,13 +36,7 @@ returns-in_ok-event-in-Rows c = λ s.
     (c.in_ok-event-in-Rows.ensures s (act-unit x a rows s can) (act-stands x a rows s can) can.sound (act-asked x a rows s can) can.fits.loaded))
 
 pub committed-requires : goal.committed-requires
-committed-requires c =
-    let x = c.args.scheduler.now in
-    let u = c.in-Committed.unit in
-    let m = c.in-Committed.made in
-    let n = c.in-Committed.number in
-    let s = c.requires.0 in
-    commit-there x u m n s (can-take x c.args.given (Committed u m n) s c.in-Committed.is c.requires.1)
+committed-requires c = subst (CanTake (books_of c.args.scheduler.now)) c.in-Committed.is c.requires
 
 pub returns-in_ok-event-in-Committed : goal.returns-in_ok-event-in-Committed
 returns-in_ok-event-in-Committed c = λ s.
@@ -66,11 +51,7 @@ returns-in_ok-event-in-Committed c = λ s.
     (c.in_ok-event-in-Committed.ensures s (commit-unit x u m n s can) can.fits.3 (commit-stands x u m n s can) can.sound (commit-named x u m n s can) can.fits.2))
 
 pub branched-requires : goal.branched-requires
-branched-requires c =
-    let x = c.args.scheduler.now in
-    let arm = c.in-Branched in
-    let s = c.requires.0 in
-    branch-there x arm.unit arm.base arm.cause arm.made arm.number s (can-take x c.args.given (Branched arm.unit arm.base arm.cause arm.made arm.number) s arm.is c.requires.1)
+branched-requires c = subst (CanTake (books_of c.args.scheduler.now)) c.in-Branched.is c.requires
 
 pub returns-in_ok-event-in-Branched : goal.returns-in_ok-event-in-Branched
 returns-in_ok-event-in-Branched c = λ s.

@@ -2,11 +2,5 @@ use Rattle.salt_engine.proofs.serving.turn_to.Goals as goal
 use Rattle.law_states.specs.States.{turned_to}
 use Rattle.std.proofs.lemmas.Result.{IfOk-weaker}
 
-pub go-requires : goal.go-requires
-go-requires c =
-    let s = c.requires.0 in
-    let h = c.requires.1 in
-    (turned_to c.args.base s, c.in_ok-turn.ensures s h.stands h.turn, h.serves)
-
 pub returns : goal.returns
 returns c = IfOk-weaker c.go.result _ _ (λ coming b s r h. b (turned_to c.args.base s) r (c.in_ok-turn.ensures s h.stands h.turn) h.serves) c.go.ensures

@@ -3,22 +3,19 @@ use Rattle.salt_engine.proofs.Counted.{cause-lost, counts-broken, same-cause}
 use Rattle.salt_engine.proofs.InStage.{behind-lost, never-else, stands-there}
 use Rattle.salt_engine.proofs.LineAsked.{armed-none}
 use Rattle.salt_engine.proofs.LineChosen.{to-serve}
-use Rattle.salt_engine.proofs.Outcome.{comes-lost, comes-same, comes-unarmed, not-ok, on-ok, stays-same}
+use Rattle.salt_engine.proofs.Outcome.{comes-lost, comes-same, not-ok, on-ok, stays-same}
 use Rattle.salt_engine.proofs.Plain.{first-plain}
+use Rattle.salt_engine.proofs.Untold.{plain-of-segment, plain-unarmed-next, untold-by}
 use Rattle.salt_engine.proofs.engine.Engine.follow_line.Goals as goal
 use Rattle.law_states.specs.Readings.{clash_by, items_by}
 use Rattle.salt_scheduler.proofs.SoundFacts.{reads}
 use Rattle.salt_driver.proofs.Counted.{counts-cause}
-use Rattle.std.proofs.Common.{inl}
+use Rattle.std.proofs.Common.{inl, refl}
+use Rattle.std.proofs.lemmas.Result.{IfOk-weaker}
+use Rattle.std.specs.Prelude.{[]}
 
-pub unreachable-requires : goal.unreachable-requires
-unreachable-requires g c = never-else _ c.args.self.now.stage c.in_default.not-Going c.requires.ready.1
-
-pub first_of-requires-clause-plain : goal.first_of-requires-clause-plain
-first_of-requires-clause-plain g c = c.requires.plain
-
-pub first_of-requires-clause-allowed : goal.first_of-requires-clause-allowed
-first_of-requires-clause-allowed g c = let h = stands-there _ _ c.in-Going.scheduler c.in-Going.is c.requires.ready.1 in (c.requires.ready.0, h.stands, h.allowed)
+pub first_of-requires : goal.first_of-requires
+first_of-requires g c = c.requires.plain
 
 pub perform-requires-clause-callable : goal.perform-requires-clause-callable
 perform-requires-clause-callable g c = c.requires.callable
@@ -30,9 +27,10 @@ pub perform-requires-clause-none : goal.perform-requires-clause-none
 perform-requires-clause-none g c = c.requires.none
 
 pub perform-requires-clause-ready : goal.perform-requires-clause-ready
-perform-requires-clause-ready g c =
-    let s = c.requires.ready.0 in
-    let h = stands-there _ _ c.in-Going.scheduler c.in-Going.is c.requires.ready.1 in
+perform-requires-clause-ready g c = λ told.
+    let ready = c.requires.ready told in
+    let s = ready.0 in
+    let h = stands-there _ _ c.in-Going.scheduler c.in-Going.is ready.1 in
     let r = reads s h.allowed.serves.sound in (
       s,
       to-serve _ _ _ _ _ s (h.played r) h.allowed.serves.phase (first-plain s.units (clash_by s) (items_by s r) c.args.line.now c.requires.plain)
@@ -50,16 +48,7 @@ pub returns-clause-stays : goal.returns-clause-stays
 returns-clause-stays g c = c.perform.ensures.stays
 
 pub returns-clause-counts : goal.returns-clause-counts
-returns-clause-counts g c =
-    let s = c.requires.ready.0 in
-    let h = stands-there _ _ c.in-Going.scheduler c.in-Going.is c.requires.ready.1 in
-    let r = reads s h.allowed.serves.sound in
-    let plain = first-plain s.units (clash_by s) (items_by s r) c.args.line.now c.requires.plain in
-    let b = c.in_ok-coming.ensures s r h.stands h.allowed in
-    counts-cause _ _ _ _
-    (armed-none _ c.perform.result (comes-unarmed _ _ _ _ _ _ _ _ s c.perform.result plain
-    (comes-same _ _ _ _ _ _ _ _ s c.perform.result b.meant (c.perform.ensures.comes s (to-serve _ _ _ _ _ s (h.played r) h.allowed.serves.phase plain b h.stored)))))
-    c.perform.ensures.cause
+returns-clause-counts g c = counts-cause _ _ _ _ (armed-none _ c.perform.result (IfOk-weaker c.perform.result _ _ (λ next plain. plain-unarmed-next c.args.line.now next plain) c.perform.ensures.plain)) c.perform.ensures.cause
 
 pub returns-in_err-coming-clause-comes : goal.returns-in_err-coming-clause-comes
 returns-in_err-coming-clause-comes g c = λ s r k.
@@ -82,3 +71,36 @@ returns-clause-sent g c = on-ok c.perform.result _ _ (λ sent s r k.
 
 pub returns-in_err-coming-clause-sent : goal.returns-in_err-coming-clause-sent
 returns-in_err-coming-clause-sent g c = not-ok _ _ c.from_residual.result c.from_residual.ensures.1
+
+pub reject-requires-clause-untold : goal.reject-requires-clause-untold
+reject-requires-clause-untold g c = untold-by _ (λ told. never-else _ c.args.self.now.stage c.in_default.not-Going (c.requires.ready told).1)
+
+pub reject-requires-clause-able : goal.reject-requires-clause-able
+reject-requires-clause-able g c = c.requires.able
+
+pub returns-in_default-clause-comes : goal.returns-in_default-clause-comes
+returns-in_default-clause-comes g c = λ s r k. absurd (never-else _ c.args.self.now.stage c.in_default.not-Going k)
+
+pub returns-in_default-clause-stays : goal.returns-in_default-clause-stays
+returns-in_default-clause-stays g c = record { noted = refl; within = c.reject.ensures.within }
+
+pub returns-in_default-clause-counts : goal.returns-in_default-clause-counts
+returns-in_default-clause-counts g c = counts-cause _ _ _ [] refl c.reject.ensures.cause
+
+pub returns-in_default-clause-able : goal.returns-in_default-clause-able
+returns-in_default-clause-able g c = c.reject.ensures.able
+
+pub perform-requires-clause-able : goal.perform-requires-clause-able
+perform-requires-clause-able g c = c.requires.able
+
+pub returns-clause-able : goal.returns-clause-able
+returns-clause-able g c = c.perform.ensures.able
+
+pub returns-clause-plain : goal.returns-clause-plain
+returns-clause-plain g c = IfOk-weaker c.perform.result _ _ (λ next plain. plain-of-segment next plain) c.perform.ensures.plain
+
+pub returns-in_err-coming-clause-able : goal.returns-in_err-coming-clause-able
+returns-in_err-coming-clause-able g c = c.requires.able
+
+pub returns-in_err-coming-clause-plain : goal.returns-in_err-coming-clause-plain
+returns-in_err-coming-clause-plain g c = not-ok _ _ c.from_residual.result c.from_residual.ensures.1

@@ -18,13 +18,14 @@ pub ask_line-requires-clause-answers : goal.ask_line-requires-clause-answers
 ask_line-requires-clause-answers g c = c.requires.answers
 
 pub ask_line-requires-clause-none : goal.ask_line-requires-clause-none
-ask_line-requires-clause-none g c = flies-none c.args.self.now.in_flight c.requires.stands.0.state.units c.requires.stands.2.state.0.flies
+ask_line-requires-clause-none g c = refl
 
 pub ask_line-requires-clause-ready : goal.ask_line-requires-clause-ready
-ask_line-requires-clause-ready g c =
-    let p = c.requires.stands.0 in
-    let at = c.requires.stands.2 in
-    (p.state, to-ask _ _ _ _ _ _ c.args.line.now p c.requires.stands.1 at.idle c.requires.served c.read_lines_are_spelled.ensures.keys at.state.0, at.state.1.over)
+ask_line-requires-clause-ready g c = λ told.
+    let r = c.requires.stands told in
+    let p = r.0 in
+    let at = r.2 in
+    (p.state, to-ask _ _ _ _ _ _ c.args.line.now p r.1 at.idle c.requires.served c.read_lines_are_spelled.ensures.keys at.state.0, at.state.1.over)
 
 pub returns-in-Ok-clause-moves : goal.returns-in-Ok-clause-moves
 returns-in-Ok-clause-moves g c = λ p sound at.
@@ -55,3 +56,18 @@ returns-in-Err-clause-within g c = c.ask_line.ensures.stays.within
 
 pub returns-in-Err-clause-counts : goal.returns-in-Err-clause-counts
 returns-in-Err-clause-counts g c = counts-told _ _ c.in-Err.halt c.break_by.result _ c.break_by.ensures.halt c.in-Err.ensures.counts
+
+pub ask_line-requires-clause-served : goal.ask_line-requires-clause-served
+ask_line-requires-clause-served g c = c.requires.served
+
+pub ask_line-requires-clause-able : goal.ask_line-requires-clause-able
+ask_line-requires-clause-able g c = c.requires.able
+
+pub returns-in-Ok-clause-able : goal.returns-in-Ok-clause-able
+returns-in-Ok-clause-able g c = c.ask_line.ensures.able
+
+pub returns-in-Ok-clause-plain : goal.returns-in-Ok-clause-plain
+returns-in-Ok-clause-plain g c = c.in-Ok.ensures.plain
+
+pub returns-in-Err-clause-able : goal.returns-in-Err-clause-able
+returns-in-Err-clause-able g c = c.ask_line.ensures.able

@@ -1,3 +1,4 @@
+use Rattle.salt_engine.proofs.Stages.{held-at}
 use Rattle.salt_engine.proofs.Flying.{flies-none}
 use Rattle.salt_engine.proofs.Lying.{idle-lies}
 use Rattle.salt_engine.proofs.stepping.EngineStepping.stands.Goals as goal
@@ -15,3 +16,6 @@ returns-clause-reopens g c = λ room p lies. (lies.0.left, tt)
 
 pub returns-clause-told : goal.returns-clause-told
 returns-clause-told g c = λ numbers room p left. (left.0, tt)
+
+pub returns-clause-of_told : goal.returns-clause-of_told
+returns-clause-of_told g c = λ next s h. let k = held-at _ _ _ next s h.0.seen in c.stands.ensures.told k.0 k.1

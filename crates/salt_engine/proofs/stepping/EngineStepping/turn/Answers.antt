@@ -3,9 +3,9 @@ use Rattle.law_states.specs.States.{turned_to}
 use Rattle.salt_engine.proofs.Netted.{halts-there, lies-net, next-sent, turned-over}
 use Rattle.salt_engine.proofs.AskDone.{reads-here, to-turn, turned-fewer, turned-halts, turned-sees, turned-there}
 use Rattle.salt_engine.proofs.Counted.{cause-told}
-use Rattle.salt_engine.proofs.Flying.{flies-none}
 use Rattle.salt_engine.proofs.InStage.{broken-out}
 use Rattle.salt_engine.proofs.Stages.{held-now}
+use Rattle.salt_engine.proofs.Untold.{plain-of-segment, plain-unarmed-next}
 use Rattle.salt_engine.proofs.stepping.EngineStepping.turn.Goals as goal
 use Rattle.salt_driver.proofs.Counted.{counts-cause}
 use Rattle.std.proofs.Common.{[], inr, refl, ◌∙◌}
@@ -17,13 +17,14 @@ pub turn_in_line-requires-clause-answers : goal.turn_in_line-requires-clause-ans
 turn_in_line-requires-clause-answers g c = c.requires.answers
 
 pub turn_in_line-requires-clause-none : goal.turn_in_line-requires-clause-none
-turn_in_line-requires-clause-none g c = flies-none c.args.self.now.in_flight c.requires.stands.0.state.units c.requires.stands.2.state.0.flies
+turn_in_line-requires-clause-none g c = refl
 
 pub turn_in_line-requires-clause-ready : goal.turn_in_line-requires-clause-ready
-turn_in_line-requires-clause-ready g c =
-    let p = c.requires.stands.0 in
-    let at = c.requires.stands.2 in
-    (p.state, to-turn _ _ c.args.self.now.stage c.args.line.now c.args.base p c.requires.stands.1 at.serves at.line at.comes c.requires.stands.3 at.state.0.seen)
+turn_in_line-requires-clause-ready g c = λ told.
+    let r = c.requires.stands told in
+    let p = r.0 in
+    let at = r.2 in
+    (p.state, to-turn _ _ c.args.self.now.stage c.args.line.now c.args.base p r.1 at.serves at.line at.comes r.3 at.state.0.seen)
 
 pub returns-in-Ok-clause-moves : goal.returns-in-Ok-clause-moves
 returns-in-Ok-clause-moves g c = λ p sound at turn.
@@ -36,17 +37,18 @@ returns-in-Ok-clause-moves g c = λ p sound at turn.
     ) d.told
 
 pub returns-in-Ok-clause-fewer : goal.returns-in-Ok-clause-fewer
-returns-in-Ok-clause-fewer g c =
-    let p = c.requires.stands.0 in
-    let sound = c.requires.stands.1 in
-    let at = c.requires.stands.2 in
-    let turn = c.requires.stands.3 in
+returns-in-Ok-clause-fewer g c = λ told.
+    let w = c.requires.stands told in
+    let p = w.0 in
+    let sound = w.1 in
+    let at = w.2 in
+    let turn = w.3 in
     let r = reads-here p sound in
     let d = c.in-Ok.ensures.comes p.state r (to-turn _ _ c.args.self.now.stage c.args.line.now c.args.base p sound at.serves at.line at.comes turn at.state.0.seen) in
     turned-fewer _ _ _ _ _ _ c.args.base c.in-Ok.next p.state turn at.state.0.seen d.sees
 
 pub returns-in-Ok-clause-counts : goal.returns-in-Ok-clause-counts
-returns-in-Ok-clause-counts g c = counts-cause _ _ _ _ c.in-Ok.ensures.unarmed c.in-Ok.ensures.cause
+returns-in-Ok-clause-counts g c = counts-cause _ _ _ _ (plain-unarmed-next c.args.line.now c.in-Ok.next c.in-Ok.ensures.plain) c.in-Ok.ensures.cause
 
 pub returns-in-Ok-clause-within : goal.returns-in-Ok-clause-within
 returns-in-Ok-clause-within g c = c.turn_in_line.ensures.stays.within
@@ -64,3 +66,15 @@ returns-in-Err-clause-counts g c = counts-cause _ _ _ [] refl (cause-told _ _ c.
 
 pub returns-in-Err-clause-within : goal.returns-in-Err-clause-within
 returns-in-Err-clause-within g c = c.turn_in_line.ensures.stays.within
+
+pub turn_in_line-requires-clause-able : goal.turn_in_line-requires-clause-able
+turn_in_line-requires-clause-able g c = c.requires.able
+
+pub returns-in-Ok-clause-able : goal.returns-in-Ok-clause-able
+returns-in-Ok-clause-able g c = c.turn_in_line.ensures.able
+
+pub returns-in-Ok-clause-plain : goal.returns-in-Ok-clause-plain
+returns-in-Ok-clause-plain g c = plain-of-segment c.in-Ok.next c.in-Ok.ensures.plain
+
+pub returns-in-Err-clause-able : goal.returns-in-Err-clause-able
+returns-in-Err-clause-able g c = c.turn_in_line.ensures.able
