@@ -1,36 +1,19 @@
--- A run falls: the storage can be started again, and what it asks for to be found is there; and the tables that are known.
+-- The tables that are known, behind a fall and while lines are served.
 use Rattle.salt_ast.specs.declared.trees.TableDef.{TableDef}
 use Rattle.salt_books.specs.declared.books.Books.{Books}
-use Rattle.salt_database.proofs.Lying.{left-stops}
-use Rattle.salt_database.specs.Standing.{CanFind, opening_books}
-use Rattle.salt_engine.specs.Standing.{IsGoingStage, KnowsUnits, CanReopenAt, StandsAtEventIn, serving_books}
+use Rattle.salt_engine.specs.Standing.{CanReopenAt, StandsAtEventIn, serving_books}
 use Rattle.salt_engine.specs.declared.flights.InFlight.{InFlight}
 use Rattle.salt_engine.specs.declared.stage.Stage.{Stage}
 use Rattle.salt_engine.specs.declared.stage.Stage.TheVariants as at
-use Rattle.law_states.specs.OpenUnits.{UnitState}
 use Rattle.law_states.specs.Points.{Point}
 use Rattle.law_states.specs.States.{State}
 use Rattle.salt_model.specs.Kept.{Kept, schema_of}
-use Rattle.salt_drain.specs.declared.recovery.Recovery.{Recovery}
 use Rattle.salt_scheduler.specs.Standing.{books_of}
 use Rattle.salt_scheduler.specs.declared.scheduler.Scheduler.{Scheduler}
 use Rattle.salt_storage.specs.declared.found.Numbers.{Numbers}
 use Rattle.salt_values.specs.declared.id.Id.{Id}
 use Rattle.std.proofs.Common.{◌∙◌}
-use Rattle.std.specs.Prelude.{Bool, IsSome, List, None, Option, Some, refl, ℕ, ◌≡◌}
-
-pub down-finds : (settled : Type 0) (leaves : Kept → Kept → Type 0) (stage : Stage Recovery) (s : UnitState) → (IsGoingStage stage → ⊥) → KnowsUnits (opening_books stage) s → settled →
-    ((a b : Kept) × leaves a b) → CanFind settled leaves None stage
-down-finds settled leaves (at.Going x) s down k t h = absurd (down tt)
-down-finds settled leaves (at.Down books) s down k t h = (t, h)
-down-finds settled leaves at.Lost s down k t h = let none = k.1 in cc
-
--- a stop leaves something
-pub leaves-some : (holds : Kept → Type 0) (leaves : Kept → Kept → Type 0) (stoppable : Bool) (found : Option Numbers) (books : Option Books) (single : Bool) (in_flight : Option InFlight)
-    (room : ℕ) (p : Point) → ((k : Kept) → holds k → leaves k k) → CanReopenAt holds leaves stoppable found books single in_flight room p → (a b : Kept) × leaves a b
-leaves-some holds leaves stoppable found books single in_flight room p stays h =
-    let l = left-stops holds leaves (IsSome in_flight) found room p stays h.left in
-    (l.0, l.1, l.2)
+use Rattle.std.specs.Prelude.{Bool, List, None, Option, Some, refl, ℕ, ◌≡◌}
 
 -- THE TABLES, by what is answered where there are books
 

@@ -5,11 +5,12 @@ use Rattle.salt_database.proofs.Spent.{alone-by}
 use Rattle.salt_database.specs.Finding.{IsFoundAgain}
 use Rattle.salt_database.specs.Standing.{CanFind, IsFoundStage, opening_books}
 use Rattle.salt_engine.specs.Flights.{IsInFlight}
-use Rattle.salt_engine.specs.Standing.{IsBrokenStage, KnowsUnits, LeavesOnDevices, CanReopenAt}
+use Rattle.salt_engine.specs.Standing.{IsBrokenStage, IsGoingStage, KnowsUnits, LeavesOnDevices, CanReopenAt}
 use Rattle.salt_engine.specs.Stored.{IsAlone, IsLeft}
 use Rattle.salt_engine.specs.declared.flights.InFlight.{InFlight}
 use Rattle.salt_engine.specs.declared.stage.Stage.{Stage}
 use Rattle.salt_engine.specs.declared.stage.Stage.TheVariants as at
+use Rattle.law_states.specs.OpenUnits.{UnitState}
 use Rattle.law_states.specs.Points.{Point}
 use Rattle.salt_model.specs.Kept.{Kept}
 use Rattle.salt_drain.specs.declared.recovery.Recovery.{Recovery}
@@ -17,7 +18,7 @@ use Rattle.salt_storage.specs.Answers.{MayFail, numbers_told}
 use Rattle.salt_storage.specs.declared.found.Numbers.{Numbers}
 use Rattle.salt_storage.specs.OpenErr.{OpenErr}
 use Rattle.std.proofs.Common.{subst, sym, ◌∙◌}
-use Rattle.std.specs.Prelude.{Bool, Err, IfErr, IsSome, None, Ok, OnErr, OnOk, Option, Result, Some, refl, ℕ, ◌≡◌}
+use Rattle.std.specs.Prelude.{Bool, Err, IfErr, IsSome, IsTrue, None, Ok, OnErr, OnOk, Option, Result, Some, refl, ℕ, ◌≡◌}
 
 -- BEHIND A FALL
 
@@ -25,40 +26,30 @@ pub left-behind : (holds : Kept → Type 0) (leaves : Kept → Kept → Type 0) 
     (a b : Kept) × leaves a b × IsLeft doubt room p a × IsLeft doubt room p b
 left-behind holds leaves doubt found room p none h = subst (λ (f : Option Numbers). LeavesOnDevices holds leaves doubt f room p) none h
 
-broken-finds : (settled : Type 0) (leaves : Kept → Kept → Type 0) (stage : Stage Recovery) → CanFind settled leaves None stage → settled × ((a b : Kept) × leaves a b) × IsBrokenStage stage
-broken-finds settled leaves (at.Going x) h = absurd h
-broken-finds settled leaves (at.Down x) h = (h.0, h.1, tt)
-broken-finds settled leaves at.Lost h = absurd h
+pub can-find : (told : Bool) (settled : Type 0) (found : Option Numbers) (stage : Stage Recovery) → found ≡ None → CanFind told settled found stage → settled × (IsGoingStage stage → ⊥)
+can-find told settled found stage none h = subst (λ (f : Option Numbers). CanFind told settled f stage) none h
 
-pub can-find : (settled : Type 0) (leaves : Kept → Kept → Type 0) (found : Option Numbers) (stage : Stage Recovery) → found ≡ None → CanFind settled leaves found stage →
-    settled × ((a b : Kept) × leaves a b) × IsBrokenStage stage
-can-find settled leaves found stage none h = broken-finds settled leaves stage (subst (λ (f : Option Numbers). CanFind settled leaves f stage) none h)
-
-some-found : (settled : Type 0) (leaves : Kept → Kept → Type 0) (n : Numbers) (stage : Stage Recovery) → CanFind settled leaves (Some n) stage → IsFoundStage (Some n) stage
-some-found settled leaves n (at.Going x) h = absurd h
-some-found settled leaves n (at.Down x) h = tt
-some-found settled leaves n at.Lost h = absurd h
-
-pub was-found : (settled : Type 0) (leaves : Kept → Kept → Type 0) (found : Option Numbers) (n : Numbers) (stage : Stage Recovery) → found ≡ Some n → CanFind settled leaves found stage →
-    IsFoundStage found stage
-was-found settled leaves found n stage is h =
-    subst (λ (f : Option Numbers). IsFoundStage f stage) (sym is) (some-found settled leaves n stage (subst (λ (f : Option Numbers). CanFind settled leaves f stage) is h))
+pub was-found : (told : Bool) (settled : Type 0) (found : Option Numbers) (n : Numbers) (stage : Stage Recovery) → found ≡ Some n → CanFind told settled found stage → IsFoundStage told found stage
+was-found told settled found n stage is h =
+    subst (λ (f : Option Numbers). IsFoundStage told f stage) (sym is) (subst (λ (f : Option Numbers). CanFind told settled f stage) is h)
 
 -- what was found needs no looking for
-pub found-finds : (settled : Type 0) (leaves : Kept → Kept → Type 0) (found : Option Numbers) (stage : Stage Recovery) → IsFoundStage found stage → CanFind settled leaves found stage
-found-finds settled leaves (Some n) (at.Down x) h = tt
-found-finds settled leaves (Some n) (at.Going x) h = absurd h
-found-finds settled leaves (Some n) at.Lost h = absurd h
-found-finds settled leaves None stage h = absurd h
+pub found-finds : (told : Bool) (settled : Type 0) (found : Option Numbers) (stage : Stage Recovery) → IsFoundStage told found stage → CanFind told settled found stage
+found-finds told settled (Some n) stage h = h
+found-finds told settled None stage h = absurd h
 
-pub broken-books : (stage : Stage Recovery) → IsBrokenStage stage → (x : Books) × (stage ≡ at.Down x)
-broken-books (at.Going x) h = absurd h
-broken-books (at.Down x) h = (x, refl)
-broken-books at.Lost h = absurd h
+-- the books are there, of what does not go on
+pub broken-books : (stage : Stage Recovery) (s : UnitState) → (IsGoingStage stage → ⊥) → KnowsUnits (opening_books stage) s → (x : Books) × (stage ≡ at.Down x)
+broken-books (at.Going x) s down k = absurd (down tt)
+broken-books (at.Down x) s down k = (x, refl)
+broken-books at.Lost s down k = let none = k.1 in cc
 
-pub again-found : (holds : Kept → Type 0) (x : Books) (a b : Kept) (found : Option Numbers) (stage : Stage Recovery) → IsFoundAgain holds x a b found stage → IsFoundStage found stage
-again-found holds x a b found stage f =
-    subst (λ (n : Option Numbers). IsFoundStage n stage) (sym f.is) (subst (λ (s : Stage Recovery). IsFoundStage (Some f.numbers) s) (sym f.there) tt)
+pub broken-stage : (stage : Stage Recovery) (s : UnitState) → (IsGoingStage stage → ⊥) → KnowsUnits (opening_books stage) s → IsBrokenStage stage
+broken-stage stage s down k = subst IsBrokenStage (sym (broken-books stage s down k).1) tt
+
+pub again-found : (told : Bool) (found : Option Numbers) (stage : Stage Recovery) → IsSome found → (IsTrue told → IsBrokenStage stage) → IsFoundStage told found stage
+again-found told (Some n) stage some broken = broken
+again-found told None stage some broken = cc
 
 module _ (holds now : Kept → Type 0) (leaves again : Kept → Kept → Type 0) (old stoppable : Bool) (found later : Option Numbers) (stage after : Stage Recovery) (was single : Bool)
     (flew in_flight : Option InFlight) (unfound : found ≡ None) (stays : after ≡ stage) (room : ℕ) (p : Point)

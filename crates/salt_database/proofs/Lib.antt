@@ -5,6 +5,7 @@ pub mod Ends
 pub mod FallDone
 pub mod Falling
 pub mod FindDone
+pub mod Fitting
 pub mod Flown
 pub mod Found
 pub mod GoDone

@@ -122,9 +122,9 @@ goes-sent setup later net now e given meant p q t after moves asked told sent h 
 -- BROKEN OFF
 
 -- what was found was begun
-pub begun-found : (setup : Setup) (net : Option Turning) (numbers : Option Numbers) (stage : Stage Recovery) (s : State) → IsFoundStage numbers stage → CanReopenNet setup net numbers s → net ≡ net_begun setup
-begun-found setup net None stage s here h = absurd here
-begun-found setup net (Some n) stage s here h = h.begun
+pub begun-found : (told : Bool) (setup : Setup) (net : Option Turning) (numbers : Option Numbers) (stage : Stage Recovery) (s : State) → IsFoundStage told numbers stage → CanReopenNet setup net numbers s → net ≡ net_begun setup
+begun-found told setup net None stage s here h = absurd here
+begun-found told setup net (Some n) stage s here h = h.begun
 
 -- nothing is found
 pub unfound-lies : (was now : Setup) (net : Option Turning) (numbers : Option Numbers) (s : State) → numbers ≡ None → s.over_net ≡ was.over_net → now ≡ was → CanReopenNet now net numbers s

@@ -4,8 +4,6 @@ use Rattle.salt_database.proofs.Opened.{FoundAt, found-at, has-opened, opened-by
 use Rattle.salt_database.proofs.OpenedOn.{first-stored}
 use Rattle.salt_database.specs.Finding.{IsOpenedBy, IsOpeningWith}
 use Rattle.salt_database.specs.Standing.{IsFoundStage, OpensIn, opening_books}
-use Rattle.salt_disk.specs.Disks.{HasCause, View}
-use Rattle.salt_engine.proofs.Counted.{cause-lost}
 use Rattle.salt_engine.specs.Flights.{IsInFlight}
 use Rattle.salt_engine.specs.Standing.{IsBrokenStage, KnowUnits, KnowsUnits, LeavesOnDevices, CanReopenAt, AgreesWithState}
 use Rattle.salt_model.specs.Ends.{raised}
@@ -25,14 +23,13 @@ use Rattle.salt_drain.specs.declared.recovery.Recovery.{Recovery}
 use Rattle.salt_stands.specs.Stands.{are_spent}
 use Rattle.salt_driver.specs.Opening.{OpensAt}
 use Rattle.salt_driver.specs.Standing.{IsSoundPoint}
-use Rattle.salt_storage.specs.Answers.{disk_err, disk_err_of}
 use Rattle.salt_storage.specs.Storing.{booted}
 use Rattle.salt_storage.specs.declared.found.Numbers.{Numbers}
 use Rattle.salt_storage.specs.declared.halt.Halt.{Halt}
 use Rattle.salt_storage.specs.declared.halt.Halt.TheVariants.{DeviceFull, Memory}
 use Rattle.salt_values.specs.declared.id.Id.{Id}
 use Rattle.std.proofs.Common.{ap, arith, inl, inr, subst, sym, ◌∙◌}
-use Rattle.std.specs.Prelude.{Bool, Err, IfErr, IfOk, IsSome, List, None, Ok, OnOk, Option, Result, Some, [], false, refl, ℕ, ◌+◌, ◌++◌, ◌∷◌, ◌≡◌, ◌⊎◌}
+use Rattle.std.specs.Prelude.{Bool, Err, IfErr, IfOk, IsSome, IsTrue, List, None, Ok, OnErr, OnOk, Option, Result, Some, [], false, refl, ℕ, ◌+◌, ◌++◌, ◌∷◌, ◌≡◌, ◌⊎◌}
 
 -- the books that there are
 pub known-by : (books : Option Books) (x : Books) (s : UnitState) → books ≡ Some x → KnowsUnits books s → KnowUnits x s
@@ -43,15 +40,24 @@ known-by books x s e k =
 
 -- what was found
 
-pub found-broken : (found : Option Numbers) (stage : Stage Recovery) → IsFoundStage found stage → IsBrokenStage stage
-found-broken (Some n) (at.Down x) h = tt
-found-broken (Some n) (at.Going x) h = absurd h
-found-broken (Some n) at.Lost h = absurd h
-found-broken None stage h = absurd h
+pub found-broken : (told : Bool) (found : Option Numbers) (stage : Stage Recovery) → IsFoundStage told found stage → IsTrue told → IsBrokenStage stage
+found-broken told (Some n) stage h now = h now
+found-broken told None stage h now = absurd h
 
-pub never-found : (found : Option Numbers) (stage : Stage Recovery) → ((n : Numbers) → found ≡ Some n → ⊥) → IsFoundStage found stage → ⊥
-never-found None stage nowhere h = h
-never-found (Some n) stage nowhere h = nowhere n refl
+pub never-found : (told : Bool) (found : Option Numbers) (stage : Stage Recovery) → ((n : Numbers) → found ≡ Some n → ⊥) → IsFoundStage told found stage → ⊥
+never-found told None stage nowhere h = h
+never-found told (Some n) stage nowhere h = nowhere n refl
+
+pub broken-never : (stage : Stage Recovery) → IsBrokenStage stage → ((x : Books) → stage ≡ at.Down x → ⊥) → ⊥
+broken-never (at.Down x) h never = never x refl
+broken-never (at.Going x) h never = h
+broken-never at.Lost h never = h
+
+-- it is held
+pub found-held : (holds : Kept → Type 0) (leaves : Kept → Kept → Type 0) (stoppable : Bool) (found : Option Numbers) (books : Option Books) (single : Bool) (in_flight : Option InFlight)
+    (n : Numbers) (room : ℕ) (p : Point) → found ≡ Some n → CanReopenAt holds leaves stoppable found books single in_flight room p → (k : Kept) × holds k
+found-held holds leaves stoppable found books single in_flight n room p is lies =
+    let h = subst (λ (f : Option Numbers). LeavesOnDevices holds leaves (IsSome in_flight) f room p) is lies.left in (h.0, h.1)
 
 -- its numbers are not spent
 pub unspent : (n : Numbers) (k : Kept) → IsNumbered n k → are_spent k.boot k.decisions ≡ false
@@ -164,6 +170,10 @@ ok-with (Err e) P Q A f h a = tt
 pub never-full : {T : Type 0} (r : Result T Halt) (dev : ℕ) → IfErr r (λ h. h ≡ Memory) → r ≡ Err (DeviceFull dev) → ⊥
 never-full r dev h is = let memory : DeviceFull dev ≡ Memory = subst (λ (q : Result _ Halt). IfErr q (λ h. h ≡ Memory)) is h in cc
 
-pub memory-cause : {T : Type 0} (old new : View) (r : Result T Halt) → IfErr r (λ h. h ≡ Memory) → HasCause old new None → HasCause old new (disk_err r)
-memory-cause old new (Ok x) h cause = cause
-memory-cause old new (Err e) h cause = subst (λ (q : Halt). HasCause old new (Some (disk_err_of q))) (sym h) (cause-lost old new cause)
+pub ok-both : {T E : Type 0} (r : Result T E) (A B : Type 0) → OnOk r A → OnOk r B → OnOk r (A × B)
+ok-both (Ok x) A B a b = (a, b)
+ok-both (Err e) A B a b = tt
+
+pub err-with : {T E : Type 0} (r : Result T E) (P : E → Type 0) (A Q : Type 0) → ((e : E) → P e → A → Q) → IfErr r P → OnErr r A → OnErr r Q
+err-with (Ok x) P A Q f h a = tt
+err-with (Err e) P A Q f h a = f e h a

@@ -5,14 +5,19 @@ use Rattle.salt_books.specs.declared.coming.Coming.{Coming}
 use Rattle.salt_books.specs.declared.coming.Coming.TheVariants as coming
 use Rattle.salt_database.proofs.Draining.{can-drain}
 use Rattle.salt_database.proofs.Resting.{opening-plain}
-use Rattle.salt_database.specs.Performing.{GoesOnOpening, IsToOpen}
+use Rattle.salt_database.specs.Performing.{ComesInOpening, GoesOnOpening, IsToOpen}
+use Rattle.salt_database.specs.Standing.{OpensIn}
 use Rattle.salt_engine.proofs.Performed.{stored-plain}
 use Rattle.salt_engine.specs.Performing.{IsPlayedBefore, StoredAt, is_prepared}
+use Rattle.salt_engine.specs.declared.stage.Stage.{Stage}
+use Rattle.salt_engine.specs.declared.stage.Stage.TheVariants as at
+use Rattle.law_states.specs.Laws.{is_of_run}
 use Rattle.law_states.specs.States.{State}
 use Rattle.salt_model.specs.Kept.{Kept}
 use Rattle.salt_model.specs.Next.{flight}
 use Rattle.salt_model.specs.declared.events.Event.{Event}
-use Rattle.salt_model.specs.declared.events.Event.TheVariants.{Armed}
+use Rattle.salt_model.specs.declared.events.Why.{Why}
+use Rattle.salt_model.specs.declared.events.Event.TheVariants.{Armed, Down, Opened}
 use Rattle.law_openings.proofs.Resting.{never-rests}
 use Rattle.salt_drain.specs.Follows.{comes_behind}
 use Rattle.salt_drain.specs.Recovering as recovering
@@ -22,7 +27,7 @@ use Rattle.salt_driver.specs.Counting.{stops_armed}
 use Rattle.salt_storage.specs.Storing.{IsSoundKept}
 use Rattle.salt_values.specs.declared.id.Id.{Id}
 use Rattle.std.proofs.Common.{ap, subst, sym, ◌∙◌}
-use Rattle.std.specs.Prelude.{Err, IsSome, Ok, OnErr, Option, Result, Some, [], false, refl, ◌≡◌}
+use Rattle.std.specs.Prelude.{Err, IsSome, List, Ok, OnErr, Option, Result, Some, [], false, refl, ℕ, ◌≡◌}
 
 -- what holds whatever the error is
 pub on-err : {A H P : Type 0} (r : Result A H) → P → OnErr r P
@@ -65,3 +70,20 @@ plain-unarmed e h = refl
 
 pub meant-unarmed : (e : Event) (meant : Option Event) → Some e ≡ meant → is_prepared meant ≡ false → stops_armed Nothing e ≡ []
 meant-unarmed e meant told plain = plain-unarmed e (ap is_prepared told ∙ plain)
+
+-- whatever the disks tell
+
+pub comes-else : (e : Event) → ((pairs : List (ℕ × ℕ)) → e ≡ Armed pairs → ⊥) → ((why : Why) → e ≡ Down why → ⊥) → ((boot n : ℕ) → e ≡ Opened boot n → ⊥) → ComesInOpening e
+comes-else (Armed pairs) armed down opened = absurd (armed pairs refl)
+comes-else (Down why) armed down opened = absurd (down why refl)
+comes-else (Opened boot n) armed down opened = absurd (opened boot n refl)
+comes-else e armed down opened = (refl, refl)
+
+-- what was performed of what was no preparation
+pub done-comes : (e : Event) (meant : Option Event) → Some e ≡ meant → is_prepared meant ≡ false → is_of_run e ≡ false → ComesInOpening e
+done-comes e meant told plain run = (run, meant-unarmed e meant told plain)
+
+pub opens-run : (holds : Kept → Type 0) (is_new : Id → Type 0) (stage : Stage Recovery) (e : Event) (s : State) → OpensIn holds is_new stage (Some e) s → is_of_run e ≡ false
+opens-run holds is_new (at.Going x) e s h = h.1.plain
+opens-run holds is_new (at.Down books) e s h = absurd h
+opens-run holds is_new at.Lost e s h = absurd h

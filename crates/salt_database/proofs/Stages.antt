@@ -16,13 +16,18 @@ use Rattle.salt_model.specs.declared.events.Event.{Event}
 use Rattle.salt_drain.specs.Recovering as recovering
 use Rattle.salt_drain.specs.declared.recovery.Recovery.{Recovery}
 use Rattle.salt_values.specs.declared.id.Id.{Id}
-use Rattle.std.proofs.Common.{ap, subst, sym, ◌∙◌}
+use Rattle.std.proofs.Common.{ap, refl, subst, sym, ◌∙◌}
 use Rattle.std.specs.Prelude.{Option, Some, ◌≡◌}
 
 pub opens-now : (holds : Kept → Type 0) (is_new : Id → Type 0) (stage : Stage Recovery) (given : Option Event) (s : State) → OpensIn holds is_new stage given s → IsGoingStage stage
 opens-now holds is_new (at.Going x) given s h = tt
 opens-now holds is_new (at.Down books) given s h = absurd h
 opens-now holds is_new at.Lost given s h = absurd h
+
+pub never-going : (stage : Stage Recovery) → ((x : Recovery) → stage ≡ at.Going x → ⊥) → IsGoingStage stage → ⊥
+never-going (at.Going x) never h = never x refl
+never-going (at.Down books) never h = h
+never-going at.Lost never h = h
 
 -- by the stage that was taken out
 pub opened-at : (holds : Kept → Type 0) (is_new : Id → Type 0) (stage now : Stage Recovery) (given : Option Event) (s : State) → stage ≡ now → OpensIn holds is_new stage given s →

@@ -1,7 +1,6 @@
 -- What a recovery does with what was given for what is to come.
-use Rattle.salt_books.proofs.Shown.{have-unit}
 use Rattle.salt_books.specs.Asking.{IsAskedBy}
-use Rattle.salt_books.specs.Books.{AreBooks, HaveUnit, tables_in}
+use Rattle.salt_books.specs.Books.{AreBooks}
 use Rattle.salt_books.specs.Coming.{IsLaterUnit, event_meant}
 use Rattle.salt_books.specs.declared.asking.Asking.{Asking}
 use Rattle.salt_books.specs.declared.books.Books.{Books}
@@ -29,18 +28,16 @@ use Rattle.law_openings.specs.Draining.{statements_at}
 use Rattle.law_states.specs.OpenUnits.{OpenUnit, unit_named}
 use Rattle.law_states.specs.States.{State}
 use Rattle.law_states.specs.Told.{commits_in, does_in}
-use Rattle.salt_ast.specs.declared.trees.TableDef.{TableDef}
 use Rattle.salt_model.specs.Kept.{Kept}
 use Rattle.salt_model.specs.Next.{decision_in}
 use Rattle.salt_model.specs.declared.events.Cause.{Cause}
 use Rattle.salt_model.specs.declared.events.Event.{Event}
 use Rattle.salt_model.specs.declared.places.Place.{Place}
-use Rattle.salt_units.specs.Acting.{leaves_keys}
 use Rattle.salt_values.specs.declared.id.Id.{Id}
 use Rattle.salt_values.specs.declared.value.Value.{Value}
-use Rattle.std.proofs.Common.{ap, subst, sym}
+use Rattle.std.proofs.Common.{ap, subst, sym, ◌∙◌}
 use Rattle.std.specs.BTreeMap.{BTreeMap}
-use Rattle.std.specs.Prelude.{IsSome, List, None, Option, Some, refl, true, ℕ, ◌≡◌}
+use Rattle.std.specs.Prelude.{IsSome, List, None, Option, Some, refl, ℕ, ◌+◌, ◌≡◌}
 
 -- of what was given in other words
 pub can-take : (x : Recovery) (g h : Given) (s : State) → g ≡ h → CanTakeUp x g s → CanTakeUp x h s
@@ -60,6 +57,11 @@ steps-as x g h s old new is steps can = subst (λ (j : Given). MayStep (event_me
 none-some : (o : Option Event) → o ≡ None → IsSome o → ⊥
 none-some None is h = cc
 none-some (Some e) is h = cc
+
+pub never-some : (o n : Option Event) → o ≡ n → ((e : Event) → o ≡ Some e → ⊥) → IsSome n → ⊥
+never-some None None same never some = cc
+never-some None (Some e) same never some = cc
+never-some (Some e) n same never some = never e refl
 
 pub never-nothing : (x : Recovery) (g : Given) (s : State) → g ≡ given.Nothing → CanTakeUp x g s → ⊥
 never-nothing x g s is can = none-some (event_meant s.units coming.Nothing) refl (can-take x g given.Nothing s is can).comes
@@ -85,12 +87,6 @@ module _ (x : Recovery) (a : Asking) (rows : BTreeMap Place (List Value)) (s : S
   pub act-part : recovering.IsOfPart act-unit
   act-part = can.ready.1.2
 
-  pub act-there : HaveUnit (books_of x) a.unit
-  act-there = have-unit (books_of x) s.units a.unit act-unit act-stands.books act-asked.named
-
-  pub act-keys : leaves_keys (tables_in (books_of x)) a.statement ≡ true
-  act-keys = subst (λ (schema : List TableDef). leaves_keys schema a.statement ≡ true) (sym act-stands.books.known.schema) can.fits.leaves
-
   act-meant : event_meant s.units (coming.Act a) ≡ Some (does_in s.units act-unit a.statement)
   act-meant = acts-meant s.units a act-unit act-asked
 
@@ -114,9 +110,6 @@ module _ (x : Recovery) (u : Id) (m : Move) (n : ℕ) (s : State) (can : CanTake
   pub commit-named : unit_named u s.units.units ≡ Some commit-unit
   commit-named = can.fits.1
 
-  pub commit-there : HaveUnit (books_of x) u
-  commit-there = have-unit (books_of x) s.units u commit-unit commit-stands.books commit-named
-
   pub commit-taken : (y : Recovery) (next : Option Event) → recovering.AnswersWith s (Some (commits_in s.units commit-unit)) y next →
       recovering.AnswersWith s (event_meant s.units (coming.Commit u)) y next
   commit-taken y next =
@@ -131,8 +124,9 @@ module _ (x : Recovery) (u base : Id) (cause : Cause) (m : Move) (n : ℕ) (s : 
   abbrev pub branch-unit : IsLaterUnit s.units u base
   branch-unit = can.fits.0
 
-  pub branch-there : HaveUnit (books_of x) u
-  branch-there = have-unit (books_of x) s.units u branch-unit.unit branch-stands.books branch-unit.named
+-- the steps of what was given, by the event that was told
+pub ticks-as : (given meant : Option Event) (n old new : ℕ) → given ≡ meant → statements_at meant ≡ n → new ≡ old + n → new ≡ old + statements_at given
+ticks-as given meant n old new told is ticks = ticks ∙ ap (λ k. old + k) (sym is ∙ ap statements_at (sym told))
 
 -- OVER A STORAGE
 
@@ -169,6 +163,12 @@ module _ (holds : Kept → Type 0) (is_new : Id → Type 0) (x : Recovery) (c : 
     where
       meant : event_meant s.units c ≡ Some e
       meant = sym (subst (λ (d : Coming). Some e ≡ event_meant s.units d) p.same taken.told)
+
+  -- what was given is something
+  pub taken-some : (now : Kept → Type 0) (new_now : Id → Type 0) (in_flight : Option InFlight) (g : Given) (y : Recovery) (next : Option Event) →
+      IsGiven now new_now in_flight c g s → recovering.AnswersWith s (event_meant s.units (coming_of g)) y next → IsSome next
+  taken-some now new_now in_flight g y next p taken =
+      subst (λ (o : Option Event). IsSome o) (sym taken.told) (subst (λ (d : Coming). IsSome (event_meant s.units d)) (sym p.same) h.comes)
 
   -- the steps for it
   pub taken-steps : (now : Kept → Type 0) (new_now : Id → Type 0) (in_flight : Option InFlight) (g : Given) (old new : ℕ) → IsGiven now new_now in_flight c g s →

@@ -1,10 +1,11 @@
 -- What the storage holds is found, and a boot begins over it.
 use Rattle.salt_ast.specs.declared.lines.Line.{Line}
-use Rattle.salt_books.specs.Books.{AreBooks}
+use Rattle.salt_books.specs.Books.{AreBooks, HaveUnit, programs_in, tables_in}
 use Rattle.salt_books.specs.declared.books.Books.{Books}
 use Rattle.salt_engine.specs.Flights.{IsInFlight}
 use Rattle.salt_engine.specs.Standing.{KnowUnits}
 use Rattle.salt_engine.specs.Stored.{IsEither, IsNumbered}
+use Rattle.salt_engine.specs.declared.flights.InFlight.TheVariants.{Branch, Commit, Program, Table}
 use Rattle.salt_engine.specs.declared.flights.InFlight.{InFlight}
 use Rattle.salt_engine.specs.declared.stage.Stage.{Stage}
 use Rattle.salt_engine.specs.declared.stage.Stage.TheVariants.{Down, Going}
@@ -22,9 +23,11 @@ use Rattle.salt_model.specs.declared.events.Event.TheVariants.{Opened}
 use Rattle.salt_drain.specs.Follows.{rest_in}
 use Rattle.salt_drain.specs.Recovering as recovering
 use Rattle.salt_drain.specs.declared.recovery.Recovery.{Recovery}
+use Rattle.salt_program.specs.Refusals.{parts_in, program_refusal}
+use Rattle.salt_schema.specs.Refusals.{table_refusal}
 use Rattle.salt_storage.specs.Storing.{IsSoundKept}
 use Rattle.salt_storage.specs.declared.found.Numbers.{Numbers}
-use Rattle.std.specs.Prelude.{Bool, IsSome, None, Option, Some, [], false, true, ℕ, ◌+◌, ◌<◌, ◌≡◌, ◌⊎◌}
+use Rattle.std.specs.Prelude.{Bool, IsSome, None, Option, Some, [], false, length, true, ℕ, ⊤, ◌+◌, ◌<◌, ◌^◌, ◌≡◌, ◌⊎◌}
 
 -- nothing is open over what is kept; openings may be early, or not
 abbrev pub HaveNothingOpen : Bool → Books → Kept → Type 0
@@ -79,6 +82,14 @@ pub record IsOpenedBy (x : Books) (single : Bool) (in_flight : Option InFlight) 
   pub sound : IsSound (trace says Opened boot number)
   pub may_be_kept : IsSoundKept old.units.kept
   pub above : old.units.kept.boot < boot
+
+-- whatever the disks tell, what was in flight can be told over these books: its unit is open, or what it defines is not refused
+abbrev pub CanFly : Books → Option InFlight → Type 0
+CanFly x (Some (Commit u)) = HaveUnit x u
+CanFly x (Some (Branch u b cause)) = HaveUnit x u
+CanFly x (Some (Table d text)) = table_refusal (tables_in x) d ≡ None
+CanFly x (Some (Program p text)) = (length (parts_in p.body) < 2 ^ 32) × (program_refusal (tables_in x) (programs_in x) p ≡ None)
+CanFly x None = ⊤
 
 -- a recovery in an opening of what may be kept
 pub record Rests (x : Recovery) (s : State) : Type 0 where

@@ -41,6 +41,11 @@ abbrev pub next_of : Onward → Option Event
 next_of (Next e) = Some e
 next_of (Served x) = None
 
+-- this is so of it
+abbrev pub IfNext : Onward → (Event → Type 0) → Type 0
+IfNext (Next e) is_so = is_so e
+IfNext (Served x) is_so = ⊤
+
 -- with what it gives behind an event it stands at this point: it goes on, or lines are served by a half in memory
 abbrev pub IsOnward : {S : Type 0} → (holds : S → Kept → Type 0) (is_new : S → Id → Type 0) → Bool → Opening S → Onward → Point → Type 0
 IsOnward holds is_new stoppable o (Next e) p = IsOpeningAt (opening_stands_for holds is_new stoppable o) (Some e) p

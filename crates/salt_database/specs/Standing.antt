@@ -2,10 +2,10 @@
 use Rattle.salt_books.specs.Books.{AreBooks, boot_in, conts_in, programs_in, units_in}
 use Rattle.salt_books.specs.declared.books.Books.{Books}
 use Rattle.salt_engine.specs.Resuming.{GoesOnBehindEarly}
-use Rattle.salt_engine.specs.Standing.{books_in}
+use Rattle.salt_engine.specs.Standing.{IsBrokenStage, IsGoingStage, books_in}
 use Rattle.salt_engine.specs.Stored.{Stored}
 use Rattle.salt_engine.specs.declared.stage.Stage.{Stage}
-use Rattle.salt_engine.specs.declared.stage.Stage.TheVariants.{Down, Going}
+use Rattle.salt_engine.specs.declared.stage.Stage.TheVariants.{Going}
 use Rattle.law_states.specs.States.{State}
 use Rattle.law_states.specs.Watches.{empty_watch}
 use Rattle.salt_model.specs.Kept.{Kept}
@@ -19,7 +19,7 @@ use Rattle.salt_drain.specs.declared.recovery.Recovery.{Recovery}
 use Rattle.salt_storage.specs.declared.found.Numbers.{Numbers}
 use Rattle.salt_values.specs.declared.id.Id.{Id}
 use Rattle.std.specs.List.{filter}
-use Rattle.std.specs.Prelude.{Bool, None, Option, Some, [], false, length, true, ℕ, ⊤, ◌*◌, ◌+◌, ◌-◌, ◌≡◌}
+use Rattle.std.specs.Prelude.{Bool, IsTrue, None, Option, Some, [], false, length, true, ℕ, ◌*◌, ◌+◌, ◌-◌, ◌≡◌}
 
 -- the books of an opening that is done: behind its Ready nothing is open, `go all` has nothing left to turn to, and nothing is watched
 pub record AreOpened (x : Books) (s : State) : Type 0 where
@@ -38,20 +38,19 @@ abbrev pub OpensIn : (holds : Kept → Type 0) (is_new : Id → Type 0) → Stag
 OpensIn holds is_new (Going x) (Some e) s = (t : State) × recovering.HasDoneEvent x e s t × Stored holds is_new t.units × (s.units.phase ≡ phases.Opening)
 OpensIn holds is_new stage next s = ⊥
 
--- what the storage holds is found, and no boot has begun over it
-abbrev pub IsFoundStage : Option Numbers → Stage Recovery → Type 0
-IsFoundStage (Some n) (Down x) = ⊤
-IsFoundStage found stage = ⊥
+-- what the storage holds is found, and no boot has begun over it; where the disks tell, the books are there
+abbrev pub IsFoundStage : (told : Bool) → Option Numbers → Stage Recovery → Type 0
+IsFoundStage told (Some n) stage = IsTrue told → IsBrokenStage stage
+IsFoundStage told None stage = ⊥
 
 -- the books that it has
 abbrev pub opening_books : Stage Recovery → Option Books
 opening_books stage = books_in recovering.books_of stage
 
--- for it to be opened: what the storage holds is found, or it was broken off, and a stop has left something there
-abbrev pub CanFind : (settled : Type 0) (leaves : Kept → Kept → Type 0) → Option Numbers → Stage Recovery → Type 0
-CanFind settled leaves (Some n) (Down x) = ⊤
-CanFind settled leaves None (Down x) = settled × ((a b : Kept) × leaves a b)
-CanFind settled leaves found stage = ⊥
+-- for it to be opened: what the storage holds is found, or it was broken off, and can be looked for
+abbrev pub CanFind : (told : Bool) (settled : Type 0) → Option Numbers → Stage Recovery → Type 0
+CanFind told settled (Some n) stage = IsTrue told → IsBrokenStage stage
+CanFind told settled None stage = settled × (IsGoingStage stage → ⊥)
 
 -- WHAT IS STILL TO COME.
 

@@ -7,6 +7,7 @@ ghost use Rattle.std.specs.Prelude.{[], ⊤, ◌≡◌};
 
 use crate::onward::Onward;
 use crate::opening::Opening;
+use crate::reopening::strayed;
 use salt_ast::Line;
 use salt_disk::Disks;
 use salt_driver::{Openable, Stepping};
@@ -72,6 +73,8 @@ impl<S: Storage + Drop> Stepping for Database<S> {
     ghost use Rattle.salt_driver.specs.Devices.{on_devices};
     ghost use Rattle.salt_database.specs.Halves.{IfEither, by_half, database_flight, database_fresh, database_stands_for_kept, database_can_reopen, database_net, database_stands_for, no_setup};
 
+    ghost able = { λ d x. IfEither (λ o. S.able d o.storage) (λ e. S.able d (engine_storage e)) x };
+
     ghost stands_for = { λ d x next s. database_stands_for (S.holds d) (S.is_new d) d.can_stop x next s × database_net S.asked S.net x next s };
 
     ghost on_devices = { λ d x. on_devices (λ room p. database_can_reopen (S.holds d) (S.leaves d) d.can_stop x room p × database_fresh S.asked S.net x p.state)
@@ -96,7 +99,8 @@ impl<S: Storage + Drop> Stepping for Database<S> {
     ) -> Result<Option<Event>, Halt> {
         match self {
             Database::Open(engine) => engine.ask(disks, place, line),
-            _ => unreachable!(),
+            Database::Closed(opening) => Err(opening.storage.reject(disks)),
+            Database::Moving => unreachable!(),
         }
     }
 
@@ -107,7 +111,8 @@ impl<S: Storage + Drop> Stepping for Database<S> {
     ) -> Result<Option<Event>, Halt> {
         match self {
             Database::Open(engine) => engine.ask_rejected(disks, refusal),
-            _ => unreachable!(),
+            Database::Closed(opening) => Err(opening.storage.reject(disks)),
+            Database::Moving => unreachable!(),
         }
     }
 
@@ -127,7 +132,8 @@ impl<S: Storage + Drop> Stepping for Database<S> {
     ) -> Result<Option<Event>, Halt> {
         match self {
             Database::Open(engine) => engine.turn(disks, place, line, base),
-            _ => unreachable!(),
+            Database::Closed(opening) => Err(opening.storage.reject(disks)),
+            Database::Moving => unreachable!(),
         }
     }
 
@@ -141,7 +147,16 @@ impl<S: Storage + Drop> Stepping for Database<S> {
     ) -> Result<Option<Event>, Halt> {
         match self {
             Database::Open(engine) => engine.say(disks, place, line, event, story),
-            _ => unreachable!(),
+            Database::Closed(opening) => Err(strayed(&opening.storage, disks, event, story)),
+            Database::Moving => unreachable!(),
+        }
+    }
+
+    fn reject<D: Disks>(&self, disks: &mut D) -> Halt {
+        match self {
+            Database::Closed(opening) => opening.storage.reject(disks),
+            Database::Open(engine) => engine.reject(disks),
+            Database::Moving => unreachable!(),
         }
     }
 
@@ -157,9 +172,9 @@ impl<S: Storage + Drop> Stepping for Database<S> {
 impl<S: Storage + Drop> Openable for Database<S> {
     ghost use Rattle.salt_database.specs.Halves.{IfClosed, by_half};
 
-    ghost is_found = { λ d x. IfClosed (λ o. IsFoundStage o.found o.stage) x };
+    ghost is_found = { λ d x. IfClosed (λ o. IsFoundStage d.told o.found o.stage) x };
 
-    ghost settled = { λ d x. IfClosed (λ o. CanFind (S.settled d o.storage) (S.leaves d o.storage) o.found o.stage) x };
+    ghost settled = { λ d x. IfClosed (λ o. CanFind d.told (S.settled d o.storage) o.found o.stage) x };
 
     ghost to_open = { λ x next. by_half (λ o. left_in o.stage next) (λ e. 0) 0 x };
 
@@ -189,6 +204,10 @@ impl<S: Storage + Drop> Openable for Database<S> {
         story: &mut Story,
         steps: &mut Steps<L>,
     ) -> Result<Option<Event>, Halt> {
+        let Database::Closed(_) = self else {
+            story.push(event)?;
+            return Err(self.reject(disks));
+        };
         let mut opening = mem::replace(self, Database::Moving).closed();
         match opening.go_on(disks, place, event, story, steps) {
             Ok(Onward::Served(scheduler)) => {

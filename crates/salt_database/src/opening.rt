@@ -8,7 +8,7 @@ ghost use Rattle.salt_model.specs.Kept.{Kept};
 ghost use Rattle.salt_scheduler.specs.Standing.{StandsForState};
 ghost use Rattle.salt_stands.specs.Stands.{are_spent};
 ghost use Rattle.salt_storage.specs.Storing.{IsFound, IsSoundKept};
-ghost use Rattle.std.specs.Prelude.{None, false, ◌≡◌};
+ghost use Rattle.std.specs.Prelude.{Bool, None, false, ◌≡◌};
 
 use salt_books::{Books, Known};
 use salt_drain::Recovery;
@@ -52,7 +52,7 @@ impl<S: Drop> Opening<S> {
         requires unspent { are_spent found.boot found.decisions ≡ false }
         requires sound { (k : Kept) × IsFound found k × IsSoundKept k }
         ensures storage { result.storage ≡ storage }
-        ensures found { IsFoundStage result.found result.stage }
+        ensures found { (told : Bool) → IsFoundStage told result.found result.stage }
         ensures is_new { (k : Kept) → IsFound found k → IsSoundKept k → IsNew early k result.found result.stage result.single result.in_flight }
     {
         let Found {

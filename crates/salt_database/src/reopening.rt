@@ -1,9 +1,9 @@
 //! What an opening does, as its moves from point to point.
 
-ghost use Rattle.salt_ast.specs.declared.lines.Line.TheVariants.{Nothing};
 ghost use Rattle.salt_books.specs.Books.{tables_in};
 ghost use Rattle.salt_books.specs.declared.books.Books.{Books};
 ghost use Rattle.salt_database.specs.Standing.{CanFind, IsFoundStage, ServesBehind, ends_opening, left_in, opening_books};
+ghost use Rattle.salt_disk.specs.Disks.{HasCause};
 ghost use Rattle.salt_engine.specs.Flights.{flight_of};
 ghost use Rattle.salt_engine.specs.Standing.{IsGoingStage, KnowUnits, KnowsUnits};
 ghost use Rattle.law_states.specs.OpenUnits.{UnitState};
@@ -12,18 +12,20 @@ ghost use Rattle.law_states.specs.Steps.{units_after};
 ghost use Rattle.salt_model.specs.declared.events.Event.{Event};
 ghost use Rattle.salt_model.specs.declared.events.Why.{Why};
 ghost use Rattle.law_openings.specs.Draining.{statements_at};
-ghost use Rattle.salt_driver.specs.Counting.{CountsStops, armed_at, stops_armed};
+ghost use Rattle.salt_driver.specs.Counting.{CountsStops};
 ghost use Rattle.salt_driver.specs.Draining.{MayTick};
 ghost use Rattle.salt_driver.specs.Opening.{IsFallenFrom, MayFailAt, OpensAt};
-ghost use Rattle.salt_driver.specs.Standing.{IsSoundPoint};
+ghost use Rattle.salt_driver.specs.Standing.{IsSoundPoint, WasTold};
+ghost use Rattle.law_states.specs.Laws.{is_of_run};
+ghost use Rattle.salt_database.specs.Performing.{ComesInOpening};
 ghost use Rattle.salt_scheduler.specs.Standing.{StandsForState};
-ghost use Rattle.salt_storage.specs.Answers.{disk_err, numbers_told, open_disk_err};
+ghost use Rattle.salt_storage.specs.Answers.{IsLater, disk_err, disk_err_of, numbers_told, open_disk_err};
 ghost use Rattle.salt_storage.specs.Staying.{StaysWithin};
-ghost use Rattle.salt_storage.specs.Writing.{OfBoot};
+ghost use Rattle.salt_storage.specs.Writing.{OfBoot, OfOpening};
 ghost use Rattle.salt_storage.specs.declared.halt.Halt.TheVariants.{DeviceFull, Memory};
 ghost use Rattle.salt_storage.specs.OpenErr.{OpenErr};
 ghost use Rattle.salt_place.specs.Placement.{GivesPlaceOf, TakesEachKey};
-ghost use Rattle.std.specs.Prelude.{Err, IfErr, IfOk, None, OnErr, OnOk, Some, ℕ, [], true, ◌++◌, ◌+◌, ◌<◌, ◌∷◌, ◌≡◌};
+ghost use Rattle.std.specs.Prelude.{Err, IfErr, IfOk, IsTrue, None, OnErr, OnOk, Some, false, ℕ, [], true, ◌++◌, ◌+◌, ◌<◌, ◌∷◌, ◌≡◌};
 
 use crate::onward::Onward;
 use crate::opening::Opening;
@@ -101,8 +103,28 @@ fn fallen(stage: Stage<Recovery>) -> Stage<Recovery>
     }
 }
 
+/// An event is told that fits nothing, over disks that tell nothing: a fault is counted, and nothing comes behind it.
+pub(crate) fn strayed<S: Storage, D: Disks>(
+    storage: &S,
+    disks: &mut D,
+    event: Event,
+    story: &mut Story,
+) -> Halt
+    requires untold { (D.view disks.old).told ≡ false }
+    requires able { S.able (D.view disks.old) storage.now }
+    ensures able { S.able (D.view disks.new) storage.now }
+    ensures broken { WasTold result event story.old story.new }
+    ensures within { StaysWithin (S.asked storage.now) (S.asked storage.now) (D.view disks.old) (D.view disks.new) }
+    ensures cause { HasCause (D.view disks.old) (D.view disks.new) (Some (disk_err_of result)) }
+{
+    match story.push(event) {
+        Ok(()) => storage.reject(disks),
+        Err(_) => Halt::Memory,
+    }
+}
+
 impl<S: Storage + Drop> Opening<S> {
-    ghost use Rattle.salt_database.specs.Halves.{next_of};
+    ghost use Rattle.salt_database.specs.Halves.{IfNext, next_of};
     ghost use Rattle.salt_database.specs.Openings.{BreaksOver, CanOpenAt, IsFallen, IsLeftAt, IsOpeningOver, MovesOn, StandsForOver, SendsOnward, StaysBegun, WhereFallen, WhereOpening};
 
     /// Finds behind a fall what its devices stand for. What is found already is not looked for again.
@@ -113,13 +135,17 @@ impl<S: Storage + Drop> Opening<S> {
     ) -> Result<(), OpenErr>
         requires callable { TakesEachKey (F.pre place.now.place) }
         requires answers { GivesPlaceOf (F.post place.now.place) }
-        requires settled { CanFind (S.settled (D.view disks.old) self.old.storage) (S.leaves (D.view disks.old) self.old.storage) self.old.found self.old.stage }
-        ensures found { OnOk result (IsFoundStage self.new.found self.new.stage) }
+        requires able { S.able (D.view disks.old) self.old.storage }
+        requires settled { CanFind (D.view disks.old).told (S.settled (D.view disks.old) self.old.storage) self.old.found self.old.stage }
+        requires down { IsTrue (D.view disks.old).told → IsFallen S.holds S.leaves (D.view disks.old) self.old }
+        ensures able { S.able (D.view disks.new) self.new.storage }
+        ensures found { OnOk result (IsFoundStage (D.view disks.new).told self.new.found self.new.stage) }
         ensures again { (result ≡ Err OpenErr.Memory → ⊥) → WhereFallen S.holds S.leaves (D.view disks.old) self.old (CanOpenAt S.holds S.leaves (D.view disks.new) self.new) }
         ensures stands { WhereFallen S.holds S.leaves (D.view disks.old) self.old (IsLeftAt S.holds S.leaves S.rests (D.view disks.new) self.new (numbers_told result)) }
         ensures later { IfErr result (λ e. WhereFallen S.holds S.leaves (D.view disks.old) self.old (λ room p. MayFailAt room p e)) }
+        ensures late { IfErr result IsLater }
         ensures flies { flight_of self.new.in_flight ≡ flight_of self.old.in_flight }
-        ensures full { (dev : ℕ) → result ≡ Err (OpenErr.Full dev) → ⊥ }
+        ensures full { (dev : ℕ) → result ≡ Err (OpenErr.Full dev) → S.fills (D.view disks.new) self.new.storage OfOpening dev }
         ensures begun { StaysBegun S.asked S.net self.old self.new }
         ensures within { StaysWithin (S.asked self.old.storage) (S.asked self.new.storage) (D.view disks.old) (D.view disks.new) }
         ensures counts { CountsStops (D.view disks.old) (D.view disks.new) (open_disk_err result) [] 0 }
@@ -133,8 +159,10 @@ impl<S: Storage + Drop> Opening<S> {
     /// Opens over what it has found, and tells that it has: a new boot begins. It gives the first event of the opening. An error leaves
     /// the story as it was.
     pub(crate) fn open<D: Disks>(&mut self, disks: &mut D, story: &mut Story) -> Result<Event, Halt>
-        requires found { IsFoundStage self.old.found self.old.stage }
-        requires down { IsFallen S.holds S.leaves (D.view disks.old) self.old }
+        requires found { IsFoundStage (D.view disks.old).told self.old.found self.old.stage }
+        requires able { S.able (D.view disks.old) self.old.storage }
+        requires down { IsTrue (D.view disks.old).told → IsFallen S.holds S.leaves (D.view disks.old) self.old }
+        ensures able { S.able (D.view disks.new) self.new.storage }
         ensures opens { IfOk result (λ next. WhereFallen S.holds S.leaves (D.view disks.old) self.old
             (λ room p. OpensAt (StandsForOver S.holds S.is_new (D.view disks.new) self.new) room p story.old next story.new)) }
         ensures reopens { IfErr result (λ halt. (halt ≡ Memory → ⊥) → WhereFallen S.holds S.leaves (D.view disks.old) self.old
@@ -143,22 +171,27 @@ impl<S: Storage + Drop> Opening<S> {
             (λ room p. IsLeftAt S.holds S.leaves S.rests (D.view disks.new) self.new None (room + 1) p)) }
         ensures flies { OnErr result (flight_of self.new.in_flight ≡ flight_of self.old.in_flight) }
         ensures untold { OnErr result (story.new ≡ story.old) }
+        ensures tells { OnOk result ((boot : ℕ) × (number : ℕ) × (story.new ≡ story.old ++ Event.Opened boot number ∷ [])) }
+        ensures plain { IfOk result ComesInOpening }
         ensures full { (dev : ℕ) → result ≡ Err (DeviceFull dev) → S.fills (D.view disks.new) self.new.storage OfBoot dev }
         ensures sent { OnOk result (S.net self.new.storage ≡ S.net self.old.storage) }
         ensures unfound { self.new.found ≡ None }
         ensures within { StaysWithin (S.asked self.old.storage) (S.asked self.new.storage) (D.view disks.old) (D.view disks.new) }
-        ensures unarmed { IfOk result (λ next. stops_armed Nothing next ≡ []) }
         ensures counts { CountsStops (D.view disks.old) (D.view disks.new) (disk_err result) [] 0 }
     {
         let Some(numbers) = self.found else {
             unreachable!()
         };
         self.found = None;
+        let Stage::Down(_) = &self.stage else {
+            self.storage.stands(disks);
+            return Err(self.storage.reject(disks));
+        };
         let books = mem::replace(&mut self.stage, Stage::Lost).down();
         match self.storage.boot(disks) {
             Ok(boot) => {
                 self.storage.stands(disks);
-                self.open_boot(books, boot, numbers.decisions, story)
+                self.open_boot(disks, books, boot, numbers.decisions, story)
             }
             Err(halt) => {
                 self.stage = Stage::Down(books);
@@ -179,21 +212,28 @@ impl<S: Storage + Drop> Opening<S> {
     ) -> Result<Onward, Halt>
         requires callable { TakesEachKey (F.pre place.now.place) }
         requires answers { GivesPlaceOf (F.post place.now.place) }
-        requires stands { (p : Point) × IsSoundPoint p × IsOpeningOver S.holds S.is_new (D.view disks.old) self.old event p }
+        requires able { S.able (D.view disks.old) self.old.storage }
+        requires plain { is_of_run event ≡ false }
+        requires stands { IsTrue (D.view disks.old).told → (p : Point) × IsSoundPoint p × IsOpeningOver S.holds S.is_new (D.view disks.old) self.old event p }
+        ensures able { S.able (D.view disks.new) self.new.storage }
+        ensures plain { IfOk result (λ onward. IfNext onward ComesInOpening) }
+        ensures broken { IfErr result (λ halt. WasTold halt event story.old story.new) }
         ensures moves { IfOk result (λ onward. WhereOpening S.holds S.is_new (D.view disks.old) self.old event (MovesOn S.holds S.is_new (D.view disks.new) self.new event onward)) }
         ensures tells { OnOk result (story.new ≡ story.old ++ event ∷ []) }
         ensures halts { IfErr result (λ halt. WhereOpening S.holds S.is_new (D.view disks.old) self.old event
             (BreaksOver S.holds S.leaves S.rests S.fills (D.view disks.new) self.new halt event story.old story.new)) }
-        ensures ticks { IfOk result (λ onward. steps.new ≡ steps.old + statements_at (next_of onward)) }
+        ensures ticks { IfOk result (λ onward. WhereOpening S.holds S.is_new (D.view disks.old) self.old event (λ p. steps.new ≡ steps.old + statements_at (next_of onward))) }
         ensures short { OnErr result (WhereOpening S.holds S.is_new (D.view disks.old) self.old event (λ p. MayTick p event story.old story.new steps.old steps.new)) }
-        ensures less { IfOk result (λ onward. left_in self.new.stage (next_of onward) < left_in self.old.stage (Some event)) }
+        ensures less { IfOk result (λ onward. IsTrue (D.view disks.old).told → left_in self.new.stage (next_of onward) < left_in self.old.stage (Some event)) }
         ensures sent { IfOk result (SendsOnward S.holds S.is_new S.asked S.net (D.view disks.old) self.old self.new event) }
         ensures unfound { self.new.found ≡ self.old.found }
         ensures within { StaysWithin (S.asked self.old.storage) (S.asked self.new.storage) (D.view disks.old) (D.view disks.new) }
-        ensures unarmed { IfOk result (λ onward. armed_at Nothing (next_of onward) ≡ []) }
         ensures counts { CountsStops (D.view disks.old) (D.view disks.new) (disk_err result) [] 0 }
     {
         self.storage.stands(disks);
+        let Stage::Going(_) = &self.stage else {
+            return Err(strayed(&self.storage, disks, event, story));
+        };
         let recovery = mem::replace(&mut self.stage, Stage::Lost).going();
         if ends_opening(&event) {
             let scheduler = end(self.alloc, recovery.into_books(), event, story)?;
@@ -208,10 +248,11 @@ impl<S: Storage + Drop> Opening<S> {
 
     /// Falls: the devices are started again.
     pub(crate) fn fall<D: Disks>(&mut self, disks: &mut D)
-        requires { (room : ℕ) × ((p : Point) × CanOpenAt S.holds S.leaves (D.view disks.old) self.old room p) }
+        requires { S.able (D.view disks.old) self.old.storage }
+        ensures able { S.able (D.view disks.new) self.new.storage }
         ensures reopens { (room : ℕ) (p q : Point) → CanOpenAt S.holds S.leaves (D.view disks.old) self.old room p → IsFallenFrom p q
             → CanOpenAt S.holds S.leaves (D.view disks.new) self.new room q }
-        ensures settled { CanFind (S.settled (D.view disks.new) self.new.storage) (S.leaves (D.view disks.new) self.new.storage) self.new.found self.new.stage }
+        ensures settled { CanFind (D.view disks.new).told (S.settled (D.view disks.new) self.new.storage) self.new.found self.new.stage }
         ensures flies { flight_of self.new.in_flight ≡ flight_of self.old.in_flight }
         ensures unfound { self.new.found ≡ None }
         ensures within { StaysWithin (S.asked self.old.storage) (S.asked self.new.storage) (D.view disks.old) (D.view disks.new) }

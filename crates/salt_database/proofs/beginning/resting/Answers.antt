@@ -5,14 +5,12 @@ use Rattle.salt_drain.specs.Follows.{rest_in}
 use Rattle.salt_drain.specs.Recovering.{AnswersWithComing}
 use Rattle.std.proofs.Common.{subst}
 
-pub unreachable-requires : goal.unreachable-requires
-unreachable-requires c =
-    let s = c.requires.0 in
-    let r = c.requires.1 in
-    let told = told-event c.in_ok-coming.coming (rest-told s c.opened.new.self c.in_ok-coming.coming (c.in_ok-coming.ensures s r.stands r.recovers) r.comes) in
-    c.in_default.not-Told told.0 told.1
+pub returns-in-Told : goal.returns-in-Told
+returns-in-Told c = λ s r.
+    let b = subst (λ (x : Coming). AnswersWithComing s (rest_in s.units) c.opened.new.self x) c.in-Told.is (c.in_ok-coming.ensures s r.stands r.recovers) in
+    record { told = b.meant; done = b.ready.0 }
 
 pub returns : goal.returns
 returns c = λ s r.
-    let b = subst (λ (x : Coming). AnswersWithComing s (rest_in s.units) c.opened.new.self x) c.in-Told.is (c.in_ok-coming.ensures s r.stands r.recovers) in
-    record { told = b.meant; done = b.ready.0 }
+    let told = told-event c.in_ok-coming.coming (rest-told s c.opened.new.self c.in_ok-coming.coming (c.in_ok-coming.ensures s r.stands r.recovers) r.comes) in
+    absurd (c.in_default.not-Told told.0 told.1)

@@ -1,14 +1,13 @@
-use Rattle.salt_database.proofs.Halved.{left-by, left-within}
+use Rattle.salt_database.proofs.Halved.{has-made, left-by, left-has, left-within}
 use Rattle.salt_database.proofs.Netted.{unfound-lies}
 use Rattle.salt_database.proofs.database.DatabaseOpenable.fall.Goals as goal
-use Rattle.salt_database.specs.Halves.{IsLeftBy}
-use Rattle.std.proofs.Common.{subst, ◌∙◌}
+use Rattle.salt_database.specs.Halves.{IsLeftBy, IsMade}
+use Rattle.std.proofs.Common.{subst, sym, ◌∙◌}
 
 pub fall-requires : goal.fall-requires
 fall-requires g c =
-    let l = c.requires in
-    let left = subst (λ x. IsLeftBy x c.into_opening-opening.result) c.replace.ensures.value c.into_opening-opening.ensures in
-    (l.0, (l.1.0, (left-by g.S.Storage.asked g.S.Storage.net _ _ _ l.0 l.1.0 c.args.self.now _ left l.1.1).0))
+    left-has (g.S.Storage.able (g.D.Disks.view c.args.disks.now)) c.args.self.now c.into_opening-opening.result
+    (subst (λ x. IsLeftBy x c.into_opening-opening.result) c.replace.ensures.value c.into_opening-opening.ensures) c.requires
 
 pub returns-clause-reopens : goal.returns-clause-reopens
 returns-clause-reopens g c = λ room p q lies fell.
@@ -32,3 +31,9 @@ returns-clause-stops g c = c.fall.ensures.stops
 
 pub returns-clause-settled : goal.returns-clause-settled
 returns-clause-settled g c = c.fall.ensures.settled
+
+pub into_opening-opening-requires : goal.into_opening-opening-requires
+into_opening-opening-requires g c = subst IsMade (sym c.replace.ensures.value) (has-made _ _ c.args.self.now c.requires)
+
+pub returns-clause-able : goal.returns-clause-able
+returns-clause-able g c = c.fall.ensures.able

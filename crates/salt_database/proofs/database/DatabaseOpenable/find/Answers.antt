@@ -1,4 +1,7 @@
-use Rattle.salt_database.proofs.Halved.{closed-lies, half-within}
+use Rattle.std.proofs.Common.{subst}
+use Rattle.salt_database.specs.Standing.{CanFind}
+use Rattle.salt_database.specs.Halves.{IfClosed}
+use Rattle.salt_database.proofs.Halved.{closed-has, closed-lies, half-within}
 use Rattle.salt_database.proofs.database.DatabaseOpenable.find.Goals as goal
 use Rattle.std.proofs.lemmas.Result.{IfErr-weaker}
 
@@ -32,3 +35,20 @@ returns-clause-full g c = c.find.ensures.full
 
 pub returns-clause-found : goal.returns-clause-found
 returns-clause-found g c = c.find.ensures.found
+
+pub find-requires-clause-able : goal.find-requires-clause-able
+find-requires-clause-able g c = closed-has _ _ c.args.self.now c.in-Closed.opening c.in-Closed.is c.requires.able
+
+pub find-requires-clause-settled : goal.find-requires-clause-settled
+find-requires-clause-settled g c = subst (λ x. IfClosed (λ o. CanFind (g.D.Disks.view c.args.disks.now).told (g.S.Storage.settled (g.D.Disks.view c.args.disks.now) o.storage) o.found o.stage) x) c.in-Closed.is c.requires.settled
+
+pub find-requires-clause-down : goal.find-requires-clause-down
+find-requires-clause-down g c = λ told.
+    let l = c.requires.down told in
+    (l.0, l.1, l.2, l.3, (closed-lies g.S.Storage.asked g.S.Storage.net _ _ _ l.0 l.1 c.args.self.now c.in-Closed.opening c.in-Closed.is l.4).0)
+
+pub returns-clause-able : goal.returns-clause-able
+returns-clause-able g c = c.find.ensures.able
+
+pub returns-clause-late : goal.returns-clause-late
+returns-clause-late g c = c.find.ensures.late

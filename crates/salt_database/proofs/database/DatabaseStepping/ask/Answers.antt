@@ -1,21 +1,25 @@
-use Rattle.salt_database.proofs.Halved.{at-open, half-within, open-idle}
+use Rattle.std.specs.Prelude.{[]}
+use Rattle.std.proofs.Common.{refl}
+use Rattle.salt_driver.proofs.Counted.{counts-cause}
+use Rattle.salt_engine.proofs.Untold.{untold-by}
+use Rattle.salt_database.proofs.Halved.{at-open, closed-asks, closed-has, half-within, moving-never, open-has, open-idle}
 use Rattle.salt_database.proofs.database.DatabaseStepping.ask.Goals as goal
 use Rattle.std.proofs.lemmas.Result.{IfErr-weaker, IfOk-weaker}
 
 pub ask-requires-clause-stands : goal.ask-requires-clause-stands
-ask-requires-clause-stands g c =
-    let s = c.requires.stands in
+ask-requires-clause-stands g c = λ told.
+    let s = c.requires.stands told in
     (s.0, s.1, open-idle g.S.Storage.asked g.S.Storage.net _ _ _ c.args.self.now c.in-Open.engine s.0 c.in-Open.is s.2)
 
-pub returns-clause-moves : goal.returns-clause-moves
-returns-clause-moves g c =
+pub returns-in-Open-clause-moves : goal.returns-in-Open-clause-moves
+returns-in-Open-clause-moves g c =
     let now = g.D.Disks.view c.ask.new.disks in
     IfOk-weaker c.ask.result _ _ (λ next moves p sound at.
     let m = moves p sound (open-idle g.S.Storage.asked g.S.Storage.net _ _ _ c.args.self.now c.in-Open.engine p c.in-Open.is at) in
     (m.0, m.1, at-open g.S.Storage.asked g.S.Storage.net (g.S.Storage.holds now) (g.S.Storage.is_new now) now.can_stop c.ask.new.self c.args.line.now next m.0 m.2)) c.ask.ensures.moves
 
-pub returns-clause-halts : goal.returns-clause-halts
-returns-clause-halts g c = IfErr-weaker c.ask.result _ _ (λ halt halts p sound at. halts p sound (open-idle g.S.Storage.asked g.S.Storage.net _ _ _ c.args.self.now c.in-Open.engine p c.in-Open.is at)) c.ask.ensures.halts
+pub returns-in-Open-clause-halts : goal.returns-in-Open-clause-halts
+returns-in-Open-clause-halts g c = IfErr-weaker c.ask.result _ _ (λ halt halts p sound at. halts p sound (open-idle g.S.Storage.asked g.S.Storage.net _ _ _ c.args.self.now c.in-Open.engine p c.in-Open.is at)) c.ask.ensures.halts
 
 pub ask-requires-clause-callable : goal.ask-requires-clause-callable
 ask-requires-clause-callable g c = c.requires.callable
@@ -26,11 +30,41 @@ ask-requires-clause-answers g c = c.requires.answers
 pub ask-requires-clause-served : goal.ask-requires-clause-served
 ask-requires-clause-served g c = c.requires.served
 
-pub returns-clause-within : goal.returns-clause-within
-returns-clause-within g c = half-within _ _ _ c.args.self.now _ _ _ _ c.in-Open.is c.ask.ensures.within
+pub returns-in-Open-clause-within : goal.returns-in-Open-clause-within
+returns-in-Open-clause-within g c = half-within _ _ _ c.args.self.now _ _ _ _ c.in-Open.is c.ask.ensures.within
 
-pub returns-clause-counts : goal.returns-clause-counts
-returns-clause-counts g c = c.ask.ensures.counts
+pub returns-in-Open-clause-counts : goal.returns-in-Open-clause-counts
+returns-in-Open-clause-counts g c = c.ask.ensures.counts
 
-pub returns-clause-refused : goal.returns-clause-refused
-returns-clause-refused g c = c.ask.ensures.refused
+pub returns-in-Open-clause-refused : goal.returns-in-Open-clause-refused
+returns-in-Open-clause-refused g c = c.ask.ensures.refused
+
+pub ask-requires-clause-able : goal.ask-requires-clause-able
+ask-requires-clause-able g c = open-has _ _ c.args.self.now c.in-Open.engine c.in-Open.is c.requires.able
+
+pub returns-in-Open-clause-able : goal.returns-in-Open-clause-able
+returns-in-Open-clause-able g c = c.ask.ensures.able
+
+pub returns-in-Open-clause-plain : goal.returns-in-Open-clause-plain
+returns-in-Open-clause-plain g c = c.ask.ensures.plain
+
+pub reject-requires-clause-untold : goal.reject-requires-clause-untold
+reject-requires-clause-untold g c = untold-by _ (λ told. let s = c.requires.stands told in closed-asks g.S.Storage.asked g.S.Storage.net _ _ _ c.args.self.now c.in-Closed.opening s.0 c.in-Closed.is s.2)
+
+pub reject-requires-clause-able : goal.reject-requires-clause-able
+reject-requires-clause-able g c = closed-has _ _ c.args.self.now c.in-Closed.opening c.in-Closed.is c.requires.able
+
+pub unreachable-requires : goal.unreachable-requires
+unreachable-requires g c = moving-never _ _ c.args.self.now c.in-Moving.is c.requires.able
+
+pub returns-in-Closed-clause-able : goal.returns-in-Closed-clause-able
+returns-in-Closed-clause-able g c = c.reject.ensures.able
+
+pub returns-in-Closed-clause-within : goal.returns-in-Closed-clause-within
+returns-in-Closed-clause-within g c = half-within _ _ _ c.args.self.now _ _ _ _ c.in-Closed.is c.reject.ensures.within
+
+pub returns-in-Closed-clause-halts : goal.returns-in-Closed-clause-halts
+returns-in-Closed-clause-halts g c = λ p sound at. absurd (closed-asks g.S.Storage.asked g.S.Storage.net _ _ _ c.args.self.now c.in-Closed.opening p c.in-Closed.is at)
+
+pub returns-in-Closed-clause-counts : goal.returns-in-Closed-clause-counts
+returns-in-Closed-clause-counts g c = counts-cause _ _ _ [] refl c.reject.ensures.cause

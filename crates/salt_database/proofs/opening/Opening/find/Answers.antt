@@ -1,4 +1,6 @@
-use Rattle.salt_database.proofs.FindDone.{again-found, alone-there, broken-books, can-find, either-way, found-lies, left-behind, left-found, left-still, lies-still, was-found}
+use Rattle.salt_engine.specs.Standing.{IsBrokenStage}
+use Rattle.salt_driver.proofs.Untold.{told-then}
+use Rattle.salt_database.proofs.FindDone.{again-found, alone-there, broken-books, broken-stage, can-find, either-way, found-lies, left-behind, left-found, left-still, lies-still, was-found}
 use Rattle.salt_database.proofs.Netted.{looked-lies}
 use Rattle.salt_database.proofs.Spent.{may-fail-at}
 use Rattle.salt_database.proofs.opening.Opening.find.Goals as goal
@@ -6,7 +8,7 @@ use Rattle.salt_engine.proofs.Counted.{same-cause}
 use Rattle.salt_engine.specs.Flights.{flight_of}
 use Rattle.salt_driver.proofs.Counted.{counts-cause}
 use Rattle.salt_storage.proofs.Staying.{stays-same}
-use Rattle.std.proofs.Common.{[], ap, refl}
+use Rattle.std.proofs.Common.{[], ap, refl, subst, sym}
 use Rattle.std.proofs.lemmas.Result.{IfErr-weaker, on_ok_weaker}
 
 -- BEHIND A FALL
@@ -15,21 +17,20 @@ pub find_behind-requires-clause-settled : goal.find_behind-requires-clause-settl
 find_behind-requires-clause-settled g c = (can-find _ _ c.args.self.now.found c.args.self.now.stage c.in-None.is c.requires.settled).0
 
 pub find_behind-requires-clause-left : goal.find_behind-requires-clause-left
-find_behind-requires-clause-left g c = (can-find _ _ c.args.self.now.found c.args.self.now.stage c.in-None.is c.requires.settled).1
-
-pub find_behind-requires-clause-down : goal.find_behind-requires-clause-down
-find_behind-requires-clause-down g c = (can-find _ _ c.args.self.now.found c.args.self.now.stage c.in-None.is c.requires.settled).2
+find_behind-requires-clause-left g c = λ told.
+    let d = c.requires.down told in
+    let l = left-behind _ _ _ c.args.self.now.found d.0 d.1 c.in-None.is d.4.left in
+    (l.0, l.1, l.2)
 
 pub returns-in-None-clause-found : goal.returns-in-None-clause-found
-returns-in-None-clause-found g c = on_ok_weaker c.find_behind.result (λ f.
-    let h = can-find _ _ c.args.self.now.found c.args.self.now.stage c.in-None.is c.requires.settled in
-    let b = broken-books c.args.self.now.stage h.2 in
-    again-found _ b.0 h.1.0 h.1.1 _ _ (f b.0 h.1.0 h.1.1 b.1 h.1.2)) c.find_behind.ensures.found
+returns-in-None-clause-found g c = on_ok_weaker c.find_behind.result (λ some.
+    again-found _ _ _ some (λ now.
+    let d = c.requires.down (told-then c.find_behind.ensures.within.shape now) in
+    subst IsBrokenStage (sym c.find_behind.ensures.stage) (broken-stage c.args.self.now.stage d.1.state.units (can-find _ _ c.args.self.now.found c.args.self.now.stage c.in-None.is c.requires.settled).1 d.4.knows))) c.find_behind.ensures.some
 
 pub returns-in-None-clause-again : goal.returns-in-None-clause-again
 returns-in-None-clause-again g c = λ other room p sound fallen lies.
-    let h = can-find _ _ c.args.self.now.found c.args.self.now.stage c.in-None.is c.requires.settled in
-    let b = broken-books c.args.self.now.stage h.2 in
+    let b = broken-books c.args.self.now.stage p.state.units (can-find _ _ c.args.self.now.found c.args.self.now.stage c.in-None.is c.requires.settled).1 lies.knows in
     let same = c.find_behind.ensures.within.shape.can_stop in
     either-way c.find_behind.result _ _ _
     (λ f. found-lies _ _ _ _ _ _ _ _ _ _ _ _ _ _ c.in-None.is c.find_behind.ensures.stage room p lies b.0 (λ l m left. f b.0 l m b.1 left) same c.find_behind.ensures.single c.find_behind.ensures.flies)
@@ -43,8 +44,7 @@ returns-in-None-clause-stands g c = λ room p sound fallen lies.
     let now = g.S.Storage.holds (view c.find_behind.new.disks) c.find_behind.new.self.storage in
     let leaves = g.S.Storage.leaves (view c.args.disks.now) c.args.self.now.storage in
     let again = g.S.Storage.leaves (view c.find_behind.new.disks) c.find_behind.new.self.storage in
-    let h = can-find _ _ c.args.self.now.found c.args.self.now.stage c.in-None.is c.requires.settled in
-    let b = broken-books c.args.self.now.stage h.2 in
+    let b = broken-books c.args.self.now.stage p.state.units (can-find _ _ c.args.self.now.found c.args.self.now.stage c.in-None.is c.requires.settled).1 lies.knows in
     let stoppable = (view c.find_behind.new.disks).can_stop in
     let single = c.find_behind.new.self.single in
     let in_flight = c.find_behind.new.self.in_flight in
@@ -71,7 +71,8 @@ returns-in-None-clause-counts g c = counts-cause _ _ _ [] refl c.find_behind.ens
 -- IT WAS FOUND already
 
 pub returns-in-Some-clause-found : goal.returns-in-Some-clause-found
-returns-in-Some-clause-found g c = was-found _ _ c.args.self.now.found c.in-Some._numbers c.args.self.now.stage c.in-Some.is c.requires.settled
+returns-in-Some-clause-found g c =
+    was-found _ _ c.args.self.now.found c.in-Some._numbers c.args.self.now.stage c.in-Some.is c.requires.settled
 
 pub returns-in-Some-clause-again : goal.returns-in-Some-clause-again
 returns-in-Some-clause-again g c = λ other room p sound fallen lies. lies
@@ -108,3 +109,12 @@ returns-in-None-clause-begun g c = λ s h.
 
 pub returns-in-Some-clause-begun : goal.returns-in-Some-clause-begun
 returns-in-Some-clause-begun g c = λ s h. h
+
+pub returns-in-None-clause-able : goal.returns-in-None-clause-able
+returns-in-None-clause-able g c = c.find_behind.ensures.able
+
+pub returns-in-Some-clause-able : goal.returns-in-Some-clause-able
+returns-in-Some-clause-able g c = c.requires.able
+
+pub returns-in-None-clause-late : goal.returns-in-None-clause-late
+returns-in-None-clause-late g c = c.find_behind.ensures.late

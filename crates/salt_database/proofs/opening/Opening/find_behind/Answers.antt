@@ -60,3 +60,15 @@ returns-clause-begun g c = c.in_ok-numbers.ensures.net
 
 pub returns-in_err-numbers-clause-begun : goal.returns-in_err-numbers-clause-begun
 returns-in_err-numbers-clause-begun g c = not-ok _ _ c.from_residual.result c.from_residual.ensures.1
+
+pub returns-clause-able : goal.returns-clause-able
+returns-clause-able g c = c.reopen.ensures.able
+
+pub returns-in_err-numbers-clause-able : goal.returns-in_err-numbers-clause-able
+returns-in_err-numbers-clause-able g c = c.reopen.ensures.able
+
+pub returns-clause-some : goal.returns-clause-some
+returns-clause-some g c = refl
+
+pub returns-in_err-numbers-clause-some : goal.returns-in_err-numbers-clause-some
+returns-in_err-numbers-clause-some g c = not-ok _ _ c.from_residual.result c.from_residual.ensures.1

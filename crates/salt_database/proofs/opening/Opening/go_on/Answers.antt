@@ -1,8 +1,9 @@
+use Rattle.salt_engine.proofs.Untold.{untold-by}
 use Rattle.salt_books.specs.declared.books.Books.{Books}
 use Rattle.salt_database.proofs.Netted.{goes-sent}
 use Rattle.salt_database.proofs.GoDone.{end-less, ended, ended-at, opening-less, opens-halts, opens-short, opens-there, untold-lost}
 use Rattle.salt_database.proofs.OpeningGoes.{goes-on, opened-on}
-use Rattle.salt_database.proofs.Stages.{opened-at, opens-now}
+use Rattle.salt_database.proofs.Stages.{never-going, opened-at, opens-now}
 use Rattle.salt_database.proofs.opening.Opening.go_on.Goals as goal
 use Rattle.salt_engine.proofs.Counted.{cause-lost, same-cause}
 use Rattle.salt_engine.proofs.LineAsked.{counts-same}
@@ -12,28 +13,26 @@ use Rattle.salt_drain.specs.declared.recovery.Recovery.{Recovery}
 use Rattle.salt_engine.specs.Standing.{IsGoingStage}
 use Rattle.salt_engine.specs.declared.stage.Stage.{Stage}
 use Rattle.salt_driver.proofs.Counted.{counts-cause}
-use Rattle.std.proofs.Common.{ap, inl, refl, subst, sym, ◌∙◌}
+use Rattle.std.proofs.Common.{ap, arith, inl, inr, refl, subst, sym, ◌∙◌}
 use Rattle.std.proofs.lemmas.Result.{err_from_is_err_and}
 use Rattle.salt_scheduler.specs.Standing.{StandsForState}
 use Rattle.std.specs.Prelude.{None, Some, [], ◌<◌}
-
-pub going-recovery-requires : goal.going-recovery-requires
-going-recovery-requires g c =
-    let p = c.requires.stands.0 in
-    let at = c.requires.stands.2 in
-    subst IsGoingStage (sym c.replace.ensures.value) (opens-now _ _ c.args.self.now.stage (Some c.args.event) p.state at.state.0.seen)
 
 pub go_on_in_opening-requires-clause-none : goal.go_on_in_opening-requires-clause-none
 go_on_in_opening-requires-clause-none g c = refl
 
 pub go_on_in_opening-requires-clause-stands : goal.go_on_in_opening-requires-clause-stands
-go_on_in_opening-requires-clause-stands g c =
-    let p = c.requires.stands.0 in
-    let at = c.requires.stands.2 in
+go_on_in_opening-requires-clause-stands g c = λ told.
+    let stands = c.requires.stands told in
+    let p = stands.0 in
+    let at = stands.2 in
     let there = sym c.replace.ensures.value ∙ c.going-recovery.ensures in
     let going = sym c.ends_opening.ensures ∙ c.if-ends_opening.false in
     let h = opened-at _ _ _ _ _ p.state there at.state.0.seen in
-    (h.0, goes-on c.going-recovery.result c.args.event p c.requires.stands.1 h.0 h.1 at.comes going _ _ h.2)
+    (h.0, goes-on c.going-recovery.result c.args.event p stands.1 h.0 h.1 at.comes going _ _ h.2)
+
+pub going-recovery-requires : goal.going-recovery-requires
+going-recovery-requires g c = subst IsGoingStage (sym (c.replace.ensures.value ∙ c.in-Going.is)) tt
 
 pub end-requires : goal.end-requires
 end-requires g c = sym c.ends_opening.ensures ∙ c.if-ends_opening.true
@@ -50,11 +49,6 @@ returns-in_ok-scheduler-clause-moves g c = λ p sound at.
     let serves = subst (λ (books : Books). ServesBehind e books (λ s. StandsForState y s)) c.into_books.ensures c.in_ok-scheduler.ensures.serves in
     ended-at (g.S.Storage.holds now) (g.S.Storage.is_new now) (record c.args.self.now { in_flight = None }) y e p h.0 _ _ _ (ended x e p sound h.0 h.1 at.comes at.opening _ ends serves) h.2 at.state.0.can_stop refl
     at.state.0.line refl refl
-
-pub returns-in_ok-scheduler-clause-less : goal.returns-in_ok-scheduler-clause-less
-returns-in_ok-scheduler-clause-less g c =
-    subst (λ (s : Stage Recovery). left_in s None < left_in c.args.self.now.stage (Some c.args.event)) (sym c.replace.ensures.after)
-    (end-less c.args.self.now.stage c.going-recovery.result c.args.event (sym c.replace.ensures.value ∙ c.going-recovery.ensures) (sym c.ends_opening.ensures ∙ c.if-ends_opening.true))
 
 pub returns-in_ok-scheduler-clause-counts : goal.returns-in_ok-scheduler-clause-counts
 returns-in_ok-scheduler-clause-counts g c = counts-same _ [] refl
@@ -92,10 +86,11 @@ returns-in_ok-go_on_in_opening-clause-moves g c = λ p sound at.
     ) d.told
 
 pub returns-in_ok-go_on_in_opening-clause-less : goal.returns-in_ok-go_on_in_opening-clause-less
-returns-in_ok-go_on_in_opening-clause-less g c =
-    let p = c.requires.stands.0 in
-    let sound = c.requires.stands.1 in
-    let at = c.requires.stands.2 in
+returns-in_ok-go_on_in_opening-clause-less g c = λ told.
+    let stands = c.requires.stands told in
+    let p = stands.0 in
+    let sound = stands.1 in
+    let at = stands.2 in
     let there = sym c.replace.ensures.value ∙ c.going-recovery.ensures in
     let x = c.going-recovery.result in
     let e = c.args.event in
@@ -199,3 +194,81 @@ returns-in_ok-go_on_in_opening-clause-unfound g c = ap (λ n. n.1) c.go_on_in_op
 
 pub returns-in_err-go_on_in_opening-clause-unfound : goal.returns-in_err-go_on_in_opening-clause-unfound
 returns-in_err-go_on_in_opening-clause-unfound g c = ap (λ n. n.1) c.go_on_in_opening.ensures.stays.noted
+
+pub returns-in_ok-scheduler-clause-less : goal.returns-in_ok-scheduler-clause-less
+returns-in_ok-scheduler-clause-less g c = λ told.
+    subst (λ (s : Stage Recovery). left_in s None < left_in c.args.self.now.stage (Some c.args.event)) (sym c.replace.ensures.after)
+    (end-less c.args.self.now.stage c.going-recovery.result c.args.event (sym c.replace.ensures.value ∙ c.going-recovery.ensures) (sym c.ends_opening.ensures ∙ c.if-ends_opening.true))
+
+pub go_on_in_opening-requires-clause-able : goal.go_on_in_opening-requires-clause-able
+go_on_in_opening-requires-clause-able g c = c.requires.able
+
+pub returns-in_ok-scheduler-clause-able : goal.returns-in_ok-scheduler-clause-able
+returns-in_ok-scheduler-clause-able g c = c.requires.able
+
+pub returns-in_ok-scheduler-clause-plain : goal.returns-in_ok-scheduler-clause-plain
+returns-in_ok-scheduler-clause-plain g c = tt
+
+pub returns-in_ok-scheduler-clause-ticks : goal.returns-in_ok-scheduler-clause-ticks
+returns-in_ok-scheduler-clause-ticks g c = λ p sound at. omega arith
+
+pub returns-in_err-scheduler-clause-able : goal.returns-in_err-scheduler-clause-able
+returns-in_err-scheduler-clause-able g c = c.requires.able
+
+pub returns-in_err-scheduler-clause-broken : goal.returns-in_err-scheduler-clause-broken
+returns-in_err-scheduler-clause-broken g c = let q = err_from_is_err_and c.from_residual.result c.from_residual.ensures.1 in
+    rw (q.1, q.2) (inl (c.in_err-scheduler.ensures.untold, refl))
+
+pub returns-in_err-push-clause-able : goal.returns-in_err-push-clause-able
+returns-in_err-push-clause-able g c = c.requires.able
+
+pub returns-in_err-push-clause-broken : goal.returns-in_err-push-clause-broken
+returns-in_err-push-clause-broken g c = let q = err_from_is_err_and c.from_residual-in_err-push.result c.from_residual-in_err-push.ensures.1 in
+    rw (q.1, q.2) (inl (c.in_err-push.ensures.err, refl))
+
+pub returns-in_ok-go_on_in_opening-clause-able : goal.returns-in_ok-go_on_in_opening-clause-able
+returns-in_ok-go_on_in_opening-clause-able g c = c.go_on_in_opening.ensures.able
+
+pub returns-in_ok-go_on_in_opening-clause-plain : goal.returns-in_ok-go_on_in_opening-clause-plain
+returns-in_ok-go_on_in_opening-clause-plain g c = c.in_ok-go_on_in_opening.ensures.plain
+
+pub returns-in_ok-go_on_in_opening-clause-ticks : goal.returns-in_ok-go_on_in_opening-clause-ticks
+returns-in_ok-go_on_in_opening-clause-ticks g c = λ p sound at.
+    let there = sym c.replace.ensures.value ∙ c.going-recovery.ensures in
+    let going = sym c.ends_opening.ensures ∙ c.if-ends_opening.false in
+    let h = opened-at _ _ _ _ _ p.state there at.state.0.seen in
+    c.in_ok-go_on_in_opening.ensures.ticks h.0 (goes-on c.going-recovery.result c.args.event p sound h.0 h.1 at.comes going _ _ h.2)
+
+pub returns-in_err-go_on_in_opening-clause-able : goal.returns-in_err-go_on_in_opening-clause-able
+returns-in_err-go_on_in_opening-clause-able g c = c.go_on_in_opening.ensures.able
+
+pub returns-in_err-go_on_in_opening-clause-broken : goal.returns-in_err-go_on_in_opening-clause-broken
+returns-in_err-go_on_in_opening-clause-broken g c = let q = err_from_is_err_and c.from_residual-in_err-go_on_in_opening.result c.from_residual-in_err-go_on_in_opening.ensures.1 in
+    rw (q.1, q.2) (inr c.in_ok-push.ensures.ok)
+
+pub strayed-requires-clause-untold : goal.strayed-requires-clause-untold
+strayed-requires-clause-untold g c = untold-by _ (λ told. let stands = c.requires.stands told in never-going c.args.self.now.stage c.in_default.not-Going (opens-now _ _ c.args.self.now.stage (Some c.args.event) stands.0.state stands.2.state.0.seen))
+
+pub strayed-requires-clause-able : goal.strayed-requires-clause-able
+strayed-requires-clause-able g c = c.requires.able
+
+pub returns-in_default-clause-able : goal.returns-in_default-clause-able
+returns-in_default-clause-able g c = c.strayed.ensures.able
+
+pub returns-in_default-clause-broken : goal.returns-in_default-clause-broken
+returns-in_default-clause-broken g c = c.strayed.ensures.broken
+
+pub returns-in_default-clause-halts : goal.returns-in_default-clause-halts
+returns-in_default-clause-halts g c = λ p sound at. absurd (never-going c.args.self.now.stage c.in_default.not-Going (opens-now _ _ c.args.self.now.stage (Some c.args.event) p.state at.state.0.seen))
+
+pub returns-in_default-clause-short : goal.returns-in_default-clause-short
+returns-in_default-clause-short g c = λ p sound at. inl refl
+
+pub returns-in_default-clause-unfound : goal.returns-in_default-clause-unfound
+returns-in_default-clause-unfound g c = refl
+
+pub returns-in_default-clause-within : goal.returns-in_default-clause-within
+returns-in_default-clause-within g c = c.strayed.ensures.within
+
+pub returns-in_default-clause-counts : goal.returns-in_default-clause-counts
+returns-in_default-clause-counts g c = counts-cause _ _ _ [] refl c.strayed.ensures.cause

@@ -1,18 +1,13 @@
-use Rattle.salt_drain.specs.Recovering.{behind_of}
-use Rattle.salt_database.proofs.OpeningActs.{goes-recovers, goes-to-open, meant-unarmed}
-use Rattle.salt_database.proofs.Resting.{opening-plain}
+use Rattle.salt_database.proofs.OpeningActs.{goes-recovers, goes-to-open}
 use Rattle.salt_database.proofs.opening.Opening.go_on_in_opening.Goals as goal
 use Rattle.salt_database.specs.Performing.{MayStep}
 use Rattle.salt_engine.proofs.Counted.{cause-broken, cause-lost, same-cause}
 use Rattle.salt_engine.proofs.Netted.{other-sent}
-use Rattle.salt_engine.proofs.Outcome.{comes-lost, comes-same, not-ok, on-ok, stays-same, when-opened}
+use Rattle.salt_engine.proofs.Outcome.{comes-lost, comes-same, not-ok, on-ok, stays-same}
 use Rattle.salt_model.specs.declared.events.Event.{Event}
-use Rattle.std.proofs.Common.{Option, inl, subst, ◌∙◌}
+use Rattle.std.proofs.Common.{Option, inl, subst}
 use Rattle.std.proofs.lemmas.Result.{IfOk-weaker, err_from_is_err_and, on_err_weaker}
 use Rattle.std.specs.Prelude.{refl}
-
-pub go_on-requires : goal.go_on-requires
-go_on-requires g c = (c.requires.stands.0, c.requires.stands.1.stands, goes-recovers _ _ c.args.recovery c.requires.stands.0 c.requires.stands.1)
 
 pub perform_in_opening-requires-clause-callable : goal.perform_in_opening-requires-clause-callable
 perform_in_opening-requires-clause-callable g c = c.requires.callable
@@ -27,9 +22,9 @@ pub perform_in_opening-requires-clause-none : goal.perform_in_opening-requires-c
 perform_in_opening-requires-clause-none g c = c.requires.none
 
 pub perform_in_opening-requires-clause-ready : goal.perform_in_opening-requires-clause-ready
-perform_in_opening-requires-clause-ready g c =
-    let s = c.requires.stands.0 in
-    let h = c.requires.stands.1 in
+perform_in_opening-requires-clause-ready g c = λ told.
+    let s = (c.requires.stands told).0 in
+    let h = (c.requires.stands told).1 in
     (s, goes-to-open _ _ c.args.recovery c.go_on.new.self c.in_ok-coming.coming s h (c.stands.ensures.sound s.units.kept h.stored.holding) (c.in_ok-coming.ensures s h.stands (goes-recovers _ _ c.args.recovery s h)))
 
 pub returns-clause-comes : goal.returns-clause-comes
@@ -45,15 +40,9 @@ pub returns-clause-cause : goal.returns-clause-cause
 returns-clause-cause g c = c.perform_in_opening.ensures.cause
 
 pub returns-clause-ticks : goal.returns-clause-ticks
-returns-clause-ticks g c = c.perform_in_opening.ensures.ticks
-
-pub returns-clause-unarmed : goal.returns-clause-unarmed
-returns-clause-unarmed g c = IfOk-weaker c.perform_in_opening.result _ _ (λ e performs.
-    let s = c.requires.stands.0 in
-    let h = c.requires.stands.1 in
+returns-clause-ticks g c = IfOk-weaker c.perform_in_opening.result _ _ (λ e ticks s h.
     let b = c.in_ok-coming.ensures s h.stands (goes-recovers _ _ c.args.recovery s h) in
-    let done = performs s (goes-to-open _ _ c.args.recovery c.go_on.new.self c.in_ok-coming.coming s h (c.stands.ensures.sound s.units.kept h.stored.holding) b) in
-    meant-unarmed e _ (done.told ∙ b.meant) (opening-plain (behind_of c.args.recovery) s.units)) (when-opened _ _ _ c.perform_in_opening.result c.perform_in_opening.ensures.comes)
+    ticks s (goes-to-open _ _ c.args.recovery c.go_on.new.self c.in_ok-coming.coming s h (c.stands.ensures.sound s.units.kept h.stored.holding) b)) c.perform_in_opening.ensures.ticks
 
 pub returns-in_err-coming-clause-comes : goal.returns-in_err-coming-clause-comes
 returns-in_err-coming-clause-comes g c = λ s h.
@@ -76,9 +65,6 @@ returns-in_err-coming-clause-short g c =
     let p = err_from_is_err_and c.from_residual.result c.from_residual.ensures.1 in
     rw p.1 (λ s h. inl refl)
 
-pub returns-in_err-coming-clause-unarmed : goal.returns-in_err-coming-clause-unarmed
-returns-in_err-coming-clause-unarmed g c = not-ok _ _ c.from_residual.result c.from_residual.ensures.1
-
 pub returns-in_err-coming-clause-ticks : goal.returns-in_err-coming-clause-ticks
 returns-in_err-coming-clause-ticks g c = not-ok _ _ c.from_residual.result c.from_residual.ensures.1
 
@@ -90,3 +76,18 @@ returns-clause-sent g c = on-ok c.perform_in_opening.result _ _ (λ sent s h.
 
 pub returns-in_err-coming-clause-sent : goal.returns-in_err-coming-clause-sent
 returns-in_err-coming-clause-sent g c = not-ok _ _ c.from_residual.result c.from_residual.ensures.1
+
+pub perform_in_opening-requires-clause-able : goal.perform_in_opening-requires-clause-able
+perform_in_opening-requires-clause-able g c = c.requires.able
+
+pub returns-clause-able : goal.returns-clause-able
+returns-clause-able g c = c.perform_in_opening.ensures.able
+
+pub returns-clause-plain : goal.returns-clause-plain
+returns-clause-plain g c = c.perform_in_opening.ensures.plain
+
+pub returns-in_err-coming-clause-able : goal.returns-in_err-coming-clause-able
+returns-in_err-coming-clause-able g c = c.requires.able
+
+pub returns-in_err-coming-clause-plain : goal.returns-in_err-coming-clause-plain
+returns-in_err-coming-clause-plain g c = not-ok _ _ c.from_residual.result c.from_residual.ensures.1

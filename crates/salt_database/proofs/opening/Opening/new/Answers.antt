@@ -13,3 +13,6 @@ returns-clause-is_new g c = λ k is sound. record {
   line = refl;
   none = refl;
 }
+
+pub returns-clause-found : goal.returns-clause-found
+returns-clause-found g c = λ told now. tt
