@@ -19,7 +19,7 @@ use Rattle.salt_model.specs.declared.events.Event.{Event}
 use Rattle.salt_model.specs.declared.events.Flight.{Flight}
 use Rattle.salt_promise.specs.declared.status.Status.{Status}
 use Rattle.salt_promise.specs.declared.status.Status.TheVariants.{DeviceFull, Done, Memory, ReadFault, ScriptTooLong, WriteFault}
-use Rattle.salt_loop.specs.Ending.{EndsFound, EndsOpening, LeavesAt, MayEndAt}
+use Rattle.salt_loop.specs.Ending.{EndsFound, EndsOpening, LeavesAt, MayBeWritten, MayEndAt}
 use Rattle.salt_loop.specs.Run.{IsFlightAt, leave_of}
 use Rattle.salt_loop.specs.Serving.{EndsResuming}
 use Rattle.salt_loop.specs.Stopping.{IsLaterStop, answer_of, numbers_of_status, status_of, status_opening, stop_opening}
@@ -33,15 +33,14 @@ use Rattle.salt_driver.specs.Serving.{HaltsRun, ServesTrace}
 use Rattle.salt_driver.specs.Standing.{IsIdleAt, IsSoundPoint}
 use Rattle.salt_driver.specs.Writing.{IsWrittenAt}
 use Rattle.salt_storage.specs.Answers.{IsLater, halted_by, numbers_of, open_disk_err_of}
-use Rattle.salt_storage.specs.Writing.{OfBoot, ToWrite}
+use Rattle.salt_storage.specs.Writing.{OfBoot, OfOpening, ToWrite}
 use Rattle.salt_storage.specs.declared.halt.Halt.TheVariants as halt
 use Rattle.salt_storage.specs.declared.halt.Halt.{Halt}
 use Rattle.salt_storage.specs.OpenErr.TheVariants.{NotSalt, NumbersSpent, OtherShape}
 use Rattle.salt_storage.specs.OpenErr.{OpenErr}
 use Rattle.std.proofs.Common.{ap, append-nil, arith, inl, inr, subst, sym, ◌∙◌}
 use Rattle.salt_storage.specs.declared.found.Numbers.{Numbers}
-use Rattle.std.specs.Prelude.{Bool, Err, IsTrue, List, None, Ok, Option, Result, Some, [], false, not, refl, true, ℕ, ◌||◌, ◌≡◌, ◌⊎◌}
-use Rattle.std.specs.Result.{IfErr, OnOk}
+use Rattle.std.specs.Prelude.{Bool, IsTrue, List, None, Option, Some, [], false, not, refl, true, ℕ, ◌||◌, ◌≡◌, ◌⊎◌}
 
 -- THE PLACE
 
@@ -116,11 +115,6 @@ same-numbers opening.Failed = refl
 same-numbers (opening.Full dev) = refl
 same-numbers opening.Memory = refl
 
-untold : (devices : OnDevices) → ((numbers : Numbers) (room : ℕ) (p : Point) → devices.stands_for_kept (Some numbers) room p → devices.stands_for_kept None room p) → (told : Option Numbers) (room : ℕ) (p : Point) →
-    devices.stands_for_kept told room p → devices.stands_for_kept None room p
-untold devices forgets None room p h = h
-untold devices forgets (Some numbers) room p h = forgets numbers room p h
-
 -- AN OPENING
 
 module _ (devices : OnDevices) (flies : Option Flight) (e : OpenErr) (start : Start) (trace : Trace) (story told : List Event)
@@ -139,12 +133,16 @@ module _ (devices : OnDevices) (flies : Option Flight) (e : OpenErr) (start : St
       may = may-fail n.room b.point e fell n.fails;
       again = λ some. n.again (λ m. some (ap status_opening m));
       stands = subst (λ (told : Option Numbers). devices.stands_for_kept told n.room b.point) (same-numbers e) n.stays;
-      full = λ dev is. (OfBoot, inr (fell, refl), n.full dev (full-reason e dev is));
+      full = λ dev is. filled dev (n.full dev (full-reason e dev is));
     };
   }
     where
       fell : b.point.state.units.phase ≡ Fallen
       fell = sym b.keeps.state.units.phase ∙ n.fallen
+
+      filled : (dev : ℕ) → devices.fills_device OfOpening dev ⊎ devices.fills_device OfBoot dev → (x : ToWrite) × MayBeWritten b.point x × devices.fills_device x dev
+      filled dev (inl opening) = (OfOpening, inr (fell, inl refl), opening)
+      filled dev (inr boot) = (OfBoot, inr (fell, inr refl), boot)
 
   within : WithinOpening devices flies e b.after b.point → LeavesAt devices flies (status_opening e) start b.after told
   within w = record {
@@ -176,7 +174,7 @@ module _ (devices : OnDevices) (flies : Option Flight) (e : OpenErr) (start : St
       flown (inr f) = flies-later e b.later b.after flies (f ∙ ap flight_told (sym b.keeps.flight))
 
       by : (dev : ℕ) → (x : ToWrite) × IsWrittenAt b.point x × devices.fills_device x dev →
-          (x : ToWrite) × (IsWrittenAt b.point x ⊎ ((b.point.state.units.phase ≡ Fallen) × (x ≡ OfBoot))) × devices.fills_device x dev
+          (x : ToWrite) × MayBeWritten b.point x × devices.fills_device x dev
       by dev x = (x.0, inl x.1, x.2)
 
   pub leaves-opening : LeavesAt devices flies (status_opening e) start b.after told
@@ -250,7 +248,7 @@ module _ (devices : OnDevices) (flies : Option Flight) (start : Start) (trace : 
       flown (inr f) = f ∙ ap flight_told (sym h.keeps.flight)
 
       by : (d : ℕ) → (x : ToWrite) × IsWrittenAt h.point x × devices.fills_device x d →
-          (x : ToWrite) × (IsWrittenAt h.point x ⊎ ((h.point.state.units.phase ≡ Fallen) × (x ≡ OfBoot))) × devices.fills_device x d
+          (x : ToWrite) × MayBeWritten h.point x × devices.fills_device x d
       by d x = (x.0, inl x.1, x.2)
 
   pub halts-short : HaltsRun devices flies halt.Memory start story trace → EndsResuming devices flies halt.Memory stop.Memory start trace story story
@@ -364,6 +362,11 @@ module _ {E : Type 0} (stands_for : E → Option Event → State → Type 0) (de
 
 -- THE SINK FAILED
 
+untold : (devices : OnDevices) → ((numbers : Numbers) (room : ℕ) (p : Point) → devices.stands_for_kept (Some numbers) room p → devices.stands_for_kept None room p) → (told : Option Numbers) (room : ℕ) (p : Point) →
+    devices.stands_for_kept told room p → devices.stands_for_kept None room p
+untold devices forgets None room p h = h
+untold devices forgets (Some numbers) room p h = forgets numbers room p h
+
 module _ (devices : OnDevices) (flies : Option Flight) (forgets : (numbers : Numbers) (room : ℕ) (p : Point) → devices.stands_for_kept (Some numbers) room p → devices.stands_for_kept None room p) (start : Start) (trace : Trace) (story : List Event) where
   ends-unwritten : (status : Status) → (status ≡ Memory → ⊥) → EndsFound devices status trace → EndsFound devices WriteFault trace
   ends-unwritten status some x = record {
@@ -400,14 +403,3 @@ answers-opening opening.Stopped some = absurd (some refl)
 answers-opening opening.Failed some = refl
 answers-opening (opening.Full dev) some = refl
 answers-opening opening.Memory some = refl
-
--- either way a stop leaves of the devices what is kept there
-
-pub left-there : {E T : Type 0} (stands_for : E → Option Event → State → Type 0) (devices : OnDevices) (flies : Option Flight) (e : E)
-    (idle : (p : Point) → IsSoundPoint p → IsIdleAt (stands_for e) p → devices.can_reopen_at 0 p) (flown : (p : Point) → IsSoundPoint p → IsIdleAt (stands_for e) p → flies ≡ None)
-    (leaves : (room : ℕ) (p : Point) → devices.can_reopen_at room p → devices.stands_for_kept None room p) (forgets : (numbers : Numbers) (room : ℕ) (p : Point) → devices.stands_for_kept (Some numbers) room p → devices.stands_for_kept None room p) (start : Start) (told : List Event) (done : Result T Stop) → OnOk done ((trace : Trace) × ServesTrace (stands_for e) start told trace) →
-    IfErr done (λ s. (trace : Trace) × LeavesAt devices flies (status_of s) start trace told) → (room : ℕ) × ((p : Point) × devices.stands_for_kept None room p)
-left-there stands_for devices flies e idle flown leaves forgets start told (Ok x) ok err =
-    let ends = (unwritten-leaves stands_for devices flies e idle flown leaves start ok.0 told ok.1).ends in
-    (ends.room, (ends.point, ends.stands))
-left-there stands_for devices flies e idle flown leaves forgets start told (Err s) ok err = let ends = err.1.ends in (ends.room, (ends.point, untold devices forgets (numbers_of_status (status_of s)) ends.room ends.point ends.stands))

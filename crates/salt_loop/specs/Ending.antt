@@ -21,13 +21,13 @@ use Rattle.salt_driver.specs.Opening.{AreSpentAt}
 use Rattle.salt_driver.specs.Along.{StaysInSegment}
 use Rattle.salt_driver.specs.Serving.{GainsEvents, IsFitting, ServesTrace}
 use Rattle.salt_driver.specs.Writing.{IsWrittenAt}
-use Rattle.salt_storage.specs.Writing.{OfBoot, ToWrite}
+use Rattle.salt_storage.specs.Writing.{OfBoot, OfOpening, ToWrite}
 use Rattle.salt_storage.specs.OpenErr.{OpenErr}
 use Rattle.std.specs.Prelude.{List, Option, if◌then◌else◌, true, ℕ, ◌+◌, ◌≡◌, ◌≤◌, ◌⊎◌, ⊤}
 
--- what may be written at a point: the decision that comes next, or, of a run that is down, the next boot
+-- what may be written at a point: the decision that comes next, or, of a run that is down, an opening, or the next boot
 abbrev pub MayBeWritten : Point → ToWrite → Type 0
-MayBeWritten p w = IsWrittenAt p w ⊎ ((p.state.units.phase ≡ Fallen) × (w ≡ OfBoot))
+MayBeWritten p w = IsWrittenAt p w ⊎ ((p.state.units.phase ≡ Fallen) × ((w ≡ OfOpening) ⊎ (w ≡ OfBoot)))
 
 -- how a run may end over what was found: by no refusal of that; and by spent numbers only where it is down, and they are spent
 abbrev pub MayEndAt : ℕ → Point → Status → Type 0

@@ -17,7 +17,7 @@ ghost use Rattle.salt_storage.specs.Staying.{StaysWithin};
 ghost use Rattle.salt_storage.specs.declared.halt.Halt.TheVariants.{Memory};
 ghost use Rattle.salt_place.specs.Placement.{GivesPlaceOf, TakesEachKey};
 ghost use Rattle.std.specs.Option.{option_copied};
-ghost use Rattle.std.specs.Prelude.{Err, IfErr, None, OnOk, [], ◌++◌, ◌∷◌, ◌≡◌, ◌≢◌, ◌≤◌};
+ghost use Rattle.std.specs.Prelude.{Err, IfErr, IsTrue, None, OnOk, [], ◌++◌, ◌∷◌, ◌≡◌, ◌≢◌, ◌≤◌};
 
 use crate::stop::{Stop, stop_opening};
 use crate::telling::write_done;
@@ -44,17 +44,20 @@ fn ask_line<E: Openable, D: Disks, F: Fn(PlaceKind, &Key, u32) -> u32>(
     requires callable { TakesEachKey (F.pre place.now.place) }
     requires answers { GivesPlaceOf (F.post place.now.place) }
     requires serves { (line : Line) → IsAskable line → E.serves line }
-    requires stands { (start : Start) × (trace : Trace) × ServesTrace (E.stands_for (D.view disks.old) database.old) start story.old trace }
+    requires able { E.able (D.view disks.old) database.old }
+    requires stands { IsTrue (D.view disks.old).told → (start : Start) × (trace : Trace) × ServesTrace (E.stands_for (D.view disks.old) database.old) start story.old trace }
+    ensures able { E.able (D.view disks.new) database.new }
     ensures ok { OnOk result ((start : Start) (trace : Trace) → ServesTrace (E.stands_for (D.view disks.old) database.old) start story.old trace →
         ContinuesRun (E.stands_for (D.view disks.new) database.new) (line_behind start trace (option_copied text.entry)) (moment story.old (D.view disks.old).armed) (moment story.new (D.view disks.new).armed)) }
     ensures err { IfErr result (λ halt. (start : Start) (trace : Trace) → ServesTrace (E.stands_for (D.view disks.old) database.old) start story.old trace →
         BreaksIn (E.on_devices (D.view disks.new) database.new) (E.flight database.new) halt (line_behind start trace (option_copied text.entry)) (moment story.old (D.view disks.old).armed) (moment story.new (D.view disks.new).armed)) }
-    ensures refused { (refusal : Refusal) → story.new ≡ story.old ++ Refused refusal ∷ [] → disks.new ≡ disks.old }
+    ensures refused { (refusal : Refusal) → story.new ≡ story.old ++ Refused refusal ∷ [] → IsTrue (D.view disks.old).told → disks.new ≡ disks.old }
     ensures within { StaysWithin (E.asked database.old) (E.asked database.new) (D.view disks.old) (D.view disks.new) }
     ensures counts { (line : Line) × CountsMore line (D.view disks.old) (D.view disks.new) (disk_err result) None story.old story.new }
 {
     // For the proof alone: what a line of the grammar asks is spelled.
     read_lines_are_spelled();
+    database.stands(disks);
     let Some(text) = text else {
         return salt_driver::refuse(database, disks, place, Refusal::Long, story);
     };
@@ -63,10 +66,7 @@ fn ask_line<E: Openable, D: Disks, F: Fn(PlaceKind, &Key, u32) -> u32>(
         Err(ReadErr::Refused(refusal)) => salt_driver::refuse(
             database, disks, place, refusal, story,
         ),
-        Err(ReadErr::Memory) => {
-            database.stands(disks);
-            Err(Halt::Memory)
-        }
+        Err(ReadErr::Memory) => Err(Halt::Memory),
     }
 }
 
@@ -80,7 +80,9 @@ fn recover<E: Openable, D: Disks, F: Fn(PlaceKind, &Key, u32) -> u32>(
 ) -> Result<(), Stop>
     requires callable { TakesEachKey (F.pre place.now.place) }
     requires answers { GivesPlaceOf (F.post place.now.place) }
-    requires halted { (start : Start) × (trace : Trace) × HaltsRun (E.on_devices (D.view disks.old) database.old) (E.flight database.old) (halt_of why) start story.old trace }
+    requires able { E.able (D.view disks.old) database.old }
+    requires halted { IsTrue (D.view disks.old).told → (start : Start) × (trace : Trace) × HaltsRun (E.on_devices (D.view disks.old) database.old) (E.flight database.old) (halt_of why) start story.old trace }
+    ensures able { E.able (D.view disks.new) database.new }
     ensures ok { OnOk result ((start : Start) (trace : Trace) → HaltsRun (E.on_devices (D.view disks.old) database.old) (E.flight database.old) (halt_of why) start story.old trace →
         ReopensRun (E.stands_for (D.view disks.new) database.new) start trace story.old story.new) }
     ensures err { IfErr result (λ stop. (start : Start) (trace : Trace) → HaltsRun (E.on_devices (D.view disks.old) database.old) (E.flight database.old) (halt_of why) start story.old trace →
@@ -105,7 +107,9 @@ pub fn resume<E: Openable, D: Disks, F: Fn(PlaceKind, &Key, u32) -> u32>(
 ) -> Result<(), Stop>
     requires callable { TakesEachKey (F.pre place.now.place) }
     requires answers { GivesPlaceOf (F.post place.now.place) }
-    requires halted { (start : Start) × (trace : Trace) × HaltsRun (E.on_devices (D.view disks.old) database.old) (E.flight database.old) halt start story.old trace }
+    requires able { E.able (D.view disks.old) database.old }
+    requires halted { IsTrue (D.view disks.old).told → (start : Start) × (trace : Trace) × HaltsRun (E.on_devices (D.view disks.old) database.old) (E.flight database.old) halt start story.old trace }
+    ensures able { E.able (D.view disks.new) database.new }
     ensures ok { OnOk result ((start : Start) (trace : Trace) → HaltsRun (E.on_devices (D.view disks.old) database.old) (E.flight database.old) halt start story.old trace →
         ReopensRun (E.stands_for (D.view disks.new) database.new) start trace story.old story.new) }
     ensures err { IfErr result (λ stop. (start : Start) (trace : Trace) → HaltsRun (E.on_devices (D.view disks.old) database.old) (E.flight database.old) halt start story.old trace →
@@ -135,7 +139,9 @@ fn do_line<E: Openable, D: Disks, F: Fn(PlaceKind, &Key, u32) -> u32>(
     requires callable { TakesEachKey (F.pre place.now.place) }
     requires answers { GivesPlaceOf (F.post place.now.place) }
     requires serves { (line : Line) → IsAskable line → E.serves line }
-    requires stands { (start : Start) × (trace : Trace) × ServesTrace (E.stands_for (D.view disks.old) database.old) start story.old trace }
+    requires able { E.able (D.view disks.old) database.old }
+    requires stands { IsTrue (D.view disks.old).told → (start : Start) × (trace : Trace) × ServesTrace (E.stands_for (D.view disks.old) database.old) start story.old trace }
+    ensures able { E.able (D.view disks.new) database.new }
     ensures ok { OnOk result ((start : Start) (trace : Trace) → ServesTrace (E.stands_for (D.view disks.old) database.old) start story.old trace →
         ContinuesRun (E.stands_for (D.view disks.new) database.new) (line_behind start trace (option_copied text.entry)) (moment story.old (D.view disks.old).armed) (moment story.new (D.view disks.new).armed)) }
     ensures err { IfErr result (λ stop. (start : Start) (trace : Trace) → ServesTrace (E.stands_for (D.view disks.old) database.old) start story.old trace →
@@ -163,7 +169,9 @@ pub fn tell_line<E: Openable, D: Disks, K: Sink, F: Fn(PlaceKind, &Key, u32) -> 
     requires callable { TakesEachKey (F.pre place.now.place) }
     requires answers { GivesPlaceOf (F.post place.now.place) }
     requires serves { (line : Line) → IsAskable line → E.serves line }
-    requires stands { (start : Start) × (trace : Trace) × ServesTrace (E.stands_for (D.view disks.old) database.old) start story.old trace }
+    requires able { E.able (D.view disks.old) database.old }
+    requires stands { IsTrue (D.view disks.old).told → (start : Start) × (trace : Trace) × ServesTrace (E.stands_for (D.view disks.old) database.old) start story.old trace }
+    ensures able { E.able (D.view disks.new) database.new }
     ensures ok { OnOk result ((start : Start) (trace : Trace) → ServesTrace (E.stands_for (D.view disks.old) database.old) start story.old trace →
         IsToldLine (E.stands_for (D.view disks.new) database.new) (line_behind start trace (option_copied text.entry)) (moment story.old (D.view disks.old).armed) (moment story.new (D.view disks.new).armed) (K.held sink.old) (K.held sink.new)) }
     ensures err { IfErr result (λ stop. (start : Start) (trace : Trace) → ServesTrace (E.stands_for (D.view disks.old) database.old) start story.old trace →

@@ -11,7 +11,7 @@ ghost use Rattle.salt_loop.specs.Serving.{IsAskable, IsToBegin};
 ghost use Rattle.salt_loop.specs.Stopping.{IsLaterStop, outcome, status_of};
 ghost use Rattle.salt_storage.specs.Staying.{StaysWithin};
 ghost use Rattle.salt_place.specs.Placement.{GivesPlaceOf, TakesEachKey};
-ghost use Rattle.std.specs.Prelude.{IfErr, List, OnOk, Some, length, slice_get, ℕ, ◌+◌, ◌<◌, ◌≡◌, ◌≤◌};
+ghost use Rattle.std.specs.Prelude.{IfErr, IsTrue, List, OnOk, Some, length, slice_get, ℕ, ◌+◌, ◌<◌, ◌≡◌, ◌≤◌};
 
 use crate::lines::resume;
 use crate::starting::start;
@@ -48,7 +48,9 @@ fn load_one<E: Openable, D: Disks, F: Fn(PlaceKind, &Key, u32) -> u32>(
     requires within { i < length (load_lines calls) }
     requires is { Some line.now ≡ slice_get (load_lines calls) i }
     requires serves { (line : Line) → IsAskable line → E.serves line }
-    requires stands { (start : Start) × (first : List (ℕ × ℕ)) × IsLoading (E.stands_for (D.view disks.old) database.old) start calls i story.old first (D.view disks.old).armed }
+    requires able { E.able (D.view disks.old) database.old }
+    requires stands { IsTrue (D.view disks.old).told → (start : Start) × (first : List (ℕ × ℕ)) × IsLoading (E.stands_for (D.view disks.old) database.old) start calls i story.old first (D.view disks.old).armed }
+    ensures able { E.able (D.view disks.new) database.new }
     ensures ok { OnOk result ((start : Start) (first : List (ℕ × ℕ)) → IsLoading (E.stands_for (D.view disks.old) database.old) start calls i story.old first (D.view disks.old).armed →
         IsLoading (E.stands_for (D.view disks.new) database.new) start calls (i + 1) story.new first (D.view disks.new).armed) }
     ensures err { IfErr result (λ stop. (start : Start) (first : List (ℕ × ℕ)) → IsLoading (E.stands_for (D.view disks.old) database.old) start calls i story.old first (D.view disks.old).armed →
@@ -81,7 +83,9 @@ fn serve_load_line<E: Openable, D: Disks, F: Fn(PlaceKind, &Key, u32) -> u32>(
     requires most { calls ≤ CALLS_MOST }
     requires within { i < length (load_lines calls) }
     requires serves { (line : Line) → IsAskable line → E.serves line }
-    requires stands { (start : Start) × (first : List (ℕ × ℕ)) × IsLoading (E.stands_for (D.view disks.old) database.old) start calls i story.old first (D.view disks.old).armed }
+    requires able { E.able (D.view disks.old) database.old }
+    requires stands { IsTrue (D.view disks.old).told → (start : Start) × (first : List (ℕ × ℕ)) × IsLoading (E.stands_for (D.view disks.old) database.old) start calls i story.old first (D.view disks.old).armed }
+    ensures able { E.able (D.view disks.new) database.new }
     ensures ok { OnOk result ((start : Start) (first : List (ℕ × ℕ)) → IsLoading (E.stands_for (D.view disks.old) database.old) start calls i story.old first (D.view disks.old).armed →
         IsLoading (E.stands_for (D.view disks.new) database.new) start calls (i + 1) story.new first (D.view disks.new).armed) }
     ensures err { IfErr result (λ stop. (start : Start) (first : List (ℕ × ℕ)) → IsLoading (E.stands_for (D.view disks.old) database.old) start calls i story.old first (D.view disks.old).armed →
@@ -111,9 +115,11 @@ pub fn load<E: Openable, D: Disks, F: Fn(PlaceKind, &Key, u32) -> u32>(
     requires least { 1 ≤ calls }
     requires most { calls ≤ CALLS_MOST }
     requires serves { (line : Line) → IsAskable line → E.serves line }
+    requires able { E.able (D.view disks.old) database.old }
     requires settled { E.settled (D.view disks.old) database.old }
-    requires begins { (start : Start) × (trace : Trace) × IsToBegin (E.on_devices (D.view disks.old) database.old) (E.flight database.old) start story.old trace ×
+    requires begins { IsTrue (D.view disks.old).told → (start : Start) × (trace : Trace) × IsToBegin (E.on_devices (D.view disks.old) database.old) (E.flight database.old) start story.old trace ×
         (first : List (ℕ × ℕ)) × (armed_by_lines first trace ≡ Some (D.view disks.old).armed) }
+    ensures able { E.able (D.view disks.new) database.new }
     ensures ended { (start : Start) (trace : Trace) → IsToBegin (E.on_devices (D.view disks.old) database.old) (E.flight database.old) start story.old trace →
         (first : List (ℕ × ℕ)) → armed_by_lines first trace ≡ Some (D.view disks.old).armed → EndsLoading (E.on_devices (D.view disks.new) database.new) start (load_run (outcome result.done) (E.flight database.new) calls result.lines story.new) first (D.view disks.new).armed }
     ensures later { IfErr result.done IsLaterStop }

@@ -14,7 +14,8 @@ ghost use Rattle.salt_storage.specs.Staying.{StaysWithin};
 ghost use Rattle.salt_place.specs.Placement.{GivesPlaceOf, TakesEachKey};
 ghost use Rattle.salt_values.specs.declared.limits.TheConstants.{SCRIPT_MOST};
 ghost use Rattle.std.specs.Option.{option_copied};
-ghost use Rattle.std.specs.Prelude.{Err, IfErr, IfOk, List, Ok, OnOk, Option, Some, true, ℕ, ◌<◌, ◌≡◌, ◌≢◌, ◌≤◌};
+ghost use Rattle.salt_io.specs.Lines.{IsReadingOf};
+ghost use Rattle.std.specs.Prelude.{Err, IfErr, IfOk, IsTrue, List, Ok, OnOk, Option, Some, false, true, ℕ, ◌<◌, ◌≡◌, ◌≢◌, ◌≤◌};
 
 use crate::lines::tell_line;
 use crate::starting::start;
@@ -61,14 +62,19 @@ impl Serving {
         requires callable { TakesEachKey (F.pre place.now.place) }
         requires answers { GivesPlaceOf (F.post place.now.place) }
         requires serves { (line : Line) → IsAskable line → E.serves line }
-        requires stands { (start : Start) × (script : Option (List ℕ)) × (before : Option (List ℕ)) × (first : List (ℕ × ℕ)) ×
+        requires of { IsReadingOf self.old.lines (S.left source.old) }
+        requires able { E.able (D.view disks.old) database.old }
+        requires stands { IsTrue (D.view disks.old).told → (start : Start) × (script : Option (List ℕ)) × (before : Option (List ℕ)) × (first : List (ℕ × ℕ)) ×
             IsServing (E.stands_for (D.view disks.old) database.old) start (streams script (S.left source.old) before (K.held sink.old)) self.old.lines story.old first (D.view disks.old).armed }
+        ensures able { E.able (D.view disks.new) database.new }
         ensures goes { IfOk result (λ more. (start : Start) (script before : Option (List ℕ)) (first : List (ℕ × ℕ)) →
             IsServing (E.stands_for (D.view disks.old) database.old) start (streams script (S.left source.old) before (K.held sink.old)) self.old.lines story.old first (D.view disks.old).armed →
             IsAfterLine more (E.stands_for (D.view disks.new) database.new) (E.on_devices (D.view disks.new) database.new) start (script_run Done (E.flight database.new) (streams script (S.left source.new) before (K.held sink.new)) story.new) self.new.lines first (D.view disks.new).armed) }
         ensures stops { IfErr result (λ stop. (start : Start) (script before : Option (List ℕ)) (first : List (ℕ × ℕ)) →
             IsServing (E.stands_for (D.view disks.old) database.old) start (streams script (S.left source.old) before (K.held sink.old)) self.old.lines story.old first (D.view disks.old).armed →
             EndsServing (E.stands_for (D.view disks.new) database.new) (E.on_devices (D.view disks.new) database.new) start (script_run (status_of stop) (E.flight database.new) (streams script (S.left source.new) before (K.held sink.new)) story.new) first (D.view disks.new).armed) }
+        ensures of { IsReadingOf self.new.lines (S.left source.new) }
+        ensures end { result ≡ Ok false → IsAtEnd (S.left source.new) }
         ensures nearer { result ≡ Ok true → self.old.lines.taken < self.new.lines.taken }
         ensures most { self.new.lines.taken ≤ SCRIPT_MOST }
         ensures read_fault { result ≡ Err Stop.ReadFault → Rose (S.faults source.old) (S.faults source.new) }
@@ -101,9 +107,11 @@ fn begin<E: Openable, D: Disks, K: Sink, F: Fn(PlaceKind, &Key, u32) -> u32>(
 ) -> Result<(), Stop>
     requires callable { TakesEachKey (F.pre place.now.place) }
     requires answers { GivesPlaceOf (F.post place.now.place) }
+    requires able { E.able (D.view disks.old) database.old }
     requires settled { E.settled (D.view disks.old) database.old }
-    requires begins { (start : Start) × (trace : Trace) × IsToBegin (E.on_devices (D.view disks.old) database.old) (E.flight database.old) start story.old trace ×
+    requires begins { IsTrue (D.view disks.old).told → (start : Start) × (trace : Trace) × IsToBegin (E.on_devices (D.view disks.old) database.old) (E.flight database.old) start story.old trace ×
         (first : List (ℕ × ℕ)) × (armed_by_lines first trace ≡ Some (D.view disks.old).armed) }
+    ensures able { E.able (D.view disks.new) database.new }
     ensures ok { OnOk result ((start : Start) (trace : Trace) → IsToBegin (E.on_devices (D.view disks.old) database.old) (E.flight database.old) start story.old trace →
         (first : List (ℕ × ℕ)) → armed_by_lines first trace ≡ Some (D.view disks.old).armed → IsBegun (E.stands_for (D.view disks.new) database.new) start story.new (K.held sink.old) (K.held sink.new) first (D.view disks.new).armed) }
     ensures stops { IfErr result (λ stop. (start : Start) (trace : Trace) → IsToBegin (E.on_devices (D.view disks.old) database.old) (E.flight database.old) start story.old trace →
@@ -133,9 +141,11 @@ pub fn serve<E: Openable, D: Disks, S: Source, K: Sink, F: Fn(PlaceKind, &Key, u
     requires callable { TakesEachKey (F.pre place.now.place) }
     requires answers { GivesPlaceOf (F.post place.now.place) }
     requires serves { (line : Line) → IsAskable line → E.serves line }
+    requires able { E.able (D.view disks.old) database.old }
     requires settled { E.settled (D.view disks.old) database.old }
-    requires begins { (start : Start) × (trace : Trace) × IsToBegin (E.on_devices (D.view disks.old) database.old) (E.flight database.old) start story.old trace ×
+    requires begins { IsTrue (D.view disks.old).told → (start : Start) × (trace : Trace) × IsToBegin (E.on_devices (D.view disks.old) database.old) (E.flight database.old) start story.old trace ×
         (first : List (ℕ × ℕ)) × (armed_by_lines first trace ≡ Some (D.view disks.old).armed) }
+    ensures able { E.able (D.view disks.new) database.new }
     ensures ended { (start : Start) (trace : Trace) → IsToBegin (E.on_devices (D.view disks.old) database.old) (E.flight database.old) start story.old trace →
         (first : List (ℕ × ℕ)) → armed_by_lines first trace ≡ Some (D.view disks.old).armed → EndsServing (E.stands_for (D.view disks.new) database.new) (E.on_devices (D.view disks.new) database.new) start (script_run (outcome result) (E.flight database.new) (streams (S.left source.old) (S.left source.new) (K.held sink.old) (K.held sink.new)) story.new) first (D.view disks.new).armed }
     ensures end { OnOk result (IsAtEnd (S.left source.new)) }

@@ -13,7 +13,7 @@ ghost use Rattle.salt_driver.specs.Serving.{IsDown};
 ghost use Rattle.salt_storage.specs.Answers.{IsLater};
 ghost use Rattle.salt_storage.specs.Staying.{StaysWithin};
 ghost use Rattle.salt_place.specs.Placement.{GivesPlaceOf, TakesEachKey};
-ghost use Rattle.std.specs.Prelude.{Err, IfErr, List, None, OnOk, Option, ℕ, [], ◌≡◌, ◌≢◌, ◌≤◌, ◌⊎◌};
+ghost use Rattle.std.specs.Prelude.{Err, IfErr, IsTrue, List, None, OnOk, Option, ℕ, [], ◌≡◌, ◌≢◌, ◌≤◌, ◌⊎◌};
 
 use crate::stop::{Stop, stop_opening};
 use crate::telling::write_done;
@@ -36,8 +36,10 @@ pub fn start<E: Openable, D: Disks, F: Fn(PlaceKind, &Key, u32) -> u32>(
 ) -> Result<(), Stop>
     requires callable { TakesEachKey (F.pre place.now.place) }
     requires answers { GivesPlaceOf (F.post place.now.place) }
+    requires able { E.able (D.view disks.old) database.old }
     requires settled { E.settled (D.view disks.old) database.old }
-    requires down { (start : Start) × (trace : Trace) × IsDown (E.on_devices (D.view disks.old) database.old) (E.flight database.old) start story.old trace }
+    requires down { IsTrue (D.view disks.old).told → (start : Start) × (trace : Trace) × IsDown (E.on_devices (D.view disks.old) database.old) (E.flight database.old) start story.old trace }
+    ensures able { E.able (D.view disks.new) database.new }
     ensures ok { OnOk result ((start : Start) (trace : Trace) → IsDown (E.on_devices (D.view disks.old) database.old) (E.flight database.old) start story.old trace →
         ReopensRun (E.stands_for (D.view disks.new) database.new) start trace story.old story.new) }
     ensures err { IfErr result (λ stop. (start : Start) (trace : Trace) → IsDown (E.on_devices (D.view disks.old) database.old) (E.flight database.old) start story.old trace →

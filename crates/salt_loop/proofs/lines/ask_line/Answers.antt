@@ -96,3 +96,24 @@ returns-in-Ok-clause-counts g c = (c.in-Ok.line, c.step.ensures.counts)
 
 pub returns-in-Err-Refused-clause-counts : goal.returns-in-Err-Refused-clause-counts
 returns-in-Err-Refused-clause-counts g c = (Nothing, c.refuse-in-Err-Refused.ensures.counts)
+
+pub returns-in_default-clause-able : goal.returns-in_default-clause-able
+returns-in_default-clause-able g c = c.refuse.ensures.able
+
+pub returns-in-Ok-clause-able : goal.returns-in-Ok-clause-able
+returns-in-Ok-clause-able g c = c.step.ensures.able
+
+pub returns-in-Err-Refused-clause-able : goal.returns-in-Err-Refused-clause-able
+returns-in-Err-Refused-clause-able g c = c.refuse-in-Err-Refused.ensures.able
+
+pub returns-in-Err-Memory-clause-able : goal.returns-in-Err-Memory-clause-able
+returns-in-Err-Memory-clause-able g c = c.requires.able
+
+pub refuse-requires-clause-able : goal.refuse-requires-clause-able
+refuse-requires-clause-able g c = c.requires.able
+
+pub step-requires-clause-able : goal.step-requires-clause-able
+step-requires-clause-able g c = c.requires.able
+
+pub refuse-requires-in-Err-Refused-clause-able : goal.refuse-requires-in-Err-Refused-clause-able
+refuse-requires-in-Err-Refused-clause-able g c = c.requires.able

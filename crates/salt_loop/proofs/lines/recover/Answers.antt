@@ -24,9 +24,7 @@ returns-in-Err-clause-err g c = λ start trace h.
     (ends-opening devices flies c.in-Err.e start trace c.args.story.now c.recover.new.story (c.in-Err.ensures.err start trace h) (halt_of c.args.why) (no-short-fall c.args.why))
 
 pub returns-in-Err-clause-later : goal.returns-in-Err-clause-later
-returns-in-Err-clause-later g c =
-    let h = c.requires.halted in
-    subst IsLaterStop (sym c.stop_opening.ensures.is) (later-stop c.in-Err.e (c.in-Err.ensures.err h.0 h.1 h.2).later)
+returns-in-Err-clause-later g c = subst IsLaterStop (sym c.stop_opening.ensures.is) (later-stop c.in-Err.e c.in-Err.ensures.late)
 
 pub returns-in-Err-clause-counts : goal.returns-in-Err-clause-counts
 returns-in-Err-clause-counts g c =
@@ -34,3 +32,12 @@ returns-in-Err-clause-counts g c =
     let never : c.in-Err.e ≡ opening.Stopped → ⊥ = λ is. c.recover.ensures.unstopped (c.in-Err.is ∙ ap Err is) in
     subst (λ (a : Option DiskErr). CountsFall c.args.why (view c.args.disks.now) (view c.recover.new.disks) a c.args.story.now c.recover.new.story)
     (answers-opening c.in-Err.e never ∙ sym (ap (λ (s : Stop). answer_of (status_of s)) c.stop_opening.ensures.is)) c.in-Err.ensures.counts
+
+pub recover-requires-clause-able : goal.recover-requires-clause-able
+recover-requires-clause-able g c = c.requires.able
+
+pub returns-in-Ok-clause-able : goal.returns-in-Ok-clause-able
+returns-in-Ok-clause-able g c = c.recover.ensures.able
+
+pub returns-in-Err-clause-able : goal.returns-in-Err-clause-able
+returns-in-Err-clause-able g c = c.recover.ensures.able

@@ -14,17 +14,17 @@ use Rattle.std.proofs.lemmas.Result.{IfErr-weaker, on_ok_weaker}
 use Rattle.std.specs.Prelude.{refl}
 
 pub recover-requires-clause-halted : goal.recover-requires-clause-halted
-recover-requires-clause-halted g c =
+recover-requires-clause-halted g c = λ told.
     let view = g.D.Disks.view c.args.disks.now in
     let e = c.args.database.now in
-    let h = c.requires.halted in
+    let h = c.requires.halted told in
     (h.0, h.1, subst (λ (x : Halt). HaltsRun (g.E.Stepping.on_devices view e) (g.E.Stepping.flight e) x h.0 c.args.story.now h.1) c.in-Stopped.is h.2)
 
 pub recover-requires-in-DiskFault-clause-halted : goal.recover-requires-in-DiskFault-clause-halted
-recover-requires-in-DiskFault-clause-halted g c =
+recover-requires-in-DiskFault-clause-halted g c = λ told.
     let view = g.D.Disks.view c.args.disks.now in
     let e = c.args.database.now in
-    let h = c.requires.halted in
+    let h = c.requires.halted told in
     (h.0, h.1, subst (λ (x : Halt). HaltsRun (g.E.Stepping.on_devices view e) (g.E.Stepping.flight e) x h.0 c.args.story.now h.1) c.in-DiskFault.is h.2)
 
 pub returns-in-Stopped-clause-ok : goal.returns-in-Stopped-clause-ok
@@ -102,3 +102,21 @@ pub returns-in-Memory-clause-counts : goal.returns-in-Memory-clause-counts
 returns-in-Memory-clause-counts g c =
     let v = g.D.Disks.view c.args.disks.now in
     subst (λ (x : Halt). CountsResumed x v v (status_of stop.Memory) c.args.story.now c.args.story.now) (sym c.in-Memory.is) (refl, nothing-counted v c.args.story.now)
+
+pub recover-requires-clause-able : goal.recover-requires-clause-able
+recover-requires-clause-able g c = c.requires.able
+
+pub recover-requires-in-DiskFault-clause-able : goal.recover-requires-in-DiskFault-clause-able
+recover-requires-in-DiskFault-clause-able g c = c.requires.able
+
+pub returns-in-Stopped-clause-able : goal.returns-in-Stopped-clause-able
+returns-in-Stopped-clause-able g c = c.recover.ensures.able
+
+pub returns-in-DiskFault-clause-able : goal.returns-in-DiskFault-clause-able
+returns-in-DiskFault-clause-able g c = c.recover-in-DiskFault.ensures.able
+
+pub returns-in-DeviceFull-clause-able : goal.returns-in-DeviceFull-clause-able
+returns-in-DeviceFull-clause-able g c = c.requires.able
+
+pub returns-in-Memory-clause-able : goal.returns-in-Memory-clause-able
+returns-in-Memory-clause-able g c = c.requires.able

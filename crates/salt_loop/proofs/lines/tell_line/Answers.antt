@@ -1,28 +1,17 @@
 use Rattle.salt_promise.specs.declared.status.Status.{Status}
 use Rattle.salt_loop.proofs.Counts.{added-unwritten}
-use Rattle.salt_loop.proofs.Leaving.{left-there}
 use Rattle.salt_loop.proofs.Texts.{counts-written, of-devices, of-line}
 use Rattle.salt_loop.proofs.Told.{told-err, told-ok}
 use Rattle.salt_loop.proofs.lines.tell_line.Goals as goal
 use Rattle.salt_loop.specs.Counted.{CountsAdded}
 use Rattle.std.proofs.Common.{ap, drop, ◌∙◌}
-use Rattle.std.proofs.lemmas.Result.{IfErr-weaker, on_ok_weaker}
 use Rattle.std.specs.Option.{option_copied}
 
 pub write_done-requires : goal.write_done-requires
 write_done-requires g c = of-devices c.do_line-done.result c.do_line-done.ensures.later
 
 pub schema-requires : goal.schema-requires
-schema-requires g c =
-    let now = g.D.Disks.view c.do_line-done.new.disks in
-    let e = c.do_line-done.new.database in
-    let s = c.requires.stands in
-    record {
-      stands =
-          left-there (g.E.Stepping.stands_for now) (g.E.Stepping.on_devices now e) (g.E.Stepping.flight e) e c.stands.ensures.idle c.stands.ensures.flown c.stands.ensures.reopens c.stands.ensures.told
-          s.0 c.do_line-done.new.story c.do_line-done.result (on_ok_weaker c.do_line-done.result (λ done. let d = done s.0 s.1 s.2 in (d.after, d.serves)) c.do_line-done.ensures.ok)
-          (IfErr-weaker c.do_line-done.result _ _ (λ stop done. let d = done s.0 s.1 s.2 in (d.after, d.ends)) c.do_line-done.ensures.err);
-    }
+schema-requires g c = record { able = c.do_line-done.ensures.able }
 
 pub returns-clause-ok : goal.returns-clause-ok
 returns-clause-ok g c =
@@ -51,3 +40,9 @@ returns-clause-counts g c =
     let view = g.D.Disks.view in
     counts-written c.do_line-done.result c.write_done.result _ _ _ (λ (s : Status). CountsAdded (view c.args.disks.now) (view c.do_line-done.new.disks) s c.args.story.now c.do_line-done.new.story)
     (λ s. added-unwritten (view c.args.disks.now) (view c.do_line-done.new.disks) s c.args.story.now c.do_line-done.new.story) c.do_line-done.ensures.counts c.write_done.ensures.written
+
+pub do_line-done-requires-clause-able : goal.do_line-done-requires-clause-able
+do_line-done-requires-clause-able g c = c.requires.able
+
+pub returns-clause-able : goal.returns-clause-able
+returns-clause-able g c = c.do_line-done.ensures.able

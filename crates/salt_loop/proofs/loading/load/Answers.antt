@@ -1,3 +1,4 @@
+use Rattle.salt_driver.proofs.Untold.{told-then}
 use Rattle.salt_promise.specs.declared.status.Status.{Status}
 use Rattle.salt_loop.proofs.Counts.{added-both, added-opened}
 use Rattle.salt_loop.proofs.Loads.{all-loaded, loading-begun, not-begun}
@@ -10,7 +11,7 @@ use Rattle.salt_storage.proofs.Staying.{stays-behind}
 use Rattle.std.proofs.Common.{arith, subst}
 
 pub start-requires-clause-down : goal.start-requires-clause-down
-start-requires-clause-down g c = let b = c.requires.begins in (b.0, b.1, b.2.down)
+start-requires-clause-down g c = λ told. let b = c.requires.begins told in (b.0, b.1, b.2.down)
 
 pub returns-in-Err-clause-ended : goal.returns-in-Err-clause-ended
 returns-in-Err-clause-ended g c = λ start trace begins first is.
@@ -35,10 +36,13 @@ loop-i-init g c =
       within = c.start.ensures.within;
       counts = subst (λ (s : Status). CountsAdded (view c.args.disks.now) (view c.start.new.disks) s c.args.story.now c.start.new.story) (done-outcome c.start.result c.in_default.not-Err)
           (added-opened (view c.args.disks.now) (view c.start.new.disks) (outcome c.start.result) c.args.story.now c.start.new.story c.start.ensures.counts);
+      able = c.start.ensures.able;
     }
 
 pub serve_load_line-requires-clause-stands : goal.serve_load_line-requires-clause-stands
-serve_load_line-requires-clause-stands g c = let b = c.requires.begins in (b.0, b.3, c.loop-i.invariant.over b.0 b.1 b.2 b.3 b.4)
+serve_load_line-requires-clause-stands g c = λ told.
+    let b = c.requires.begins (told-then c.loop-i.invariant.within.shape told) in
+    (b.0, b.3, c.loop-i.invariant.over b.0 b.1 b.2 b.3 b.4)
 
 pub returns-in-Err-serve_load_line-clause-ended : goal.returns-in-Err-serve_load_line-clause-ended
 returns-in-Err-serve_load_line-clause-ended g c = λ start trace begins first is. c.in-Err-serve_load_line.ensures.err start first (c.loop-i.invariant.over start trace begins first is)
@@ -62,6 +66,7 @@ loop-i-preserved g c =
       counts = added-both (view c.args.disks.now) (view c.loop-i.disks) (view c.serve_load_line.new.disks) _ c.args.story.now c.loop-i.story c.serve_load_line.new.story c.loop-i.invariant.counts
           (subst (λ (s : Status). CountsAdded (view c.loop-i.disks) (view c.serve_load_line.new.disks) s c.loop-i.story c.serve_load_line.new.story)
           (done-outcome c.serve_load_line.result c.in_default-serve_load_line.not-Err) c.serve_load_line.ensures.counts);
+      able = c.serve_load_line.ensures.able;
     }
 
 pub returns-clause-ended : goal.returns-clause-ended
@@ -73,3 +78,18 @@ returns-clause-ended g c = λ start trace begins first is.
 
 pub returns-clause-within : goal.returns-clause-within
 returns-clause-within g c = c.loop-i.invariant.within
+
+pub start-requires-clause-able : goal.start-requires-clause-able
+start-requires-clause-able g c = c.requires.able
+
+pub serve_load_line-requires-clause-able : goal.serve_load_line-requires-clause-able
+serve_load_line-requires-clause-able g c = c.loop-i.invariant.able
+
+pub returns-in-Err-clause-able : goal.returns-in-Err-clause-able
+returns-in-Err-clause-able g c = c.start.ensures.able
+
+pub returns-in-Err-serve_load_line-clause-able : goal.returns-in-Err-serve_load_line-clause-able
+returns-in-Err-serve_load_line-clause-able g c = c.serve_load_line.ensures.able
+
+pub returns-clause-able : goal.returns-clause-able
+returns-clause-able g c = c.loop-i.invariant.able

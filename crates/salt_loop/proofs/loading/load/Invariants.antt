@@ -15,4 +15,5 @@ invariant-loop-i g l = record {
       IsLoading (g.E.Stepping.stands_for (g.D.Disks.view l.disks) l.database) start l.calls l.i l.story first (g.D.Disks.view l.disks).armed;
   within : StaysWithin (g.E.Stepping.asked l.fn.database) (g.E.Stepping.asked l.database) (g.D.Disks.view l.fn.disks) (g.D.Disks.view l.disks);
   counts : CountsAdded (g.D.Disks.view l.fn.disks) (g.D.Disks.view l.disks) Done l.fn.story l.story;
+  able : g.E.Stepping.able (g.D.Disks.view l.disks) l.database;
 }

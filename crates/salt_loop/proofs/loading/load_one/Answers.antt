@@ -1,3 +1,4 @@
+use Rattle.salt_driver.proofs.Untold.{told-then}
 use Rattle.salt_loop.proofs.Counts.{halt-counted, line-counted}
 use Rattle.salt_loop.proofs.Armed.{ends-resumed, line-halts, line-stays, stays-resumed}
 use Rattle.salt_loop.proofs.Continuing.{err-resumed, ok-resumed}
@@ -19,7 +20,7 @@ step-requires-clause-key g c =
     (asked-by-load (account-spelled read) (transfer-spelled read) c.args.calls c.args.i c.args.line.now c.requires.is).1
 
 pub step-requires-clause-stands : goal.step-requires-clause-stands
-step-requires-clause-stands g c = let s = c.requires.stands in (s.0, s.2.trace, s.2.serves)
+step-requires-clause-stands g c = λ told. let s = c.requires.stands told in (s.0, s.2.trace, s.2.serves)
 
 pub returns-in-Ok-clause-ok : goal.returns-in-Ok-clause-ok
 returns-in-Ok-clause-ok g c = λ start first loading.
@@ -34,7 +35,10 @@ pub returns-in-Ok-clause-counts : goal.returns-in-Ok-clause-counts
 returns-in-Ok-clause-counts g c = line-counted c.args.line.now (g.D.Disks.view c.args.disks.now) (g.D.Disks.view c.step.new.disks) c.args.story.now c.step.new.story c.in-Ok.ensures.counts
 
 pub resume-requires-clause-halted : goal.resume-requires-clause-halted
-resume-requires-clause-halted g c = let s = c.requires.stands in let b = c.in-Err.ensures.broken_off s.0 s.2.trace s.2.serves in (s.0, b.after, b.halts)
+resume-requires-clause-halted g c = λ told.
+    let s = c.requires.stands (told-then c.step.ensures.within.shape told) in
+    let b = c.in-Err.ensures.broken_off s.0 s.2.trace s.2.serves in
+    (s.0, b.after, b.halts)
 
 pub returns-in-Err-clause-ok : goal.returns-in-Err-clause-ok
 returns-in-Err-clause-ok g c =
@@ -72,3 +76,15 @@ returns-in-Err-clause-counts g c =
     let view = g.D.Disks.view in
     halt-counted c.args.line.now (view c.args.disks.now) (view c.step.new.disks) (view c.resume.new.disks) (outcome c.resume.result) c.args.story.now c.step.new.story c.resume.new.story c.in-Err.halt
     c.in-Err.ensures.counts c.resume.ensures.counts
+
+pub step-requires-clause-able : goal.step-requires-clause-able
+step-requires-clause-able g c = c.requires.able
+
+pub resume-requires-clause-able : goal.resume-requires-clause-able
+resume-requires-clause-able g c = c.step.ensures.able
+
+pub returns-in-Ok-clause-able : goal.returns-in-Ok-clause-able
+returns-in-Ok-clause-able g c = c.step.ensures.able
+
+pub returns-in-Err-clause-able : goal.returns-in-Err-clause-able
+returns-in-Err-clause-able g c = c.resume.ensures.able

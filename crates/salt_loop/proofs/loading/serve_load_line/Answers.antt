@@ -27,3 +27,15 @@ load_one-requires-clause-is g c = sym c.in-Some.is ∙ c.in_ok-line.ensures
 
 pub returns-in-None-clause-ok : goal.returns-in-None-clause-ok
 returns-in-None-clause-ok g c = absurd (not-none (load_lines c.args.calls) c.args.i c.requires.within (sym c.in-None.is ∙ c.in_ok-line.ensures))
+
+pub load_one-requires-clause-able : goal.load_one-requires-clause-able
+load_one-requires-clause-able g c = c.requires.able
+
+pub returns-in_err-line-clause-able : goal.returns-in_err-line-clause-able
+returns-in_err-line-clause-able g c = c.requires.able
+
+pub returns-in-Some-clause-able : goal.returns-in-Some-clause-able
+returns-in-Some-clause-able g c = c.load_one.ensures.able
+
+pub returns-in-None-clause-able : goal.returns-in-None-clause-able
+returns-in-None-clause-able g c = c.requires.able

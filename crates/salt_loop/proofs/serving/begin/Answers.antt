@@ -5,7 +5,6 @@ use Rattle.salt_model.specs.declared.events.Event.{Event}
 use Rattle.salt_promise.specs.declared.status.Status.{Status}
 use Rattle.salt_loop.proofs.Beginning.{begun-err, begun-ok, never-read}
 use Rattle.salt_loop.proofs.Counts.{added-opened, added-unwritten}
-use Rattle.salt_loop.proofs.Leaving.{left-there}
 use Rattle.salt_loop.proofs.Outcomes.{err-for-all, ok-for-all}
 use Rattle.salt_loop.proofs.Texts.{counts-written, of-devices}
 use Rattle.salt_loop.proofs.serving.begin.Goals as goal
@@ -19,22 +18,13 @@ use Rattle.std.proofs.lemmas.Result.{IfErr-weaker, on_ok_weaker}
 use Rattle.std.specs.Prelude.{List, Option, Some, ℕ, ◌≡◌}
 
 pub start-done-requires-clause-down : goal.start-done-requires-clause-down
-start-done-requires-clause-down g c = let b = c.requires.begins in (b.0, b.1, b.2.down)
+start-done-requires-clause-down g c = λ told. let b = c.requires.begins told in (b.0, b.1, b.2.down)
 
 pub write_done-requires : goal.write_done-requires
 write_done-requires g c = of-devices c.start-done.result c.start-done.ensures.later
 
 pub schema-requires : goal.schema-requires
-schema-requires g c =
-    let now = g.D.Disks.view c.start-done.new.disks in
-    let e = c.start-done.new.database in
-    let b = c.requires.begins in
-    record {
-      stands =
-          left-there (g.E.Stepping.stands_for now) (g.E.Stepping.on_devices now e) (g.E.Stepping.flight e) e c.stands.ensures.idle c.stands.ensures.flown c.stands.ensures.reopens c.stands.ensures.told
-          b.0 c.start-done.new.story c.start-done.result (on_ok_weaker c.start-done.result (λ opened. let o = opened b.0 b.1 b.2.down in (o.after, o.serves)) c.start-done.ensures.ok)
-          (IfErr-weaker c.start-done.result _ _ (λ stop ends. let x = ends b.0 b.1 b.2.down in (x.after, x.ends)) c.start-done.ensures.err);
-    }
+schema-requires g c = record { able = c.start-done.ensures.able }
 
 pub returns-clause-ok : goal.returns-clause-ok
 returns-clause-ok g c =
@@ -72,3 +62,9 @@ returns-clause-counts g c =
     counts-written c.start-done.result c.write_done.result _ _ _ (λ (s : Status). CountsAdded (view c.args.disks.now) (view c.start-done.new.disks) s c.args.story.now c.start-done.new.story)
     (λ s. added-unwritten (view c.args.disks.now) (view c.start-done.new.disks) s c.args.story.now c.start-done.new.story)
     (added-opened (view c.args.disks.now) (view c.start-done.new.disks) (outcome c.start-done.result) c.args.story.now c.start-done.new.story c.start-done.ensures.counts) c.write_done.ensures.written
+
+pub start-done-requires-clause-able : goal.start-done-requires-clause-able
+start-done-requires-clause-able g c = c.requires.able
+
+pub returns-clause-able : goal.returns-clause-able
+returns-clause-able g c = c.start-done.ensures.able

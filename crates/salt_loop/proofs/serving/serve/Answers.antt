@@ -1,3 +1,5 @@
+use Rattle.salt_io.specs.Lines.{IsReadingOf, ScriptReading}
+use Rattle.salt_driver.proofs.Untold.{told-then}
 use Rattle.salt_promise.specs.declared.status.Status.{Status}
 use Rattle.salt_loop.proofs.Beginning.{serving-begun}
 use Rattle.salt_loop.proofs.Counts.{added-both}
@@ -9,8 +11,8 @@ use Rattle.salt_loop.specs.Counted.{CountsAdded}
 use Rattle.salt_loop.specs.Ending.{EndsServing}
 use Rattle.salt_loop.specs.Serving.{IsAfterLine}
 use Rattle.salt_storage.proofs.Staying.{stays-behind}
-use Rattle.std.proofs.Common.{refl, subst, ◌∙◌}
-use Rattle.std.specs.Prelude.{Bool}
+use Rattle.std.proofs.Common.{ap, refl, subst, sym, ◌∙◌}
+use Rattle.std.specs.Prelude.{Bool, Ok}
 
 pub returns-in_err-begin-clause-ended : goal.returns-in_err-begin-clause-ended
 returns-in_err-begin-clause-ended g c = λ start trace begins first is.
@@ -36,11 +38,13 @@ lines-init g c =
       within = c.begin.ensures.within;
       writes = c.in_ok-begin.ensures.no_write_fault (λ e. cc);
       counts = c.in_ok-begin.ensures.counts;
+      able = c.begin.ensures.able;
+      of = subst (λ (r : ScriptReading). IsReadingOf r (g.S.Source.left c.args.source.now)) (sym c.new.ensures) (λ ended. cc);
     }
 
 pub serve_line-requires-clause-stands : goal.serve_line-requires-clause-stands
-serve_line-requires-clause-stands g c =
-    let b = c.requires.begins in
+serve_line-requires-clause-stands g c = λ told.
+    let b = c.requires.begins (told-then c.lines.invariant.within.shape told) in
     (b.0, g.S.Source.left c.args.source.now, g.K.Sink.held c.args.sink.now, b.3, c.lines.invariant.over b.0 b.1 b.2 b.3 b.4)
 
 pub returns-in_err-serve_line-clause-ended : goal.returns-in_err-serve_line-clause-ended
@@ -71,6 +75,8 @@ lines-preserved g c =
       writes = c.in_ok-serve_line.ensures.no_write_fault (λ x. cc) ∙ c.lines.invariant.writes;
       within = stays-behind c.lines.invariant.within c.serve_line.ensures.within;
       counts = added-both old (view c.lines.disks) now _ c.args.story.now c.lines.story c.serve_line.new.story c.lines.invariant.counts c.in_ok-serve_line.ensures.counts;
+      able = c.serve_line.ensures.able;
+      of = c.serve_line.ensures.of;
     }
 
 pub returns-clause-ended : goal.returns-clause-ended
@@ -81,12 +87,7 @@ returns-clause-ended g c = λ start trace begins first is.
     (c.in_ok-serve_line.ensures.goes start (g.S.Source.left c.args.source.now) (g.K.Sink.held c.args.sink.now) first (c.lines.invariant.over start trace begins first is))).0
 
 pub returns-clause-end : goal.returns-clause-end
-returns-clause-end g c =
-    let now = g.D.Disks.view c.serve_line.new.disks in
-    let e = c.serve_line.new.database in
-    let b = c.requires.begins in
-    (subst (λ (more : Bool). IsAfterLine more (g.E.Stepping.stands_for now e) (g.E.Stepping.on_devices now e) b.0 (script_run Done (g.E.Stepping.flight e) (streams (g.S.Source.left c.args.source.now) (g.S.Source.left c.serve_line.new.source) (g.K.Sink.held c.args.sink.now) (g.K.Sink.held c.serve_line.new.sink)) c.serve_line.new.story) c.serve_line.new.self.lines b.3 now.armed) c.if-branch.false
-    (c.in_ok-serve_line.ensures.goes b.0 (g.S.Source.left c.args.source.now) (g.K.Sink.held c.args.sink.now) b.3 (c.lines.invariant.over b.0 b.1 b.2 b.3 b.4))).1
+returns-clause-end g c = c.in_ok-serve_line.ensures.end (ap Ok c.if-branch.false)
 
 pub returns-clause-counts : goal.returns-clause-counts
 returns-clause-counts g c =
@@ -98,3 +99,21 @@ returns-clause-within g c = stays-behind c.lines.invariant.within c.serve_line.e
 
 pub returns-in_err-serve_line-clause-within : goal.returns-in_err-serve_line-clause-within
 returns-in_err-serve_line-clause-within g c = stays-behind c.lines.invariant.within c.serve_line.ensures.within
+
+pub begin-requires-clause-able : goal.begin-requires-clause-able
+begin-requires-clause-able g c = c.requires.able
+
+pub serve_line-requires-clause-able : goal.serve_line-requires-clause-able
+serve_line-requires-clause-able g c = c.lines.invariant.able
+
+pub serve_line-requires-clause-of : goal.serve_line-requires-clause-of
+serve_line-requires-clause-of g c = c.lines.invariant.of
+
+pub returns-in_err-begin-clause-able : goal.returns-in_err-begin-clause-able
+returns-in_err-begin-clause-able g c = c.begin.ensures.able
+
+pub returns-in_err-serve_line-clause-able : goal.returns-in_err-serve_line-clause-able
+returns-in_err-serve_line-clause-able g c = c.serve_line.ensures.able
+
+pub returns-clause-able : goal.returns-clause-able
+returns-clause-able g c = c.serve_line.ensures.able

@@ -1,3 +1,4 @@
+use Rattle.salt_io.specs.Lines.{IsReadingOf}
 use Rattle.salt_model.specs.Arming.{armed_by_lines}
 use Rattle.salt_model.specs.Trace.{Start, Trace}
 use Rattle.salt_promise.specs.declared.status.Status.TheVariants.{Done}
@@ -17,6 +18,8 @@ invariant-lines g l = record {
   writes : g.K.Sink.faults l.sink ≡ g.K.Sink.faults l.fn.sink;
   within : StaysWithin (g.E.Stepping.asked l.fn.database) (g.E.Stepping.asked l.database) (g.D.Disks.view l.fn.disks) (g.D.Disks.view l.disks);
   counts : CountsAdded (g.D.Disks.view l.fn.disks) (g.D.Disks.view l.disks) Done l.fn.story l.story;
+  able : g.E.Stepping.able (g.D.Disks.view l.disks) l.database;
+  of : IsReadingOf l.serving.lines (g.S.Source.left l.source);
 }
 
 abbrev pub decreases-lines : goal.decreases-lines

@@ -22,9 +22,7 @@ returns-in-Err-clause-err g c = λ start trace down.
     (ends-early devices flies c.in-Err.e start trace c.args.story.now c.open.new.story (c.in-Err.ensures.err start trace down))
 
 pub returns-in-Err-clause-later : goal.returns-in-Err-clause-later
-returns-in-Err-clause-later g c =
-    let h = c.requires.down in
-    subst IsLaterStop (sym c.stop_opening.ensures.is) (later-stop c.in-Err.e (c.in-Err.ensures.err h.0 h.1 h.2).later)
+returns-in-Err-clause-later g c = subst IsLaterStop (sym c.stop_opening.ensures.is) (later-stop c.in-Err.e c.in-Err.ensures.late)
 
 pub returns-in-Err-clause-counts : goal.returns-in-Err-clause-counts
 returns-in-Err-clause-counts g c =
@@ -32,3 +30,12 @@ returns-in-Err-clause-counts g c =
     let never : c.in-Err.e ≡ opening.Stopped → ⊥ = λ is. c.open.ensures.unstopped (c.in-Err.is ∙ ap Err is) in
     subst (λ (a : Option DiskErr). CountsOpening (view c.args.disks.now) (view c.open.new.disks) a c.args.story.now c.open.new.story)
     (answers-opening c.in-Err.e never ∙ sym (ap (λ (s : Stop). answer_of (status_of s)) c.stop_opening.ensures.is)) c.in-Err.ensures.counts
+
+pub open-requires-clause-able : goal.open-requires-clause-able
+open-requires-clause-able g c = c.requires.able
+
+pub returns-in-Ok-clause-able : goal.returns-in-Ok-clause-able
+returns-in-Ok-clause-able g c = c.open.ensures.able
+
+pub returns-in-Err-clause-able : goal.returns-in-Err-clause-able
+returns-in-Err-clause-able g c = c.open.ensures.able

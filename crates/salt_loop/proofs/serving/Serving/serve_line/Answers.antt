@@ -37,7 +37,7 @@ pub returns-in-End-clause-counts : goal.returns-in-End-clause-counts
 returns-in-End-clause-counts g c = added-none (g.D.Disks.view c.args.disks.now) c.args.story.now
 
 pub tell_line-requires-clause-stands : goal.tell_line-requires-clause-stands
-tell_line-requires-clause-stands g c = let s = c.requires.stands in (s.0, s.4.trace, s.4.serves)
+tell_line-requires-clause-stands g c = λ told. let s = c.requires.stands told in (s.0, s.4.trace, s.4.serves)
 
 pub returns-in_err-tell_line-clause-stops : goal.returns-in_err-tell_line-clause-stops
 returns-in_err-tell_line-clause-stops g c =
@@ -78,3 +78,36 @@ returns-clause-goes g c = λ start script before first serving.
     line-done (g.E.Stepping.stands_for (g.D.Disks.view c.args.disks.now)) start script before c.args.database.now c.args.self.now.lines (g.S.Source.left c.args.source.now) c.args.story.now (g.K.Sink.held c.args.sink.now) first (g.D.Disks.view c.args.disks.now).armed serving
     c.next_line.new.self (g.S.Source.left c.next_line.new.source) c.next_line.ensures.of (option_copied c.text_of-text.result) taken c.tell_line.new.story (g.E.Stepping.stands_for now) c.tell_line.new.database (g.K.Sink.held c.tell_line.new.sink) now.armed
     (c.in_ok-tell_line.ensures.ok start serving.trace serving.serves)
+
+pub next_line-requires : goal.next_line-requires
+next_line-requires g c = c.requires.of
+
+pub tell_line-requires-clause-able : goal.tell_line-requires-clause-able
+tell_line-requires-clause-able g c = c.requires.able
+
+pub returns-in_err-next-clause-able : goal.returns-in_err-next-clause-able
+returns-in_err-next-clause-able g c = c.requires.able
+
+pub returns-in-End-clause-able : goal.returns-in-End-clause-able
+returns-in-End-clause-able g c = c.requires.able
+
+pub returns-in_err-tell_line-clause-able : goal.returns-in_err-tell_line-clause-able
+returns-in_err-tell_line-clause-able g c = c.tell_line.ensures.able
+
+pub returns-clause-able : goal.returns-clause-able
+returns-clause-able g c = c.tell_line.ensures.able
+
+pub returns-in_err-next-clause-of : goal.returns-in_err-next-clause-of
+returns-in_err-next-clause-of g c = c.next_line.ensures.of
+
+pub returns-in-End-clause-of : goal.returns-in-End-clause-of
+returns-in-End-clause-of g c = c.next_line.ensures.of
+
+pub returns-in_err-tell_line-clause-of : goal.returns-in_err-tell_line-clause-of
+returns-in_err-tell_line-clause-of g c = c.next_line.ensures.of
+
+pub returns-clause-of : goal.returns-clause-of
+returns-clause-of g c = c.next_line.ensures.of
+
+pub returns-in-End-clause-end : goal.returns-in-End-clause-end
+returns-in-End-clause-end g c = λ is. (c.next_line.ensures.of (c.next_line.ensures.end_told (c.in_ok-next.was ∙ ap Ok c.in-End.is))).1
