@@ -33,7 +33,6 @@ pub fn boots_kept<S: Storage, D: Disks, F: Fn(PlaceKind, &Key, u32) -> u32>(
     match storage.boot(disks) {
         Ok(boot) => Ok(boot),
         Err(_) => {
-            storage.stands(disks);
             storage.restart(disks);
             Ok(storage.reopen(disks, place)?.boot)
         }

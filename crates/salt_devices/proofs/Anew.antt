@@ -1,49 +1,36 @@
 -- Devices are opened anew: what was left there is found, or is left as it was.
 use Rattle.salt_bytes.specs.Generations.{BothBlank}
-use Rattle.salt_commit.specs.Openings.{HasRoom}
-use Rattle.salt_commit.specs.Stores.{last_boot, last_decision}
+use Rattle.salt_commit.specs.Openings.{LeavesStanding, StillStands}
+use Rattle.salt_commit.specs.Stores.{last_boot, last_decision, reading}
 use Rattle.salt_commit.specs.declared.store.Store.{Store}
-use Rattle.salt_decisions.specs.Decisions.{shape_of}
 use Rattle.salt_stands.specs.Fitting.{kept_in}
-use Rattle.salt_devices.proofs.Answered.{like_stands}
+use Rattle.salt_devices.proofs.Answered.{like_stands, opened_stands}
 use Rattle.salt_devices.proofs.Known.{stands_fails}
 use Rattle.salt_devices.proofs.Opening.{like_unwritten}
-use Rattle.salt_devices.proofs.Reheld.{held_again_mute}
-use Rattle.salt_devices.proofs.Refound.{Tells}
-use Rattle.salt_devices.proofs.Remembered.{held_numbers, held_rows}
+use Rattle.salt_devices.proofs.Remembered.{numbers_found}
+use Rattle.salt_devices.proofs.Stores.{is_begun}
 use Rattle.salt_devices.specs.Leaving.{IsEither, LeavesEither, LeavesAs, StandsFor}
 use Rattle.salt_devices.specs.Holding.{IsHeld}
 use Rattle.salt_devices.specs.Opened.{OpensAs}
 use Rattle.salt_devices.specs.Refusing.{RefusedAs}
-use Rattle.salt_devices.specs.Remembering.{IsFoundAgain, MayTell, Recalls, Remembers}
+use Rattle.salt_devices.specs.Remembering.{AreNumbersOf, Follow, MayTell, Remembers, numbers_of}
 use Rattle.salt_devices.specs.Standing.{RestsAs}
-use Rattle.salt_devices.specs.declared.pending.Pending.TheVariants.{Lost}
 use Rattle.salt_devices.specs.declared.pending.Pending.{Pending}
-use Rattle.salt_disk.specs.Disks.{KeepsAll, SameShape, View}
+use Rattle.salt_disk.specs.Disks.{KeepsAll, View}
 use Rattle.salt_disk.specs.declared.disks.DiskErr.{DiskErr}
-use Rattle.salt_gatelog.proofs.Entries.{not_told}
-use Rattle.salt_model.specs.Kept.{Kept}
+use Rattle.salt_model.specs.Kept.{Definition, Kept}
+use Rattle.salt_parts.specs.Openings.{HasRoom}
 use Rattle.salt_stands.specs.Coordinator.{coordinator_pair}
-use Rattle.salt_stands.specs.Stands.{are_spent, logs_of}
-use Rattle.salt_storage.specs.Answers.{IsSpent, MayFail}
-use Rattle.salt_storage.specs.Storing.{IsSoundKept}
+use Rattle.salt_stands.specs.Stands.{Found, are_spent, logs_of, stands_on}
+use Rattle.salt_storage.specs.Answers.{IsRefusal, IsSpent, MayFail}
 use Rattle.salt_storage.specs.declared.found.Found as storage
+use Rattle.salt_storage.specs.declared.found.Numbers.{Numbers}
 use Rattle.salt_storage.specs.OpenErr.TheVariants as opening
 use Rattle.salt_storage.specs.OpenErr.TheVariants.{NotSalt, NumbersSpent, OtherShape}
 use Rattle.salt_storage.specs.OpenErr.{OpenErr}
 use Rattle.salt_place.specs.Placement.{IsParts}
 use Rattle.salt_place.specs.declared.placement.Shape.{Shape}
-use Rattle.std.proofs.Common.{Bool, IsTrue, List, Ok, Option, Some, ap, arith, false, inl, inr, refl, subst, sym, true, ℕ, ◌≡◌, ◌⊎◌, ◌∙◌}
-
--- where nothing was written, what may come now came before
-pub still_left : (d e : View) (shape : Shape) (n : ℕ) (answer : Option DiskErr) → HasRoom d n → KeepsAll d e answer → (a b : Kept) → LeavesAs true d shape a b → LeavesEither e shape a b
-still_left d e shape n answer room keeps a b h told image left =
-    h (sym keeps.shape.told ∙ told) image
-    (λ dev low. room.settled dev low (image dev) (keeps.images dev (λ none. none) (image dev) (left dev (omega (arith, low, keeps.shape.count)))))
-
--- and of disks that don't tell nothing is said
-pub mute_left : (e : View) (shape : Shape) (a b : Kept) → e.told ≡ false → LeavesEither e shape a b
-mute_left e shape a b mute told image left = absurd (cc (told, mute))
+use Rattle.std.proofs.Common.{IsTrue, List, Ok, Option, ap, arith, false, inl, inr, refl, subst, sym, true, ℕ, ◌≡◌, ◌⊎◌, ◌∙◌}
 
 pub left_bytes : (d : View) (shape : Shape) (a b : Kept) → LeavesAs true d shape a b → IsTrue d.told → IsEither shape d.bytes a b
 left_bytes d shape a b h told = h told d.bytes (λ dev low. refl)
@@ -55,10 +42,48 @@ one_kept shape image k l s t =
     let same : s.found ≡ t.found = cc both in
     sym s.keeps ∙ ap kept_in same ∙ t.keeps
 
--- where memory did not run out it is recalled
-pub recalled : (shape : Shape) (x : Store) (p : Pending) (a b : Kept) → (p ≡ Lost → ⊥) → Remembers shape (Some x) p a b → Recalls shape x p a b
-recalled shape x p a b not (inl lost) = absurd (not lost)
-recalled shape x p a b not (inr r) = r
+-- WHAT IS LEFT
+
+-- where nothing was written, what may come now came before
+still_left : (d e : View) (shape : Shape) (n : ℕ) (answer : Option DiskErr) → HasRoom d n → KeepsAll d e answer → (a b : Kept) → LeavesAs true d shape a b → LeavesEither e shape a b
+still_left d e shape n answer room keeps a b h told image left =
+    h (sym keeps.shape.told ∙ told) image
+    (λ dev low. room.settled dev low (image dev) (keeps.images dev (λ none. none) (image dev) (left dev (omega (arith, low, keeps.shape.count)))))
+
+-- where pages were written, each image stands for what was found
+module _ (d e : View) (shape : Shape) (a b : Kept) (s : StillStands d e shape) (told : IsTrue d.told) (h : LeavesAs true d shape a b) where
+  stood : stands_on reading d.bytes shape ≡ Ok s.found
+  stood = opened_stands d.bytes shape s.found s.opens
+
+  one_found : (k : Kept) (t : StandsFor shape d.bytes k) → s.found ≡ t.found
+  one_found k t = let both : Ok s.found ≡ Ok t.found = sym stood ∙ t.is in cc both
+
+  has_shape : s.found.shape ≡ shape
+  has_shape = by (left_bytes d shape a b h told).stands
+    where
+      by : StandsFor shape d.bytes a ⊎ StandsFor shape d.bytes b → s.found.shape ≡ shape
+      by (inl t) = ap (λ (f : Found Definition). f.shape) (one_found a t) ∙ t.has_shape
+      by (inr t) = ap (λ (f : Found Definition). f.shape) (one_found b t) ∙ t.has_shape
+
+  written_left : LeavesEither e shape a b
+  written_left now image left = record {
+    begun = is_begun shape image (λ asked. record { found = s.found; has_shape = has_shape; is = s.images asked image left });
+    stands = by (left_bytes d shape a b h told).stands;
+  }
+    where
+      one : (k : Kept) → StandsFor shape d.bytes k → StandsFor shape image k
+      one k t = record { found = t.found; is = s.images shape image left ∙ ap Ok (one_found k t); has_shape = t.has_shape; newest = t.newest; keeps = t.keeps }
+
+      by : StandsFor shape d.bytes a ⊎ StandsFor shape d.bytes b → StandsFor shape image a ⊎ StandsFor shape image b
+      by (inl t) = inl (one a t)
+      by (inr t) = inr (one b t)
+
+pub opening_left : (d e : View) (shape : Shape) (n : ℕ) (answer : Option DiskErr) → HasRoom d n → IsTrue d.told → (¬ (coordinator_pair (logs_of d.bytes) ≡ BothBlank) → LeavesStanding d e shape answer) → (a b : Kept) → LeavesAs true d shape a b → LeavesEither e shape a b
+opening_left d e shape n answer room told leaves a b h = by (leaves (left_bytes d shape a b h told).begun)
+  where
+    by : LeavesStanding d e shape answer → LeavesEither e shape a b
+    by (inl keeps) = still_left d e shape n answer room keeps a b h
+    by (inr stands) = written_left d e shape a b stands told h
 
 -- HOW AN OPENING MAY FAIL there
 
@@ -82,114 +107,59 @@ left_fails d shape a b e h told refused = by (left_bytes d shape a b h told).sta
     by (inl s) = stands_fails shape d.bytes a b e s refused
     by (inr s) = swapped a b e (stands_fails shape d.bytes b a e s refused)
 
--- where a log was begun nothing is written
-pub unwritten_left : (d e : View) (shape : Shape) (n : ℕ) (answer : Option DiskErr) → HasRoom d n → SameShape d e → (IsTrue d.told → ¬ (coordinator_pair (logs_of d.bytes) ≡ BothBlank) → KeepsAll d e answer) → (a b : Kept) → LeavesAs true d shape a b
-    → LeavesEither e shape a b
-unwritten_left d e shape n answer room same kept a b h told image left =
-    let was : IsTrue d.told = sym same.told ∙ told in
-    still_left d e shape n answer room (kept was (left_bytes d shape a b h was).begun) a b h told image left
-
--- what an opening may not answer is not told
-pub not_left : (d : View) (shape : Shape) (a b : Kept) (e : OpenErr) → LeavesAs true d shape a b → (MayTell a b e → (dev : ℕ) × (e ≡ opening.Full dev)) → (IsTrue d.told → RefusedAs shape d.bytes e)
-    → ((dev : ℕ) → e ≡ opening.Full dev → IsTrue d.told → coordinator_pair (logs_of d.bytes) ≡ BothBlank) → IsTrue d.told → ⊥
-not_left d shape a b e h not refused blank told =
-    let full = not (left_fails d shape a b e h told (refused told)) in
-    (left_bytes d shape a b h told).begun (blank full.0 full.1 told)
-
--- WHAT IS LEFT where it fails so: nothing was written, so what stands there is all that a stop may leave
-module _ (d e : View) (shape : Shape) (parts : IsParts shape.parts) (room : HasRoom d shape.parts) (a b : Kept) (h : LeavesAs true d shape a b) where
+-- WHAT RESTS where it fails so: nothing was written, so what stands there is all that a stop may leave
+module _ (d e : View) (shape : Shape) (parts : IsParts shape.parts) (room : HasRoom d shape.parts) (a b : Kept) (told : IsTrue d.told) (h : LeavesAs true d shape a b) where
   rests_still : (answer : Option DiskErr) → KeepsAll d e answer → (k : Kept) → StandsFor shape d.bytes k → RestsAs shape false e k
   rests_still answer keeps k s = record {
     settled = λ is. absurd (cc is);
-    rests = λ told image left. like_stands shape d.bytes image (like_unwritten d shape parts room e answer keeps image left) k s;
+    rests = λ now image left. like_stands shape d.bytes image (like_unwritten d shape parts room e answer keeps image left) k s;
   }
 
-  -- of disks that don't tell nothing is said
-  rests_mute : e.told ≡ false → (k : Kept) → RestsAs shape false e k
-  rests_mute mute k = record { settled = λ is. absurd (cc is); rests = λ told image left. absurd (cc (told, mute)) }
-
-  pub fails_known : (answer : Option DiskErr) (err : OpenErr) → SameShape d e → (IsTrue d.told → ¬ (coordinator_pair (logs_of d.bytes) ≡ BothBlank) → KeepsAll d e answer) → (IsTrue d.told → RefusedAs shape d.bytes err) → MayTell a b err
-      → MayFail (RestsAs shape false e) a b err
-  fails_known answer (NotSalt dev) same kept refused tells = tells
-  fails_known answer (OtherShape other asked) same kept refused tells = tells
-  fails_known answer (NumbersSpent boot decisions) same kept refused tells = by d.told refl
+  pub fails_known : (answer : Option DiskErr) (err : OpenErr) → (IsRefusal err → KeepsAll d e answer) → RefusedAs shape d.bytes err → MayFail (RestsAs shape false e) a b err
+  fails_known answer err kept refused = by err kept refused (left_fails d shape a b err h told refused)
     where
-      known : (k : Kept) → (k ≡ a) ⊎ (k ≡ b) → RestsAs shape false e k → (boot ≡ k.boot) × (decisions ≡ k.decisions) → IsSpent (RestsAs shape false e) a b boot decisions
-      known k either rests is = record { kept = k; either = either; resting = rests; boot_is = is.0; decisions_are = is.1; spent = tells.0 }
-
-      numbers : IsTrue d.told → (k : Kept) → StandsFor shape d.bytes k → (boot ≡ k.boot) × (decisions ≡ k.decisions)
-      numbers told k s = one (stands_fails shape d.bytes k k (NumbersSpent boot decisions) s (refused told)).1
+      by : (f : OpenErr) → (IsRefusal f → KeepsAll d e answer) → RefusedAs shape d.bytes f → MayTell a b f → MayFail (RestsAs shape false e) a b f
+      by (NotSalt dev) keeps r tells = tells
+      by (OtherShape other asked) keeps r tells = tells
+      by (NumbersSpent boot decisions) keeps r tells = there (left_bytes d shape a b h told).stands
         where
-          one : ((boot ≡ k.boot) × (decisions ≡ k.decisions)) ⊎ ((boot ≡ k.boot) × (decisions ≡ k.decisions)) → (boot ≡ k.boot) × (decisions ≡ k.decisions)
-          one (inl is) = is
-          one (inr is) = is
+          known : (k : Kept) → (k ≡ a) ⊎ (k ≡ b) → StandsFor shape d.bytes k → (boot ≡ k.boot) × (decisions ≡ k.decisions) → IsSpent (RestsAs shape false e) a b boot decisions
+          known k either s is = record { kept = k; either = either; resting = rests_still answer (keeps tt) k s; boot_is = is.0; decisions_are = is.1; spent = tells.0 }
 
-      there : IsTrue d.told → StandsFor shape d.bytes a ⊎ StandsFor shape d.bytes b → IsSpent (RestsAs shape false e) a b boot decisions
-      there told (inl s) = known a (inl refl) (rests_still answer (kept told (left_bytes d shape a b h told).begun) a s) (numbers told a s)
-      there told (inr s) = known b (inr refl) (rests_still answer (kept told (left_bytes d shape a b h told).begun) b s) (numbers told b s)
+          numbers : (k : Kept) → StandsFor shape d.bytes k → (boot ≡ k.boot) × (decisions ≡ k.decisions)
+          numbers k s = one (stands_fails shape d.bytes k k (NumbersSpent boot decisions) s r).1
+            where
+              one : ((boot ≡ k.boot) × (decisions ≡ k.decisions)) ⊎ ((boot ≡ k.boot) × (decisions ≡ k.decisions)) → (boot ≡ k.boot) × (decisions ≡ k.decisions)
+              one (inl is) = is
+              one (inr is) = is
 
-      untold : d.told ≡ false → ((boot ≡ a.boot) × (decisions ≡ a.decisions)) ⊎ ((boot ≡ b.boot) × (decisions ≡ b.decisions)) → IsSpent (RestsAs shape false e) a b boot decisions
-      untold mute (inl is) = known a (inl refl) (rests_mute (same.told ∙ mute) a) is
-      untold mute (inr is) = known b (inr refl) (rests_mute (same.told ∙ mute) b) is
-
-      by : (t : Bool) → d.told ≡ t → IsSpent (RestsAs shape false e) a b boot decisions
-      by true told = there told (left_bytes d shape a b h told).stands
-      by false mute = untold mute tells.1
-  fails_known answer opening.Failed same kept refused tells = tt
-  fails_known answer opening.Stopped same kept refused tells = tt
-  fails_known answer (opening.Full dev) same kept refused tells = tt
-  fails_known answer opening.Memory same kept refused tells = tt
-
-pub never : (b : Bool) (P : Type 0) → b ≡ false → (P → IsTrue b) → P → ⊥
-never b P not holds h = let both : IsTrue b = holds h in cc (both, not)
+          there : StandsFor shape d.bytes a ⊎ StandsFor shape d.bytes b → IsSpent (RestsAs shape false e) a b boot decisions
+          there (inl s) = known a (inl refl) s (numbers a s)
+          there (inr s) = known b (inr refl) s (numbers b s)
+      by opening.Failed keeps r tells = tt
+      by opening.Stopped keeps r tells = tt
+      by (opening.Full dev) keeps r tells = tt
+      by opening.Memory keeps r tells = tt
 
 -- WHAT IS OPENED there
-module _ (d e : View) (shape : Shape) (y : Store) (found : storage.Found) (o : OpensAs d e shape y found) (same : SameShape d e) where
-  pub has_shape : shape_of y.decisions ≡ shape
-  has_shape = o.held.is.decisions.holds.shape ∙ o.held.keeps.has_shape
-
+module _ (d e : View) (shape : Shape) (y : Store) (found : storage.Found) (o : OpensAs d e shape y found) where
   -- its numbers are those that were found
   pub numbers_there : are_spent found.boot found.decisions ≡ false → are_spent (last_boot y) (last_decision y) ≡ false
   numbers_there unspent =
-      let is = held_numbers e shape y o.kept o.held in
-      ap (λ n. are_spent n (last_decision y)) (is.boot ∙ sym o.is_found.boot) ∙ ap (are_spent found.boot) (is.decisions ∙ sym o.is_found.decisions) ∙ unspent
+      ap (λ n. are_spent n (last_decision y)) (o.numbers.boot ∙ sym o.is_found.boot) ∙ ap (are_spent found.boot) (o.numbers.decisions ∙ sym o.is_found.decisions) ∙ unspent
 
-  module _ (a b : Kept) (h : LeavesAs true d shape a b) where
-    one_of : IsTrue d.told → (P : Kept → Type 0) → P o.kept → P a ⊎ P b
-    one_of told P is = by (left_bytes d shape a b h told).stands
+  module _ (told : IsTrue d.told) (a b : Kept) (h : LeavesAs true d shape a b) where
+    one_of : (P : Kept → Type 0) → P o.kept → P a ⊎ P b
+    one_of P is = by (left_bytes d shape a b h told).stands
       where
         by : StandsFor shape d.bytes a ⊎ StandsFor shape d.bytes b → P a ⊎ P b
         by (inl s) = inl (subst P (one_kept shape d.bytes o.kept a (o.stood told) s) is)
         by (inr s) = inr (subst P (one_kept shape d.bytes o.kept b (o.stood told) s) is)
 
-    -- over disks that tell it has its rows and its numbers
-    pub found_there : IsTrue d.told → IsFoundAgain shape y a ⊎ IsFoundAgain shape y b
-    found_there told = one_of told (IsFoundAgain shape y) (record { rows = held_rows e shape y o.kept o.held; numbers = held_numbers e shape y o.kept o.held })
+    -- it is held
+    pub holds_there : IsTrue e.told → IsHeld e shape y a ⊎ IsHeld e shape y b
+    holds_there now = one_of (IsHeld e shape y) (o.held now)
 
-    -- and where it has, it is held, whatever the disks tell
-    pub held_there : (x : Store) (p : Pending) → Recalls shape x p a b → IsFoundAgain shape y a ⊎ IsFoundAgain shape y b → IsHeld e shape y a ⊎ IsHeld e shape y b
-    held_there x p r again = by e.told refl again
-      where
-        mute : e.told ≡ false → (k : Kept) → IsSoundKept k → IsFoundAgain shape y k → IsHeld e shape y k
-        mute not k sound f =
-            let holds = o.held.is.decisions.holds in
-            held_again_mute e not shape y o.held.which o.held.c o.held.v o.held.is o.held.keeps.has_shape o.held.keeps.format o.held.keeps.nulls k
-            (sym f.numbers.boot ∙ holds.boot) (sym f.numbers.decisions ∙ holds.decisions) f.rows sound
-
-        by : (t : Bool) → e.told ≡ t → IsFoundAgain shape y a ⊎ IsFoundAgain shape y b → IsHeld e shape y a ⊎ IsHeld e shape y b
-        by true told f = one_of (sym same.told ∙ told) (IsHeld e shape y) o.held
-        by false not (inl f) = inl (mute not a r.sound f)
-        by false not (inr f) = inr (mute not b r.sound_after f)
-
-    -- what is not remembered was not told
-    pub mute_there : (x : Store) (p : Pending) (has : Bool) → has ≡ false → Tells x y p has → (p ≡ Lost → ⊥) → Remembers shape (Some x) p a b → e.told ≡ false
-    mute_there x p has fails tells not r =
-        not_told e.told (λ now.
-        let found_is : IsTrue has = (tells shape a b has_shape (recalled shape x p a b not r)).1 (found_there (sym same.told ∙ now)) in
-        cc (found_is, fails))
-
-    -- and what is remembered is held
-    pub holds_there : (x : Store) (p : Pending) (has : Bool) → has ≡ true → Tells x y p has → (p ≡ Lost → ⊥) → Remembers shape (Some x) p a b → IsHeld e shape y a ⊎ IsHeld e shape y b
-    holds_there x p has is tells not r =
-        let was = recalled shape x p a b not r in
-        held_there x p was ((tells shape a b has_shape was).0 is)
+    -- and its numbers are remembered
+    pub remembered_there : (n : Numbers) (p : Pending) → Remembers n p a b → (numbers_of y ≡ n) ⊎ Follow p n (numbers_of y)
+    remembered_there n p r = numbers_found n (numbers_of y) p a b r (one_of (AreNumbersOf (numbers_of y)) o.numbers)

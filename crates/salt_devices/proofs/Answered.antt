@@ -1,13 +1,11 @@
 -- What an opening answers of bytes.
 use Rattle.salt_bytes.specs.Generations.{BothBlank, Counts, Faulty, Pair, WhichLog}
 use Rattle.salt_bytes.specs.Log.{entries_in}
-use Rattle.salt_commit.proofs.Beginning.{blank_unnamed}
 use Rattle.salt_commit.proofs.Opening.{of_log, same_shape_is}
-use Rattle.salt_commit.specs.Openings.{LeavesPages}
 use Rattle.salt_commit.specs.Stores.{reading}
 use Rattle.salt_model.specs.Words.{and_then}
 use Rattle.salt_stands.specs.Fitting.{kept_in}
-use Rattle.salt_devices.specs.Leaving.{StandsFor, StandsStill}
+use Rattle.salt_devices.specs.Leaving.{StandsFor, StandsForSomething, StandsStill}
 use Rattle.salt_promise.specs.Standing.{IsOlder}
 use Rattle.salt_devices.specs.Refusing.{RefusedAs}
 use Rattle.salt_model.specs.Kept.{Definition}
@@ -134,6 +132,28 @@ pub counted_log : (bytes : ℕ → List ℕ) (found : opening.Found Definition) 
 counted_log bytes found k =
     ap (λ (f : opening.Found Definition). f.format) (sym k.is) ∙ ap (λ (l : CoordinatorLog). l.header.format) (of_log k.log k.c k.reads).log_is
 
+-- what stands in the newest format is not older
+pub not_older : (bytes : ℕ → List ℕ) (asked : Shape) (found : opening.Found Definition) → stands_on reading bytes asked ≡ Ok found → found.format ≡ 3 → (dev : ℕ) → IsOlder bytes dev → ⊥
+not_older bytes asked found is newest dev o = by (judged_as bytes asked found is)
+  where
+    by : IsNothing bytes asked found ⊎ IsCounted bytes found → ⊥
+    by (inl none) = let both : BothBlank ≡ Counts o.which o.log = sym none.blank ∙ o.counts in absurd (cc both)
+    by (inr k) =
+        let both : Counts k.which k.log ≡ Counts o.which o.log = sym k.counts ∙ o.counts in
+        let same : k.log ≡ o.log = cc both in
+        let format : 3 ≡ k.log.header.format = sym newest ∙ counted_log bytes found k in
+        let older : o.log.header.format < 3 = o.older in
+        let at : k.log.header.format ≡ o.log.header.format = ap (λ (l : CoordinatorLog). l.header.format) same in
+        omega (arith, format, older, at)
+
+-- what is opened is in the shape that is asked for, and its numbers are not spent
+pub opened_shape : (bytes : ℕ → List ℕ) (asked : Shape) (found : opening.Found Definition) → opening_of reading bytes asked ≡ opening.Stands found → found.shape ≡ asked
+opened_shape bytes asked found e = by (opened_as bytes asked found e)
+  where
+    by : IsNothing bytes asked found ⊎ IsOpened bytes asked found → found.shape ≡ asked
+    by (inl none) = ap (λ (f : opening.Found Definition). f.shape) (sym none.is)
+    by (inr o) = ap (λ (f : opening.Found Definition). f.shape) (sym o.counted.is) ∙ same_shape_is o.counted.c.log.header.shape asked o.same
+
 -- WHERE NOTHING WAS WRITTEN YET but a first header
 
 same_kind : (k : PlaceKind) → is_same_kind k k ≡ true
@@ -197,6 +217,29 @@ judged_opens bytes asked found e has = by (judged_as bytes asked found e)
           spent = ap (λ n. are_spent n found.kept.decisions) (sym boot) ∙ ap (are_spent k.c.log.told.boot) (sym decisions) ∙ is;
         })
 
+-- a log of the shape that is asked for, with spent numbers, is refused by them
+spent_there : (bytes : ℕ → List ℕ) (asked : Shape) (found : opening.Found Definition) (k : IsCounted bytes found) → is_same_shape k.c.log.header.shape asked ≡ true → are_spent found.kept.boot found.kept.decisions ≡ true → AreSpent bytes asked found
+spent_there bytes asked found k same spent = record {
+  opens =
+      ap (λ p. of_coordinator reading bytes asked (judge_coordinator reading p)) k.counts
+      ∙ ap (λ o. of_coordinator reading bytes asked (ok_or (option_map Some o) (device_of 0 k.which))) k.reads
+      ∙ answered bytes asked k.c
+      ∙ ap (λ b. asked_as k.c asked b (are_spent k.c.log.told.boot k.c.log.told.decisions) (parts_at reading k.c (logs_of bytes) bytes)) same
+      ∙ ap (λ b. asked_as k.c asked true b (parts_at reading k.c (logs_of bytes) bytes)) there
+      ∙ ap (λ n. opening.NumbersSpent n k.c.log.told.decisions) boot
+      ∙ ap (opening.NumbersSpent found.kept.boot) decisions;
+  spent = spent;
+}
+  where
+    boot : k.c.log.told.boot ≡ found.kept.boot
+    boot = ap (λ (f : opening.Found Definition). f.kept.boot) k.is
+
+    decisions : k.c.log.told.decisions ≡ found.kept.decisions
+    decisions = ap (λ (f : opening.Found Definition). f.kept.decisions) k.is
+
+    there : are_spent k.c.log.told.boot k.c.log.told.decisions ≡ true
+    there = ap (λ n. are_spent n k.c.log.told.decisions) boot ∙ ap (are_spent found.kept.boot) decisions ∙ spent
+
 -- OTHER BYTES that say the same
 
 pub record AreAlike (shape : Shape) (bytes image : ℕ → List ℕ) : Type 0 where
@@ -251,28 +294,6 @@ module _ (shape : Shape) (bytes image : ℕ → List ℕ) (alike : AreAlike shap
   pub same_opening : opening_of reading image shape ≡ opening_of reading bytes shape
   same_opening = ap (λ p. of_coordinator reading image shape (judge_coordinator reading p)) same_pair ∙ same_answer (judge_coordinator reading (coordinator_pair (logs_of bytes)))
 
-  same_pages : (dev : ℕ) → LeavesPages shape image dev → LeavesPages shape bytes dev
-  same_pages dev l = record {
-    c = l.c;
-    found = sym (ap (judge_coordinator reading) same_pair) ∙ l.found;
-    is_shape = l.is_shape;
-    p = l.p;
-    low = l.low;
-    before = λ q below. let t = l.before q below in (t.0, sym (same_part l.c q (omega (arith, below, l.low))) ∙ t.1);
-    names = record { which = l.names.which; log = l.names.log; counts = sym (same_part_pair l.p l.low) ∙ l.names.counts; names = l.names.names; device = l.names.device };
-  }
-
-  pages_back : (dev : ℕ) → LeavesPages shape bytes dev → LeavesPages shape image dev
-  pages_back dev l = record {
-    c = l.c;
-    found = ap (judge_coordinator reading) same_pair ∙ l.found;
-    is_shape = l.is_shape;
-    p = l.p;
-    low = l.low;
-    before = λ q below. let t = l.before q below in (t.0, same_part l.c q (omega (arith, below, l.low)) ∙ t.1);
-    names = record { which = l.names.which; log = l.names.log; counts = same_part_pair l.p l.low ∙ l.names.counts; names = l.names.names; device = l.names.device };
-  }
-
   -- what the one stands for in this shape, the other does
   same_judged : (found : opening.Found Definition) → found.shape ≡ shape → stands_on reading image shape ≡ Ok found → stands_on reading bytes shape ≡ Ok found
   same_judged found is e = by (judged_as image shape found e)
@@ -290,8 +311,7 @@ module _ (shape : Shape) (bytes image : ℕ → List ℕ) (alike : AreAlike shap
 
   same_refusal : (e : OpenErr) → RefusedAs shape image e → RefusedAs shape bytes e
   same_refusal (NotSalt dev) (inl is) = inl (sym same_opening ∙ is)
-  same_refusal (NotSalt dev) (inr (inl pages)) = inr (inl (same_pages dev pages))
-  same_refusal (NotSalt dev) (inr (inr older)) = inr (inr (same_older dev older))
+  same_refusal (NotSalt dev) (inr older) = inr (same_older dev older)
   same_refusal (OtherShape kept asked) is = sym same_opening ∙ is
   same_refusal (NumbersSpent boot decisions) is = sym same_opening ∙ is
   same_refusal open_err.Failed is = is
@@ -302,7 +322,7 @@ module _ (shape : Shape) (bytes image : ℕ → List ℕ) (alike : AreAlike shap
   pub same_finds : FindsNoMore (RefusedAs shape bytes) (StandsFor shape bytes) (RefusedAs shape image) (StandsFor shape image)
   same_finds = record {
     refuses_no_more = same_refusal;
-    finds_no_more = λ k s. record { found = s.found; is = same_judged s.found s.has_shape s.is; has_shape = s.has_shape; newest = s.newest; keeps = s.keeps; no_pages = λ dev l. s.no_pages dev (pages_back dev l) };
+    finds_no_more = λ k s. record { found = s.found; is = same_judged s.found s.has_shape s.is; has_shape = s.has_shape; newest = s.newest; keeps = s.keeps };
   }
 
 -- BLANK BYTES, and an image of a new database
@@ -310,29 +330,14 @@ module _ (shape : Shape) (bytes image : ℕ → List ℕ) (alike : AreAlike shap
 pub record IsMadeNew (shape : Shape) (bytes image : ℕ → List ℕ) : Type 0 where
   pub blank : coordinator_pair (logs_of bytes) ≡ BothBlank
   pub new : stands_on reading image shape ≡ Ok (nothing_found shape)
-  pub unnamed : (dev : ℕ) → LeavesPages shape image dev → ⊥
 
 module _ (shape : Shape) (bytes image : ℕ → List ℕ) (made : IsMadeNew shape bytes image) where
   opens_new : opening_of reading image shape ≡ opening.Stands (nothing_found shape)
   opens_new = new_opens image shape made.new
 
-  not_older : (dev : ℕ) → IsOlder image dev → ⊥
-  not_older dev o = by (judged_as image shape (nothing_found shape) made.new)
-    where
-      by : IsNothing image shape (nothing_found shape) ⊎ IsCounted image (nothing_found shape) → ⊥
-      by (inl none) = let both : BothBlank ≡ Counts o.which o.log = sym none.blank ∙ o.counts in absurd (cc both)
-      by (inr k) =
-          let both : Counts k.which k.log ≡ Counts o.which o.log = sym k.counts ∙ o.counts in
-          let same : k.log ≡ o.log = cc both in
-          let format : 3 ≡ k.log.header.format = counted_log image (nothing_found shape) k in
-          let older : o.log.header.format < 3 = o.older in
-          let is : k.log.header.format ≡ o.log.header.format = ap (λ (l : CoordinatorLog). l.header.format) same in
-          omega (arith, format, older, is)
-
   no_refusal : (e : OpenErr) → RefusedAs shape image e → RefusedAs shape bytes e
   no_refusal (NotSalt dev) (inl is) = absurd (cc (opens_new, is))
-  no_refusal (NotSalt dev) (inr (inl pages)) = absurd (made.unnamed dev pages)
-  no_refusal (NotSalt dev) (inr (inr older)) = absurd (not_older dev older)
+  no_refusal (NotSalt dev) (inr older) = absurd (not_older image shape (nothing_found shape) made.new refl dev older)
   no_refusal (OtherShape kept asked) is = absurd (cc (opens_new, is))
   no_refusal (NumbersSpent boot decisions) is = absurd (cc (opens_new, is))
   no_refusal open_err.Failed is = is
@@ -349,25 +354,89 @@ module _ (shape : Shape) (bytes image : ℕ → List ℕ) (made : IsMadeNew shap
     finds_no_more = λ k s.
         let both : Ok (nothing_found shape) ≡ Ok s.found = sym made.new ∙ s.is in
         let same : nothing_found shape ≡ s.found = cc both in
-        record { found = nothing_found shape; is = judged_blank; has_shape = refl; newest = refl; keeps = ap kept_in same ∙ s.keeps; no_pages = λ dev. blank_unnamed shape bytes dev made.blank };
+        record { found = nothing_found shape; is = judged_blank; has_shape = refl; newest = refl; keeps = ap kept_in same ∙ s.keeps };
   }
 
   new_stands_for : StandsStill shape bytes image
   new_stands_for k s =
       let both : Ok (nothing_found shape) ≡ Ok s.found = sym judged_blank ∙ s.is in
       let same : nothing_found shape ≡ s.found = cc both in
-      record { found = nothing_found shape; is = made.new; has_shape = refl; newest = refl; keeps = ap kept_in same ∙ s.keeps; no_pages = made.unnamed }
+      record { found = nothing_found shape; is = made.new; has_shape = refl; newest = refl; keeps = ap kept_in same ∙ s.keeps }
 
--- THE ONE OR THE OTHER, as an opening that failed leaves
+-- AN IMAGE OF A STORE that was opened, in the newest format
+
+pub record IsStillThere (shape : Shape) (bytes image : ℕ → List ℕ) : Type 0 where
+  pub found : opening.Found Definition
+  pub opens : opening_of reading bytes shape ≡ opening.Stands found
+  pub newest : found.format ≡ 3
+  pub stands : stands_on reading image shape ≡ Ok found
+
+module _ (shape : Shape) (bytes image : ℕ → List ℕ) (there : IsStillThere shape bytes image) where
+  stood : stands_on reading bytes shape ≡ Ok there.found
+  stood = opened_stands bytes shape there.found there.opens
+
+  not_spent : AreSpent bytes shape there.found → ⊥
+  not_spent sp = let both : opening.Stands there.found ≡ opening.NumbersSpent there.found.kept.boot there.found.kept.decisions = sym there.opens ∙ sp.opens in cc both
+
+  unspent : are_spent there.found.kept.boot there.found.kept.decisions ≡ true → ⊥
+  unspent spent = by (opened_as bytes shape there.found there.opens)
+    where
+      by : IsNothing bytes shape there.found ⊎ IsOpened bytes shape there.found → ⊥
+      by (inl none) =
+          let boot : there.found.kept.boot ≡ 0 = ap (λ (f : opening.Found Definition). f.kept.boot) (sym none.is) in
+          let decisions : there.found.kept.decisions ≡ 0 = ap (λ (f : opening.Found Definition). f.kept.decisions) (sym none.is) in
+          let zero_spent : are_spent 0 0 ≡ true = ap (λ n. are_spent n 0) (sym boot) ∙ ap (are_spent there.found.kept.boot) (sym decisions) ∙ spent in
+          cc zero_spent
+      by (inr o) = not_spent (spent_there bytes shape there.found o.counted o.same spent)
+
+  opens_still : opening_of reading image shape ≡ opening.Stands there.found
+  opens_still = by (judged_opens image shape there.found there.stands (opened_shape bytes shape there.found there.opens))
+    where
+      by : (opening_of reading image shape ≡ opening.Stands there.found) ⊎ AreSpent image shape there.found → opening_of reading image shape ≡ opening.Stands there.found
+      by (inl is) = is
+      by (inr sp) = absurd (unspent sp.spent)
+
+  still_refused : (e : OpenErr) → RefusedAs shape image e → RefusedAs shape bytes e
+  still_refused (NotSalt dev) (inl is) = absurd (cc (opens_still, is))
+  still_refused (NotSalt dev) (inr older) = absurd (not_older image shape there.found there.stands there.newest dev older)
+  still_refused (OtherShape kept asked) is = absurd (cc (opens_still, is))
+  still_refused (NumbersSpent boot decisions) is = absurd (cc (opens_still, is))
+  still_refused open_err.Failed is = is
+  still_refused open_err.Stopped is = is
+  still_refused (open_err.Full dev) is = is
+  still_refused open_err.Memory is = is
+
+  still_finds : FindsNoMore (RefusedAs shape bytes) (StandsFor shape bytes) (RefusedAs shape image) (StandsFor shape image)
+  still_finds = record {
+    refuses_no_more = still_refused;
+    finds_no_more = λ k s.
+        let both : Ok there.found ≡ Ok s.found = sym there.stands ∙ s.is in
+        let same : there.found ≡ s.found = cc both in
+        record { found = s.found; is = stood ∙ ap Ok same; has_shape = s.has_shape; newest = s.newest; keeps = s.keeps };
+  }
+
+  still_stands : StandsStill shape bytes image
+  still_stands k s =
+      let both : Ok there.found ≡ Ok s.found = sym stood ∙ s.is in
+      let same : there.found ≡ s.found = cc both in
+      record { found = s.found; is = there.stands ∙ ap Ok same; has_shape = s.has_shape; newest = s.newest; keeps = s.keeps }
+
+  -- and it stands for something
+  pub still_something : StandsForSomething shape image
+  still_something = (kept_in there.found, record { found = there.found; is = there.stands; has_shape = opened_shape bytes shape there.found there.opens; newest = there.newest; keeps = refl })
+
+-- ONE OF THE THREE, as an opening that failed leaves
 
 abbrev pub IsLike : Shape → (bytes image : ℕ → List ℕ) → Type 0
-IsLike shape bytes image = AreAlike shape bytes image ⊎ IsMadeNew shape bytes image
+IsLike shape bytes image = AreAlike shape bytes image ⊎ (IsMadeNew shape bytes image ⊎ IsStillThere shape bytes image)
 
 module _ (shape : Shape) (bytes image : ℕ → List ℕ) where
   pub like_finds : IsLike shape bytes image → FindsNoMore (RefusedAs shape bytes) (StandsFor shape bytes) (RefusedAs shape image) (StandsFor shape image)
   like_finds (inl alike) = same_finds shape bytes image alike
-  like_finds (inr made) = new_finds shape bytes image made
+  like_finds (inr (inl made)) = new_finds shape bytes image made
+  like_finds (inr (inr there)) = still_finds shape bytes image there
 
   pub like_stands : IsLike shape bytes image → StandsStill shape bytes image
   like_stands (inl alike) = (same_finds shape image bytes (alike_back shape bytes image alike)).finds_no_more
-  like_stands (inr made) = new_stands_for shape bytes image made
+  like_stands (inr (inl made)) = new_stands_for shape bytes image made
+  like_stands (inr (inr there)) = still_stands shape bytes image there

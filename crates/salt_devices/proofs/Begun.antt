@@ -1,12 +1,10 @@
 -- A first opening, by what it may come upon.
-use Rattle.salt_commit.specs.Openings.{StorePassesLimit}
 use Rattle.salt_commit.specs.declared.store.Store.{Store}
 use Rattle.salt_devices.proofs.Answered.{same_finds}
-use Rattle.salt_devices.proofs.Netted.{IsWithNet, held_with, net_with}
+use Rattle.salt_devices.proofs.Netted.{IsWithNet, held_with}
 use Rattle.salt_devices.proofs.Known.{stands_fails}
 use Rattle.salt_devices.proofs.Opening.{alike_below}
 use Rattle.salt_devices.proofs.Started.{able_on}
-use Rattle.salt_devices.specs.Filling.{FillsIn}
 use Rattle.salt_devices.specs.Holding.{IsAble}
 use Rattle.salt_devices.specs.Leaving.{CanOpen, MayCome, StandsForSomething, StandsFor, StandsStill}
 use Rattle.salt_devices.specs.Opened.{OpensAs}
@@ -16,7 +14,7 @@ use Rattle.salt_devices.specs.declared.pending.Pending.TheVariants.{Nothing, Ope
 use Rattle.salt_devices.specs.declared.pending.Pending.{Pending}
 use Rattle.salt_disk.specs.Disks.{IsImage, SameShape, View}
 use Rattle.salt_model.specs.Kept.{Kept}
-use Rattle.salt_storage.specs.Writing.{FindsNoMore, OfOpening}
+use Rattle.salt_storage.specs.Writing.{FindsNoMore}
 use Rattle.salt_storage.specs.declared.found.Found.{Found}
 use Rattle.salt_devices.specs.Remembering.{MayTell}
 use Rattle.salt_storage.specs.Answers.{IsLater}
@@ -35,10 +33,6 @@ pub refused_bytes : (d : View) (shape : Shape) (started : Bool) (refusal : OpenE
 refused_bytes d shape started refusal is able h =
     let u = subst (λ (b : Bool). ComesUpon d b (λ image. RefusedAs shape image refusal)) is h in
     (same_finds shape d.bytes u.image (alike_below shape d.count d.bytes u.image able.parts able.room u.comes)).refuses_no_more refusal u.is
-
--- told as it was before the call
-pub passes_on : (d e : View) (shape : Shape) (dev : ℕ) → SameShape d e → (IsTrue d.told → StorePassesLimit e shape dev) → FillsIn e shape OfOpening dev
-passes_on d e shape dev same h told = h (sym same.told ∙ told)
 
 -- behind an opening that failed, an image refuses and finds what the bytes did
 module _ (d e : View) (shape : Shape) (same : SameShape d e) (was now : Bool) (started : was ≡ true) (called : now ≡ false)
@@ -72,16 +66,10 @@ pub rests_found : (d : View) (shape : Shape) (started : Bool) → started ≡ tr
 rests_found d shape started is k h told =
     upon_bytes d started (λ image. StandsFor shape image k) is (h.rests told d.bytes (subst (λ (b : Bool). MayCome d b d.bytes) (sym is) (λ dev low. refl)))
 
--- WHAT IS OPENED is held, and was found there
+-- WHAT IS OPENED was found there, and is held where the disks tell
 module _ (d e : View) (shape : Shape) (x : Store) (found : Found) (o : OpensAs d e shape x found) where
-  pub opened_held : (y : Store) → IsAble shape d → SameShape d e → IsWithNet x y → StandsHeld shape false (Some y) Nothing e o.kept
-  opened_held y able same put = record {
-    able = able_on shape d e same able;
-    called = refl;
-    nothing = refl;
-    held = held_with e shape x y o.kept put o.held;
-    net = net_with x y o.kept.boot put;
-  }
+  pub opened_held : (y : Store) → IsAble shape d → SameShape d e → IsWithNet x y → IsTrue e.told → StandsHeld shape false (Some y) Nothing e o.kept
+  opened_held y able same put told = record { able = able_on shape d e same able; called = refl; nothing = refl; held = held_with e shape x y o.kept put (o.held told) }
 
   pub opened_finds : (started : Bool) → started ≡ true → FindsKept d started shape o.kept
   opened_finds started is told = upon_bytes d started (λ image. StandsFor shape image o.kept) is (o.stood told)

@@ -1,11 +1,13 @@
 -- A unit of a boot that begins is new.
 use Rattle.salt_bytes.specs.Coordinator.{Decision}
 use Rattle.salt_bytes.specs.Partition.{Prepared}
-use Rattle.salt_commit.specs.Stores.{IsSound, IsStore, decided_by, last_boot, last_decision, reading}
+use Rattle.salt_commit.specs.Stores.{Generation, IsSound, IsStore, decided_by, last_boot, last_decision, reading}
 use Rattle.salt_commit.specs.declared.store.Store.{Store}
-use Rattle.salt_devices.proofs.Stores.{logs_of_store, one_fresh}
+use Rattle.salt_bytes.specs.Generations.{WhichLog}
+use Rattle.salt_devices.proofs.Stores.{held_boot, held_decisions, logs_of_store, one_fresh}
 use Rattle.salt_devices.proofs.Kept.{none_of_boot}
-use Rattle.salt_devices.specs.Holding.{IsFresh, IsHeld, IsNewTo}
+use Rattle.law_generations.specs.AsIf.{IsNewName}
+use Rattle.salt_devices.specs.Holding.{IsHeld, IsNewTo}
 use Rattle.salt_disk.specs.Disks.{SameShape, View}
 use Rattle.salt_model.specs.Kept.{Definition, Kept}
 use Rattle.salt_model.specs.Words.{Every}
@@ -15,11 +17,11 @@ use Rattle.salt_stands.specs.OpenConts.{conts_of_move}
 use Rattle.salt_bytes.specs.Conts.{move_in}
 use Rattle.salt_stands.specs.Partition.{are_there, is_format_under, is_sound_change, is_sound_prepared}
 use Rattle.salt_stands.specs.Pieces.{PartView, with_boot}
-use Rattle.salt_stands.specs.Stands.{are_spent}
+use Rattle.salt_stands.specs.Stands.{Found, are_spent}
 use Rattle.salt_stands.specs.Words.{has_bit}
 use Rattle.salt_values.specs.declared.id.Id.{Id}
 use Rattle.salt_place.specs.declared.placement.Shape.{Shape}
-use Rattle.std.proofs.Common.{Bool, IsTrue, List, [], arith, false, refl, sym, true, ℕ, ◌+◌, ◌<◌, ◌^◌, ◌≡◌, ◌≤◌, ◌∙◌, ◌∷◌}
+use Rattle.std.proofs.Common.{Bool, IsTrue, List, [], ap, arith, false, refl, sym, true, ℕ, ◌+◌, ◌<◌, ◌^◌, ◌≡◌, ◌≤◌, ◌∙◌, ◌∷◌}
 use Rattle.std.proofs.lemmas.Bool.Decides.{nat_tests}
 use Rattle.std.specs.List.{filter, list_all}
 use Rattle.std.specs.Prelude.{if◌then◌else◌, map, nat_le, ◌&&◌, ◌||◌}
@@ -54,7 +56,7 @@ module _ (c : Coordinator Definition) where
       by true one more = (one, more)
       by false one more = more
 
-  pub later_is_fresh : (v : ℕ → PartView) → IsSound reading c v → (u : Id) → c.log.told.boot < u.boot → IsFresh c v u
+  pub later_is_fresh : (v : ℕ → PartView) → IsSound reading c v → (u : Id) → c.log.told.boot < u.boot → IsNewName c v u
   later_is_fresh v s u later = record {
     fresh = λ p low.
         let log = (v p).log in
@@ -65,17 +67,22 @@ module _ (c : Coordinator Definition) where
     new = λ p low. none_of_boot u c.log.told.boot later (decided_by c p) (decided_before p c.log.told.decided s.coordinator.decided);
   }
 
-module _ (d e : View) (shape : Shape) (x y : Store) (k : Kept) (h : IsHeld d shape x k) (same : SameShape d e) where
+module _ (d : View) (shape : Shape) (x : Store) (k : Kept) (h : IsHeld d shape x k) where
   pub boot_is : last_boot x ≡ k.boot
-  boot_is = h.is.decisions.holds.boot ∙ sym h.keeps.boot
+  boot_is = h.is.decisions.holds.boot ∙ held_boot d shape x k h
 
   pub decision_is : last_decision x ≡ k.decisions
-  decision_is = h.is.decisions.holds.decisions ∙ sym h.keeps.decisions
+  decision_is = h.is.decisions.holds.decisions ∙ held_decisions d shape x k h
 
-  -- a unit of the boot that is begun
-  pub boot_new : IsStore reading e y h.which (with_boot h.c) h.v → (u : Id) → u.boot ≡ last_boot x + 1 → IsNewTo e u
+-- a unit of the boot that is begun, in another generation
+module _ (d e : View) (x y : Store) (which : WhichLog) (c : Coordinator Definition) (v : ℕ → PartView) (was : IsStore reading d x which c v) (same : SameShape d e) (g : Generation c v) where
+  pub boot_new : IsStore reading e y g.which (with_boot g.coordinator) g.views → (u : Id) → u.boot ≡ last_boot x + 1 → IsNewTo e u
   boot_new is u at told b t also =
-      let was : IsTrue d.told = sym same.told ∙ told in
-      let later : h.c.log.told.boot < u.boot = omega (arith, at, h.is.decisions.holds.boot) in
-      one_fresh e (with_boot h.c) b h.v t (logs_of_store e y h.which (with_boot h.c) h.v is told) also u
-      (let f = later_is_fresh h.c h.v (h.is.sound was) u later in record { fresh = f.fresh; new = f.new })
+      let before : IsTrue d.told = sym same.told ∙ told in
+      let later : c.log.told.boot < u.boot = omega (arith, at, was.decisions.holds.boot) in
+      let f = g.as_if.names u (later_is_fresh c v (was.sound before) u later) in
+      one_fresh e (with_boot g.coordinator) b g.views t (logs_of_store e y g.which (with_boot g.coordinator) g.views is told) also u (record { fresh = f.fresh; new = f.new })
+
+  -- and its number is the next one
+  pub boot_counted : IsStore reading e y g.which (with_boot g.coordinator) g.views → last_boot y ≡ last_boot x + 1
+  boot_counted is = is.decisions.holds.boot ∙ ap (λ (f : Found Definition). f.kept.boot + 1) g.as_if.found ∙ ap (λ n. n + 1) (sym was.decisions.holds.boot)

@@ -1,4 +1,5 @@
--- A unit that may be decided over what is kept may be committed in a store that keeps it.
+-- A unit that may be decided over what is kept may be committed in a store that holds it; and over disks that tell nothing, what can be
+-- written.
 use Rattle.salt_ast.specs.Judgement.{key_type, same_types}
 use Rattle.salt_ast.specs.ProgramJudgement.{are_arguments, program_named}
 use Rattle.salt_ast.specs.declared.programs.ProgramDef.{ProgramDef}
@@ -16,9 +17,17 @@ use Rattle.salt_commit.specs.Stores.{reading}
 use Rattle.salt_model.specs.Reaches.{in_row}
 use Rattle.salt_model.specs.Statements.{checked}
 use Rattle.salt_stands.specs.Fitting.{are_of_columns, is_cont_of, is_key_of, is_row_of, programs_defined, tables_defined}
+use Rattle.salt_devices.proofs.InHand.{all_stand}
 use Rattle.salt_devices.proofs.Limits.{arguments_length, at_every, columns_length, few_columns, few_params, few_vars, short_name}
-use Rattle.salt_devices.specs.Holding.{IsFresh, StoreKeeps}
-use Rattle.salt_codec.specs.Entries.{CanBePut, MayStand}
+use Rattle.law_generations.specs.AsIf.{IsNewName}
+use Rattle.salt_bytes.specs.Changes.{are_in_order}
+use Rattle.salt_bytes.specs.Formats.{has_nulls}
+use Rattle.salt_commit.specs.declared.store.Store.{Store}
+use Rattle.salt_devices.proofs.Stores.{held_boot, held_conts, held_decisions, held_definitions, held_schema}
+use Rattle.salt_devices.specs.Holding.{IsHeld, IsInShape}
+use Rattle.salt_disk.specs.Disks.{View}
+use Rattle.salt_stands.specs.Commits.{partition_count}
+use Rattle.salt_codec.specs.Entries.{CanBePut}
 use Rattle.salt_model.specs.Kept.{Definition, Kept, OfProgram, OfTable, Rise, cont_in, schema_of}
 use Rattle.salt_model.specs.Tables.{changed_at}
 use Rattle.salt_model.specs.Words.{Every}
@@ -27,7 +36,7 @@ use Rattle.salt_stands.specs.Coordinator.{Coordinator, is_sound_cont}
 use Rattle.salt_stands.specs.OpenConts.{conts_of_move, go_to, is_accepted_before, make_move, replace_cont}
 use Rattle.salt_stands.specs.Pieces.{PartView, with_decision}
 use Rattle.salt_stands.specs.Placed.{changes_at, is_of_part}
-use Rattle.salt_storage.specs.Storing.{IsSoundKept, IsSpelledDefinition, MayDecide, decided}
+use Rattle.salt_storage.specs.Storing.{IsSpelledDefinition, MayDecide, decided}
 use Rattle.salt_ast.specs.TokenSpelling.{same_bytes}
 use Rattle.law_types.specs.Typed.{AreChangesOf, FitsAt, IsContOf, IsProperTable, has_key}
 use Rattle.salt_values.specs.Id.{is_same_id}
@@ -38,7 +47,7 @@ use Rattle.salt_values.specs.declared.id.Id.{Id}
 use Rattle.salt_place.specs.declared.placement.Shape.{Shape}
 use Rattle.salt_values.specs.declared.value.Value.TheVariants.{Int, Null, Text}
 use Rattle.salt_values.specs.declared.value.Value.{Value}
-use Rattle.std.proofs.Common.{Bool, List, None, Option, Some, [], ap, arith, false, length, refl, subst, sym, true, ℕ, ◌+◌, ◌++◌, ◌≡◌, ◌≤◌, ◌∙◌, ◌∷◌}
+use Rattle.std.proofs.Common.{Bool, List, None, Option, Some, [], ap, arith, false, length, refl, subst, sym, true, ℕ, ◌+◌, ◌++◌, ◌<◌, ◌≡◌, ◌≤◌, ◌∙◌, ◌∷◌}
 use Rattle.std.proofs.lemmas.Bool.Decides.{nat_tests}
 use Rattle.std.specs.List.{filter, list_all}
 use Rattle.std.specs.Prelude.{eqb, if◌then◌else◌, is_ok, nat_le, slice_get, suc, ◌&&◌, ◌==◌}
@@ -84,12 +93,6 @@ key_is_some None key e = absurd cc
 key_is_some (Some d) (Int z) e = refl
 key_is_some (Some d) (Text t) e = refl
 key_is_some (Some d) Null e = absurd (no_type (key_type d.columns) e)
-
-all_stand : (vs : List Value) → bytes.Every (MayStand true) vs
-all_stand [] = tt
-all_stand (Int z ∷ vs) = (tt, all_stand vs)
-all_stand (Text t ∷ vs) = (tt, all_stand vs)
-all_stand (Null ∷ vs) = (refl, all_stand vs)
 
 row_length : (d : TableDef) (row : List Value) → has_key d.columns ≡ true → length d.columns ≤ 16 → length row ≡ length d.columns → is_row_length (length row) ≡ true
 row_length d row key few same = by d.columns key few same
@@ -196,10 +199,15 @@ short_move k u cs (Finish b) conts may = tt
 
 -- WHAT A UNIT NEEDS
 
-module _ (shape : Shape) (c : Coordinator Definition) (v : ℕ → PartView) (k : Kept) (keeps : StoreKeeps shape c v k) (u : Id) (cs : List Change) (m : Move) (conts : List Cont) (may : MayDecide k u cs m conts)
-    (kept : IsSoundKept k) where
-  schema_is : schema_of k ≡ tables_defined c.definitions
-  schema_is = ap tables_defined keeps.definitions
+-- with NULL spelled in each partition, its share can be put
+pub put_shares : (shape : Shape) (c : Coordinator Definition) (v : ℕ → PartView) (cs : List Change) → IsInShape shape c v → bytes.Every (CanBePut true) cs
+    → (p : ℕ) → p < partition_count c → bytes.Every (CanBePut (has_nulls (v p).log.header.format)) (changes_at c.log.header.shape p cs)
+put_shares shape c v cs n put p low = subst (λ b. bytes.Every (CanBePut b) (changes_at c.log.header.shape p cs)) (sym (n.nulls p low)) (every_filter (CanBePut true) (is_of_part c.log.header.shape p) cs put)
+
+-- WHERE THE DISKS TELL
+module _ (d : View) (shape : Shape) (x : Store) (k : Kept) (h : IsHeld d shape x k) (u : Id) (cs : List Change) (m : Move) (conts : List Cont) (may : MayDecide k u cs m conts) where
+  abbrev c : Coordinator Definition
+  c = h.c
 
   le : (a b : ℕ) → a ≤ b → nat_le a b ≡ true
   le a b h = grind (arith, nat_tests)
@@ -207,30 +215,44 @@ module _ (shape : Shape) (c : Coordinator Definition) (v : ℕ → PartView) (k 
   names_sound : (mv : List ℕ) (m' : Move) → make_move k.conts m' ≡ Some conts → list_all (is_sound_cont reading c.definitions (with_decision c (next_decision c u cs mv) conts).log.told) (conts_of_move (Some m')) ≡ true
   names_sound mv Plain moves = refl
   names_sound mv (Finish b) moves = refl
-  names_sound mv (Continue x) moves =
+  names_sound mv (Continue y) moves =
       let now = decided k cs conts in
-      let boots : x.base.boot ≤ k.boot = every_made (λ y. y.base.boot ≤ k.boot) x k.conts conts moves may.sound.well.boots in
-      let numbers : x.accepted ≤ k.decisions + 1 = every_made (λ y. y.accepted ≤ k.decisions + 1) x k.conts conts moves (accepted_within (k.decisions + 1) conts may.sound.well.accepted) in
-      let fits : is_cont_of (program_named (programs_defined k.definitions) x.program) x ≡ true = every_made (IsContOf now) x k.conts conts moves may.sound.typed.conts in
-      join (is_sound_cont reading c.definitions (with_decision c (next_decision c u cs mv) conts).log.told x) true
-      (join (is_cont_of (program_named (programs_defined c.definitions) x.program) x) (nat_le x.base.boot c.log.told.boot && nat_le x.accepted (c.log.told.decisions + 1))
-      (subst (λ (ds : List Definition). is_cont_of (program_named (programs_defined ds) x.program) x ≡ true) keeps.definitions fits)
-      (join (nat_le x.base.boot c.log.told.boot) (nat_le x.accepted (c.log.told.decisions + 1))
-      (le x.base.boot c.log.told.boot (subst (λ n. x.base.boot ≤ n) keeps.boot boots))
-      (le x.accepted (c.log.told.decisions + 1) (subst (λ n. x.accepted ≤ n + 1) keeps.decisions numbers))))
+      let boots : y.base.boot ≤ k.boot = every_made (λ z. z.base.boot ≤ k.boot) y k.conts conts moves may.sound.well.boots in
+      let numbers : y.accepted ≤ k.decisions + 1 = every_made (λ z. z.accepted ≤ k.decisions + 1) y k.conts conts moves (accepted_within (k.decisions + 1) conts may.sound.well.accepted) in
+      let fits : is_cont_of (program_named (programs_defined k.definitions) y.program) y ≡ true = every_made (IsContOf now) y k.conts conts moves may.sound.typed.conts in
+      join (is_sound_cont reading c.definitions (with_decision c (next_decision c u cs mv) conts).log.told y) true
+      (join (is_cont_of (program_named (programs_defined c.definitions) y.program) y) (nat_le y.base.boot c.log.told.boot && nat_le y.accepted (c.log.told.decisions + 1))
+      (subst (λ (ds : List Definition). is_cont_of (program_named (programs_defined ds) y.program) y ≡ true) (sym (held_definitions d shape x k h)) fits)
+      (join (nat_le y.base.boot c.log.told.boot) (nat_le y.accepted (c.log.told.decisions + 1))
+      (le y.base.boot c.log.told.boot (subst (λ n. y.base.boot ≤ n) (sym (held_boot d shape x k h)) boots))
+      (le y.accepted (c.log.told.decisions + 1) (subst (λ n. y.accepted ≤ n + 1) (sym (held_decisions d shape x k h)) numbers))))
       refl
 
-  pub may_commit_unit : IsFresh c v u → move_in 3 (spell_move 3 m) ≡ Some m → (AreChangesOf (tables_defined c.definitions) cs → list_all (fits_its_part reading c) cs ≡ true)
-      → MayCommitUnit reading c v u cs (spell_move 3 m) m conts
-  may_commit_unit fresh reads sound = record {
-    boot = subst (λ n. u.boot ≤ n) keeps.boot may.boot;
+  pub may_commit_held : IsNewName c h.v u → move_in 3 (spell_move 3 m) ≡ Some m → (AreChangesOf (tables_defined c.definitions) cs → list_all (fits_its_part reading c) cs ≡ true)
+      → MayCommitUnit d.told reading c h.v u cs (spell_move 3 m) m conts
+  may_commit_held fresh reads sound = record {
+    boot = λ told. subst (λ n. u.boot ≤ n) (sym (held_boot d shape x k h)) may.boot;
     fresh = fresh.fresh;
     new = fresh.new;
     ordered = may.ordered;
-    fits = sound (subst (λ s. AreChangesOf s cs) schema_is may.fits);
-    put = λ p low. subst (λ b. bytes.Every (CanBePut b) (changes_at c.log.header.shape p cs)) (sym (keeps.nulls p low))
-        (every_filter (CanBePut true) (is_of_part c.log.header.shape p) cs (put_changes (schema_of k) cs (plain_tables (schema_of k) kept.typed.tables (spelled_tables k.definitions kept.spelled)) may.fits));
-    spells = ap (λ f. move_in f (spell_move 3 m)) keeps.format ∙ reads;
-    moves = ap (λ cs'. make_move cs' m) (sym keeps.conts) ∙ may.moves;
-    named = names_sound (spell_move 3 m) m may.moves;
+    fits = λ told. sound (subst (λ s. AreChangesOf s cs) (held_schema d shape x k h) may.fits);
+    put = put_shares shape c h.v cs h.newest (put_changes (schema_of k) cs (plain_tables (schema_of k) h.kept.typed.tables (spelled_tables k.definitions h.kept.spelled)) may.fits);
+    spells = λ told. ap (λ f. move_in f (spell_move 3 m)) h.newest.format ∙ reads;
+    moves = λ told. ap (λ cs'. make_move cs' m) (held_conts d shape x k h) ∙ may.moves;
+    named = λ told. names_sound (spell_move 3 m) m may.moves;
   }
+
+-- WHERE THEY DO NOT, it is what can be written
+pub may_commit_mute : (told : Bool) (shape : Shape) (c : Coordinator Definition) (v : ℕ → PartView) (u : Id) (cs : List Change) (mv : List ℕ) (m : Move) → told ≡ false → IsInShape shape c v → IsNewName c v u → are_in_order cs ≡ true → bytes.Every (CanBePut true) cs
+    → MayCommitUnit told reading c v u cs mv m c.conts
+may_commit_mute told shape c v u cs mv m mute n fresh ordered put = record {
+  boot = λ is. absurd (cc (is, mute));
+  fresh = fresh.fresh;
+  new = fresh.new;
+  ordered = ordered;
+  fits = λ is. absurd (cc (is, mute));
+  put = put_shares shape c v cs n put;
+  spells = λ is. absurd (cc (is, mute));
+  moves = λ is. absurd (cc (is, mute));
+  named = λ is. absurd (cc (is, mute));
+}

@@ -1,27 +1,31 @@
--- A store with a unit more is held, whatever the disks tell.
+-- A store with a unit more stands, and is held.
 use Rattle.salt_bytes.specs.Formats.{has_nulls}
 use Rattle.salt_commit.proofs.Shared.{mask_bit, share_is}
-use Rattle.salt_commit.specs.Shares.{has_changes, next_decision, shares_of}
-use Rattle.salt_commit.specs.Openings.{NamesPages}
-use Rattle.salt_commit.specs.Stores.{IsStore, StandForEither, decided_by, reading}
+use Rattle.salt_commit.proofs.Ready.{store_placed}
+use Rattle.salt_commit.specs.Shares.{next_decision, shares_of}
+use Rattle.salt_commit.specs.Stores.{Generation, IsStore, StandForEither, decided_by, reading}
+use Rattle.salt_shares.specs.Shares.{has_changes}
 use Rattle.salt_commit.specs.declared.store.Store.{Store}
 use Rattle.salt_devices.proofs.Entered.{leaves_either}
-use Rattle.salt_devices.proofs.Stores.{held_is, logs_of_store, one_fresh}
-use Rattle.salt_devices.specs.Holding.{IsFresh, IsHeld, IsNewTo}
+use Rattle.salt_devices.proofs.Stores.{logs_of_store, newest_on, one_fresh}
+use Rattle.law_generations.specs.AsIf.{IsNewName}
+use Rattle.salt_devices.specs.Holding.{IsHeld, IsInShape, IsNewTo}
 use Rattle.salt_devices.specs.Leaving.{LeavesEither}
-use Rattle.salt_disk.specs.Disks.{IsImage, SameShape, View}
+use Rattle.salt_disk.specs.Disks.{SameShape, View}
 use Rattle.salt_model.specs.Kept.{Definition, Kept}
 use Rattle.salt_model.specs.Tables.{Tables, with_changes}
 use Rattle.salt_model.specs.Words.{Every}
 use Rattle.salt_values.specs.Id.{has_id}
 use Rattle.salt_stands.proofs.Commits.{listed_same}
 use Rattle.salt_stands.proofs.Decided.{decided_with, decided_without}
-use Rattle.salt_stands.proofs.Joined.{joined_changes, placed_changes}
+use Rattle.salt_stands.proofs.Joined.{joined_changes}
 use Rattle.salt_stands.proofs.Prepared.{decided_tables, undecided_tables}
 use Rattle.salt_stands.specs.Commits.{each_tables, found_after, found_of, partition_count, share, view_after}
 use Rattle.salt_stands.specs.Coordinator.{Coordinator, decided_for}
 use Rattle.salt_stands.specs.Pieces.{PartView, is_prepared_in, tables_at_part, with_decision, with_prepared_unit}
 use Rattle.salt_stands.specs.Placed.{AreOfParts, IsPlaced, changes_at}
+use Rattle.salt_stands.specs.Fitting.{kept_in}
+use Rattle.salt_stands.specs.Stands.{Found}
 use Rattle.salt_stands.specs.Tables.{joined}
 use Rattle.salt_stands.specs.Words.{has_bit}
 use Rattle.salt_storage.specs.Storing.{MayDecide, decided}
@@ -70,7 +74,7 @@ module _ (c : Coordinator Definition) (v : ℕ → PartView) (u : Id) (cs : List
   bits : (p : ℕ) → p < partition_count c → has_bit (next_decision c u cs mv).mask p ≡ false → changes_at c.log.header.shape p cs ≡ []
   bits p low bit = no_changes (changes_at c.log.header.shape p cs) (ap has_changes (sym (share_is c.log.header.shape cs p low)) ∙ sym (mask_bit (shares_of c.log.header.shape cs) p) ∙ bit)
 
-  module _ (fresh : IsFresh c v u) where
+  module _ (fresh : IsNewName c v u) where
     -- each partition's tables with the unit's changes of its places
     tables_with : (p : ℕ) → p < partition_count c → each_tables (with_decision c (next_decision c u cs mv) conts) (view_after c v cs (next_decision c u cs mv)) p
         ≡ with_changes (changes_at c.log.header.shape p cs) (each_tables c v p)
@@ -89,11 +93,8 @@ module _ (c : Coordinator Definition) (v : ℕ → PartView) (u : Id) (cs : List
           (λ p low. tables_with p (omega (arith, low))))
           ∙ joined_changes c.log.header.shape (each_tables c v) (partition_count c) cs placed below
 
-      placed_after : (p : ℕ) → p < partition_count c → IsPlaced c.log.header.shape p (each_tables (with_decision c (next_decision c u cs mv) conts) (view_after c v cs (next_decision c u cs mv)) p)
-      placed_after p low = subst (IsPlaced c.log.header.shape p) (sym (tables_with p low)) (placed_changes c.log.header.shape p cs (each_tables c v p) (placed p low))
-
   -- the names of others stay new
-  pub fresh_after : (w : Id) → is_same_id w u ≡ false → IsFresh c v w → IsFresh (with_decision c (next_decision c u cs mv) conts) (view_after c v cs (next_decision c u cs mv)) w
+  pub fresh_after : (w : Id) → is_same_id w u ≡ false → IsNewName c v w → IsNewName (with_decision c (next_decision c u cs mv) conts) (view_after c v cs (next_decision c u cs mv)) w
   fresh_after w other f = record {
     fresh = λ p low. entry p low (has_bit (next_decision c u cs mv).mask p);
     new = λ p low. decision p low (has_bit (next_decision c u cs mv).mask p) refl;
@@ -107,48 +108,66 @@ module _ (c : Coordinator Definition) (v : ℕ → PartView) (u : Id) (cs : List
       decision p low true bit = ap (has_id w) (decided_with p c.log.told.decided (next_decision c u cs mv) bit) ∙ has_more w (decided_by c p) u (f.new p low) other
       decision p low false bit = ap (has_id w) (decided_without p c.log.told.decided (next_decision c u cs mv) bit) ∙ f.new p low
 
--- A STORE THAT IS HELD, with the unit
+-- WHATEVER THE DISKS TELL, a store with the unit stands in the newest formats
+pub newest_with : (shape : Shape) (c : Coordinator Definition) (v : ℕ → PartView) (u : Id) (cs : List Change) (mv : List ℕ) (conts : List Cont) → IsInShape shape c v
+    → IsInShape shape (with_decision c (next_decision c u cs mv) conts) (view_after c v cs (next_decision c u cs mv))
+newest_with shape c v u cs mv conts n = record { has_shape = n.has_shape; format = n.format; nulls = λ p low. nulls p low (has_bit (next_decision c u cs mv).mask p) }
+  where
+    nulls : (p : ℕ) → p < partition_count c → (b : Bool) → has_nulls (if b then with_prepared_unit (v p) (share c u cs p) else v p).log.header.format ≡ true
+    nulls p low true = n.nulls p low
+    nulls p low false = n.nulls p low
+
+-- what is kept with these tables
+abbrev kept_with : Coordinator Definition → List Cont → Tables → Kept
+kept_with c conts t = record { boot = c.log.told.boot; decisions = c.log.told.decisions + 1; definitions = c.definitions; tables = t; conts = conts }
+
+-- A STORE THAT IS HELD, with the unit, in another generation
 module _ (d e : View) (shape : Shape) (x y : Store) (k : Kept) (h : IsHeld d shape x k) (u : Id) (cs : List Change) (m : Move) (mv : List ℕ) (conts : List Cont)
-    (may : MayDecide k u cs m conts) (fresh : IsFresh h.c h.v u) (parts : IsParts shape.parts) (told : Every (λ (c : Change). IsValue c.key) cs) where
-  below : AreOfParts h.c.log.header.shape (partition_count h.c) cs
-  below = of_parts h.c.log.header.shape cs (subst (λ (s : Shape). IsParts s.parts) (sym h.keeps.has_shape) parts) told
+    (may : MayDecide k u cs m conts) (fresh : IsNewName h.c h.v u) (parts : IsParts shape.parts) (told : Every (λ (c : Change). IsValue c.key) cs) where
+  pub unit_leaves : StandForEither reading e (found_of h.c h.v) (found_after h.c h.v cs (next_decision h.c u cs mv) conts) → LeavesEither e shape k (decided k cs conts)
+  unit_leaves either = leaves_either d e shape x k h (found_after h.c h.v cs (next_decision h.c u cs mv) conts) (decided k cs conts) h.newest.has_shape h.newest.format (ap (λ z. decided z cs conts) h.keeps) either
 
-  placed : (p : ℕ) → p < partition_count h.c → IsPlaced h.c.log.header.shape p (each_tables h.c h.v p)
-  placed p low = subst (λ (s : Shape). IsPlaced s p (each_tables h.c h.v p)) (sym h.keeps.has_shape) (h.keeps.placed p low)
+  module _ (g : Generation h.c h.v) where
+    abbrev c : Coordinator Definition
+    c = g.coordinator
 
-  pub unit_held : IsStore reading e y h.which (with_decision h.c (next_decision h.c u cs mv) conts) (view_after h.c h.v cs (next_decision h.c u cs mv)) → IsHeld e shape y (decided k cs conts)
-  unit_held is = record {
-    which = h.which;
-    c = with_decision h.c (next_decision h.c u cs mv) conts;
-    v = view_after h.c h.v cs (next_decision h.c u cs mv);
-    is = is;
-    keeps = record {
-      has_shape = h.keeps.has_shape;
-      format = h.keeps.format;
-      nulls = λ p low. nulls p low (has_bit (next_decision h.c u cs mv).mask p);
-      boot = h.keeps.boot;
-      decisions = ap (λ n. n + 1) h.keeps.decisions;
-      definitions = h.keeps.definitions;
-      conts = refl;
-      tables = ap (with_changes cs) h.keeps.tables ∙ sym (all_with h.c h.v u cs mv conts fresh placed below);
-      placed = λ p low. subst (λ (s : Shape). IsPlaced s p (each_tables (with_decision h.c (next_decision h.c u cs mv) conts) (view_after h.c h.v cs (next_decision h.c u cs mv)) p)) h.keeps.has_shape
-          (placed_after h.c h.v u cs mv conts fresh placed p low);
-    };
-    kept = may.sound;
-  }
-    where
-      nulls : (p : ℕ) → p < partition_count h.c → (b : Bool) → has_nulls (if b then with_prepared_unit (h.v p) (share h.c u cs p) else h.v p).log.header.format ≡ true
-      nulls p low true = h.keeps.nulls p low
-      nulls p low false = h.keeps.nulls p low
+    abbrev v : ℕ → PartView
+    v = g.views
 
-  pub unit_new : SameShape d e → IsStore reading e y h.which (with_decision h.c (next_decision h.c u cs mv) conts) (view_after h.c h.v cs (next_decision h.c u cs mv)) → (w : Id) → is_same_id w u ≡ false → IsNewTo d w → IsNewTo e w
-  unit_new same is w other new now b t also =
-      let was : IsTrue d.told = sym same.told ∙ now in
-      let c' = with_decision h.c (next_decision h.c u cs mv) conts in
-      let v' = view_after h.c h.v cs (next_decision h.c u cs mv) in
-      one_fresh e c' b v' t (logs_of_store e y h.which c' v' is now) also w (fresh_after h.c h.v u cs mv conts w other (new was h.c h.v (logs_of_store d x h.which h.c h.v h.is was)))
+    same_shape : c.log.header.shape ≡ h.c.log.header.shape
+    same_shape = ap (λ (f : Found Definition). f.shape) g.as_if.found
 
-  pub unit_leaves : SameShape d e → (IsTrue d.told → StandForEither reading e (found_of h.c h.v) (found_after h.c h.v cs (next_decision h.c u cs mv) conts))
-      → (IsTrue d.told → (image : ℕ → List ℕ) → IsImage e image → (p dev : ℕ) → NamesPages image p dev → p < partition_count h.c → ⊥) → LeavesEither e shape k (decided k cs conts)
-  unit_leaves same either no_pages = leaves_either d e shape x k h same (found_after h.c h.v cs (next_decision h.c u cs mv) conts) (decided k cs conts) h.keeps.has_shape h.keeps.format
-      (λ t. ap (λ z. decided z cs conts) (held_is d shape x k h t)) either no_pages
+    below : AreOfParts c.log.header.shape (partition_count c) cs
+    below = of_parts c.log.header.shape cs (subst (λ (s : Shape). IsParts s.parts) (sym (same_shape ∙ h.newest.has_shape)) parts) told
+
+    placed : (p : ℕ) → p < partition_count c → IsPlaced c.log.header.shape p (each_tables c v p)
+    placed p low =
+        let was : p < partition_count h.c = omega (arith, low, g.as_if.parts) in
+        subst (λ (s : Shape). IsPlaced s p (each_tables c v p)) (sym same_shape)
+        (subst (IsPlaced h.c.log.header.shape p) (sym (g.tables p was)) (store_placed reading d x h.which h.c h.v h.is h.told p was))
+
+    new_name : IsNewName c v u
+    new_name = g.as_if.names u fresh
+
+    -- what it stands for
+    with_unit : kept_in (found_of (with_decision c (next_decision c u cs mv) conts) (view_after c v cs (next_decision c u cs mv))) ≡ decided k cs conts
+    with_unit = ap (kept_with c conts) (all_with c v u cs mv conts new_name placed below) ∙ ap (λ z. decided z cs conts) (ap kept_in g.as_if.found ∙ h.keeps)
+
+    module _ (is : IsStore reading e y g.which (with_decision c (next_decision c u cs mv) conts) (view_after c v cs (next_decision c u cs mv))) where
+      pub unit_held : IsTrue e.told → IsHeld e shape y (decided k cs conts)
+      unit_held now = record {
+        told = now;
+        which = g.which;
+        c = with_decision c (next_decision c u cs mv) conts;
+        v = view_after c v cs (next_decision c u cs mv);
+        is = is;
+        newest = newest_with shape c v u cs mv conts (newest_on shape h.c h.v g h.newest);
+        keeps = with_unit;
+        kept = may.sound;
+      }
+
+      pub unit_new : SameShape d e → (w : Id) → is_same_id w u ≡ false → IsNewTo d w → IsNewTo e w
+      unit_new same w other new now b t also =
+          let c' = with_decision c (next_decision c u cs mv) conts in
+          let v' = view_after c v cs (next_decision c u cs mv) in
+          one_fresh e c' b v' t (logs_of_store e y g.which c' v' is now) also w (fresh_after c v u cs mv conts w other (g.as_if.names w (new h.told h.c h.v (logs_of_store d x h.which h.c h.v h.is h.told))))

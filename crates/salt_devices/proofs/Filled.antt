@@ -5,10 +5,12 @@ use Rattle.salt_bytes.specs.Log.{entries_in}
 use Rattle.salt_bytes.specs.Partition.{spell_prepared}
 use Rattle.salt_bytes.specs.declared.moves.Move.{Move}
 use Rattle.salt_commit.proofs.Shared.{share_is}
-use Rattle.salt_commit.proofs.Standing.{if_some}
+use Rattle.salt_parts.proofs.Lists.{if_some}
+use Rattle.salt_parts.specs.Openings.{IsPagesOf}
 use Rattle.salt_commit.specs.Commits.{CommitPassesLimit, DecisionPassesLimit}
-use Rattle.salt_commit.specs.Prepares.{OnePassesLimit}
-use Rattle.salt_commit.specs.Shares.{has_changes, mask_of, share_at, shares_of}
+use Rattle.salt_shares.specs.Prepares.{OnePassesLimit}
+use Rattle.salt_shares.specs.Shares.{has_changes, share_at}
+use Rattle.salt_commit.specs.Shares.{mask_of, shares_of}
 use Rattle.salt_commit.specs.Stores.{coordinator_device, coordinator_gate, decided_by, last_boot}
 use Rattle.salt_commit.specs.declared.store.Store.{Store}
 use Rattle.salt_decisions.specs.Decisions as decisions
@@ -22,7 +24,8 @@ use Rattle.salt_gatelog.specs.Log as gates
 use Rattle.salt_gatelog.specs.Log.{IsLog}
 use Rattle.salt_gatelog.specs.declared.log.GateLog.{GateLog}
 use Rattle.salt_model.specs.Kept.{Kept}
-use Rattle.salt_partition.specs.Partitions.{IsPartition, log_gate, prepared}
+use Rattle.salt_paged.specs.Partitions.{IsPartition, log_gate}
+use Rattle.salt_partition.specs.Partitions.{prepared}
 use Rattle.salt_stands.specs.CoordinatorLog.{CoordinatorLog}
 use Rattle.salt_stands.specs.Placed.{changes_at}
 use Rattle.salt_storage.specs.Writing.{OfBoot, OfDefinition, OfUnit}
@@ -65,7 +68,7 @@ module _ (d : View) (shape : Shape) (x : Store) (k : Kept) (h : IsHeld d shape x
       (subst (λ n. d.limit dev < coordinator_gate x + 10 + length (spell_entry (Defines (record { number = n + 1; text = text })))) h.is.decisions.holds.decisions over) told
 
   has_shape : decisions.shape_of x.decisions ≡ shape
-  has_shape = h.is.decisions.holds.shape ∙ h.keeps.has_shape
+  has_shape = h.is.decisions.holds.shape ∙ h.newest.has_shape
 
   module _ (u : Id) (cs : List Change) (m : Move) (dev : ℕ) (told : IsTrue d.told) where
     decision_fills : DecisionPassesLimit d.limit x u cs (spell_move FORMAT m) dev → EntryFills d (decision_entry shape u cs m) dev
@@ -94,11 +97,12 @@ module _ (d : View) (shape : Shape) (x : Store) (k : Kept) (h : IsHeld d shape x
         within = slice_get_within x.parts q.p q.x q.at
 
         low : q.p < shape.parts
-        low = omega (arith, within, h.is.size, ap (λ (s : Shape). s.parts) h.keeps.has_shape)
+        low = omega (arith, within, h.is.size, ap (λ (s : Shape). s.parts) h.newest.has_shape)
 
         share : share_at (shares_of shape cs) q.p ≡ changes_at shape q.p cs
         share = share_is shape cs q.p low
 
   pub unit_fills : (u : Id) (cs : List Change) (m : Move) (dev : ℕ) → CommitPassesLimit d.limit x u cs (spell_move FORMAT m) dev → FillsIn d shape (OfUnit u cs m) dev
   unit_fills u cs m dev (inl p) told = inl (decision_fills u cs m dev told p)
-  unit_fills u cs m dev (inr q) told = inr (share_fills u cs m dev told (subst (λ (s : Shape). OnePassesLimit d.limit x.parts u (shares_of s cs) dev) has_shape q))
+  unit_fills u cs m dev (inr (inl q)) told = inr (inl (share_fills u cs m dev told (subst (λ (s : Shape). OnePassesLimit d.limit x.parts u (shares_of s cs) dev) has_shape q)))
+  unit_fills u cs m dev (inr (inr pages)) told = inr (inr (subst (λ (s : Shape). IsPagesOf s.parts dev) has_shape pages))

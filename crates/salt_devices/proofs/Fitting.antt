@@ -1,38 +1,39 @@
--- What is recovered of a store's log, with rows that fit, may be kept, and is what an opening finds.
+-- A store that was opened, with what is recovered of its log, stands in the newest formats; and what is found may be kept.
 use Rattle.salt_bytes.specs.Formats.{has_nulls}
-use Rattle.salt_bytes.specs.Generations.{WhichLog}
 use Rattle.law_definitions.specs.Texts.{IsTextOf, definition_in}
 use Rattle.salt_commit.proofs.Opening.{IsOfLog, of_log}
-use Rattle.salt_commit.specs.Loads as loads
-use Rattle.salt_commit.specs.Loads.{AreInPlace}
-use Rattle.salt_commit.specs.Stores.{ArePartitions, IsSound, IsStore, reading}
+use Rattle.salt_commit.specs.Openings.{OpensStore}
+use Rattle.salt_commit.specs.Stores.{IsSound, IsStore, reading}
 use Rattle.salt_commit.specs.declared.store.Store.{Store}
 use Rattle.salt_decisions.specs.Decisions.{IsDecisions}
 use Rattle.salt_decisions.specs.declared.kept.Kept as log
-use Rattle.salt_stands.specs.Fitting.{kept_in, tables_defined}
+use Rattle.salt_paged.specs.Partitions.{ArePartitions}
+use Rattle.salt_stands.specs.Fitting.{kept_in}
+use Rattle.salt_devices.proofs.Answered.{opened_stands}
 use Rattle.salt_devices.proofs.Sound.{sound_kept}
-use Rattle.salt_devices.specs.Holding.{IsHeld, StoreKeeps}
-use Rattle.salt_devices.specs.Opened.{HoldsFound, IsNewest, IsOpen}
-use Rattle.salt_disk.specs.Disks.{View}
+use Rattle.salt_devices.specs.Holding.{IsInShape, IsStanding}
+use Rattle.salt_devices.specs.Opened.{IsNewest, IsUnread, OpensAs}
+use Rattle.salt_disk.specs.Disks.{SameShape, View}
 use Rattle.salt_found.specs.Recovered.{IsRecovered}
 use Rattle.salt_found.specs.declared.recovery.Recovered.{Recovered}
 use Rattle.salt_model.specs.Kept.{Definition, Kept, OfTable}
-use Rattle.salt_model.specs.Tables.{Entry}
-use Rattle.salt_model.specs.Words.{Every}
+use Rattle.salt_model.specs.Tables.{no_rows}
 use Rattle.salt_ast.specs.declared.trees.TableDef.{TableDef}
 use Rattle.salt_ast.specs.Spelling.{SpellsTable}
 use Rattle.salt_stands.proofs.Coordinators.{is_coordinator}
-use Rattle.salt_stands.specs.Commits.{each_tables, found_of, partition_count}
+use Rattle.salt_stands.specs.Commits.{found_of, partition_count}
 use Rattle.salt_stands.specs.Coordinator.{Coordinator, coordinator_of, decided_for}
 use Rattle.salt_stands.specs.CoordinatorLog.{CoordinatorLog}
-use Rattle.salt_stands.specs.Pieces.{PartView}
-use Rattle.salt_stands.specs.Placed.{IsPlaced}
+use Rattle.salt_stands.specs.Partition.{is_format_under}
+use Rattle.salt_stands.specs.Stands as opening
+use Rattle.salt_stands.specs.Stands.{Stands, if_ok, opening_of, stands_on}
+use Rattle.salt_storage.specs.Storing.{IsFound, IsSoundKept}
 use Rattle.salt_storage.specs.declared.found.Found.{Found}
-use Rattle.law_types.proofs.Found.{IsFoundTyped, coordinator-typed}
-use Rattle.law_types.specs.Typed.{IsRowAt, IsTyped, has_key}
+use Rattle.law_types.proofs.Found.{IsFoundTyped, coordinator-typed, found-typed}
+use Rattle.law_types.specs.Typed.{IsTyped, has_key}
 use Rattle.salt_place.specs.declared.placement.Shape.{Shape}
-use Rattle.std.proofs.Common.{IsTrue, List, Some, ap, arith, refl, subst, sym, true, ℕ, ◌<◌, ◌≡◌, ◌∙◌}
-use Rattle.std.specs.Prelude.{nat_lt, ◌||◌, [], ◌∷◌}
+use Rattle.std.proofs.Common.{Bool, IsTrue, List, None, Ok, Some, ap, arith, false, inl, inr, refl, subst, sym, true, ℕ, ◌<◌, ◌≡◌, ◌∙◌}
+use Rattle.std.proofs.lemmas.Bool.Decides.{Decides-eqb}
 
 abbrev pub Texts : Type 0
 Texts = (text : List ℕ) (d : Definition) → definition_in text ≡ Some d → IsTextOf d text
@@ -40,95 +41,120 @@ Texts = (text : List ℕ) (d : Definition) → definition_in text ≡ Some d →
 abbrev pub Keyed : Type 0
 Keyed = (text : List ℕ) (d : TableDef) → SpellsTable text d → has_key d.columns ≡ true
 
--- rows of tables, as the types see them
-typed_rows : (schema : List TableDef) (es : List Entry) → Every (λ (e : Entry). loads.IsRowAt schema e.0 e.1) es → Every (λ (e : Entry). IsRowAt schema e.0 e.1) es
-typed_rows schema [] h = tt
-typed_rows schema (e ∷ es) h = (record { fits = h.0.0; key = h.0.1 }, typed_rows schema es h.1)
+-- under a log of the newest format a partition spells NULL
+nulls_under : (format : ℕ) → is_format_under 3 format ≡ true → has_nulls format ≡ true
+nulls_under format under = ap has_nulls ((Decides-eqb format 2).0 under)
 
 module _ (texts : Texts) (keyed : Keyed) where
   keys : (text : List ℕ) (d : TableDef) → definition_in text ≡ Some (OfTable d) → has_key d.columns ≡ true
   keys text d e = let is = texts text (OfTable d) e in keyed is.0.text d is.0.spells
 
-  module _ (e : View) (shape : Shape) (x : Store) (kept : log.Kept) (c : Coordinator Definition) (v : ℕ → PartView) (o : IsOpen e shape x kept c v) (r : Recovered) (newest : IsNewest kept r) where
-    pub rec : IsRecovered r (coordinator_of reading c.log)
-    rec = newest.is c.log o.keeps
+  module _ (d e : View) (shape : Shape) (x : Store) (kept : log.Kept) (o : OpensStore d e shape x kept) (same : SameShape d e) (r : Recovered) (newest : IsNewest kept r) where
+    rec : IsRecovered r (coordinator_of reading o.c.log)
+    rec = newest.is o.c.log o.keeps
 
-    own : IsOfLog rec.c c.log
-    own = of_log c.log rec.c rec.stands
+    own : IsOfLog rec.c o.c.log
+    own = of_log o.c.log rec.c rec.stands
 
-    pub same : IsTrue e.told → c ≡ rec.c
-    same told =
-        let is : coordinator_of reading c.log ≡ Some c = is_coordinator reading c (o.is.sound told).coordinator in
-        let both : Some c ≡ Some rec.c = sym is ∙ rec.stands in
+    same_coordinator : IsTrue e.told → o.c ≡ rec.c
+    same_coordinator told =
+        let is : coordinator_of reading o.c.log ≡ Some o.c = is_coordinator reading o.c (o.is.sound told).coordinator in
+        let both : Some o.c ≡ Some rec.c = sym is ∙ rec.stands in
         cc
 
-    -- where the disks tell, these are the tables
-    pub recovered_tables : IsTrue e.told → tables_defined c.definitions ≡ r.schema
-    recovered_tables told = ap (λ (k : Coordinator Definition). tables_defined k.definitions) (same told) ∙ sym rec.schema
-
-    stands : IsStore reading e x o.which rec.c v
+    stands : IsStore reading e x o.which rec.c o.v
     stands = record {
       decisions = subst (λ (l : CoordinatorLog). IsDecisions e x.decisions o.which l) (sym own.log_is) o.is.decisions;
       size = o.is.size ∙ sym (ap (λ (l : CoordinatorLog). l.header.shape.parts) own.log_is);
-      parts = subst (λ (l : CoordinatorLog). ArePartitions e x.parts v (λ p. decided_for p l.told.decided)) (sym own.log_is) o.is.parts;
-      sound = λ told. subst (λ (k : Coordinator Definition). IsSound reading k v) (same told) (o.is.sound told);
+      parts = subst (λ (l : CoordinatorLog). ArePartitions e x.parts o.v (λ p. decided_for p l.told.decided)) (sym own.log_is) o.is.parts;
+      sound = λ told. subst (λ (k : Coordinator Definition). IsSound reading k o.v) (same_coordinator told) (o.is.sound told);
     }
 
-    has_shape : rec.c.log.header.shape ≡ shape
-    has_shape = ap (λ (l : CoordinatorLog). l.header.shape) own.log_is ∙ o.has_shape
-
-    log_format : c.log.header.format ≡ 3
+    log_format : o.c.log.header.format ≡ 3
     log_format = sym o.keeps.format ∙ newest.format
 
-    nulls : (p : ℕ) → p < partition_count rec.c → has_nulls (v p).log.header.format ≡ true
-    nulls p low =
-        let count : partition_count rec.c ≡ partition_count c = ap (λ (l : CoordinatorLog). l.header.shape.parts) own.log_is in
-        ap (λ f. nat_lt f 2 || has_nulls (v p).log.header.format) (sym log_format) ∙ o.nulls p (omega (arith, low, count))
+    in_shape : IsInShape shape rec.c o.v
+    in_shape = record {
+      has_shape = ap (λ (l : CoordinatorLog). l.header.shape) own.log_is ∙ o.has_shape;
+      format = ap (λ (l : CoordinatorLog). l.header.format) own.log_is ∙ log_format;
+      nulls = λ p low.
+          let count : partition_count rec.c ≡ partition_count o.c = ap (λ (l : CoordinatorLog). l.header.shape.parts) own.log_is in
+          let below : p < partition_count o.c = omega (arith, low, count) in
+          nulls_under (o.v p).log.header.format (ap (λ f. is_format_under f (o.v p).log.header.format) (sym log_format) ∙ o.under p below);
+    }
 
-    abbrev kept_there : Kept
-    kept_there = kept_in (found_of rec.c v)
+    standing : IsStanding e shape x
+    standing = record { which = o.which; c = rec.c; v = o.v; is = stands; newest = in_shape }
 
-    module _ (fit : (which : WhichLog) (k : Coordinator Definition) (u : ℕ → PartView) → IsStore reading e x which k u → AreInPlace r.schema k u) where
-      in_place : AreInPlace r.schema rec.c v
-      in_place = fit o.which rec.c v stands
+    -- the rows are known where the disks tell
+    abbrev with_rows : Kept
+    with_rows = kept_in (found_of rec.c o.v)
 
-      typed : IsTyped kept_there
-      typed =
-          let t : IsFoundTyped definition_in keys rec.c = coordinator-typed definition_in keys c.log rec.c rec.stands in
-          record {
-            tables = t.definitions.tables;
-            programs = t.definitions.programs;
-            rows = subst (λ (schema : List TableDef). Every (λ (e' : Entry). IsRowAt schema e'.0 e'.1) kept_there.tables.list) rec.schema (typed_rows r.schema kept_there.tables.list in_place.rows);
-            conts = t.conts;
+    abbrev without_rows : Kept
+    without_rows = record with_rows { tables = no_rows }
+
+    definitions_typed : IsFoundTyped definition_in keys rec.c
+    definitions_typed = coordinator-typed definition_in keys o.c.log rec.c rec.stands
+
+    sound_without : IsSoundKept without_rows
+    sound_without =
+        let t = definitions_typed in
+        sound_kept rec.c own.is without_rows refl refl refl refl texts (record { tables = t.definitions.tables; programs = t.definitions.programs; rows = tt; conts = t.conts })
+
+    -- the numbers that were found
+    boot_found : kept.boot ≡ rec.c.log.told.boot
+    boot_found = o.keeps.boot ∙ sym (ap (λ (l : CoordinatorLog). l.told.boot) own.log_is)
+
+    decisions_found : kept.decisions ≡ rec.c.log.told.decisions
+    decisions_found = o.keeps.decisions ∙ sym (ap (λ (l : CoordinatorLog). l.told.decisions) own.log_is)
+
+    module _ (found : Found) (is : found ≡ record { schema = r.schema; catalogue = r.catalogue; conts = r.conts; boot = kept.boot; decisions = kept.decisions }) where
+      is_found : IsFound found with_rows
+      is_found = record {
+        schema = ap (λ (f : Found). f.schema) is ∙ rec.schema;
+        catalogue = ap (λ (f : Found). f.catalogue) is ∙ rec.catalogue;
+        conts = ap (λ (f : Found). f.conts) is ∙ rec.conts;
+        boot = ap (λ (f : Found). f.boot) is ∙ boot_found;
+        decisions = ap (λ (f : Found). f.decisions) is ∙ decisions_found;
+      }
+
+      pub opens_as : OpensAs d e shape x found
+      opens_as = by e.told refl
+        where
+          by : (b : Bool) → e.told ≡ b → OpensAs d e shape x found
+          by true told = record {
+            kept = with_rows;
+            stands = standing;
+            is_found = is_found;
+            numbers = record { boot = stands.decisions.holds.boot; decisions = stands.decisions.holds.decisions };
+            sound = sound;
+            held = λ now. record { told = now; which = o.which; c = rec.c; v = o.v; is = stands; newest = in_shape; keeps = refl; kept = sound };
+            stood = λ was. record { found = found_of o.c o.v; is = stood; has_shape = o.has_shape; newest = log_format; keeps = ap (λ (k : Coordinator Definition). kept_in (found_of k o.v)) (same_coordinator told) };
+          }
+            where
+              stood : stands_on reading d.bytes shape ≡ Ok (found_of o.c o.v)
+              stood = opened_stands d.bytes shape (found_of o.c o.v) (o.finds (sym same.told ∙ told))
+
+              typed : IsTyped with_rows
+              typed = subst (λ (k : Coordinator Definition). IsTyped (kept_in (found_of k o.v))) (same_coordinator told) (found-typed definition_in keys d.bytes shape (found_of o.c o.v) (ap if_ok stood))
+
+              sound : IsSoundKept with_rows
+              sound = sound_kept rec.c own.is with_rows refl refl refl refl texts typed
+          by false mute = record {
+            kept = without_rows;
+            stands = standing;
+            is_found = record { schema = is_found.schema; catalogue = is_found.catalogue; conts = is_found.conts; boot = is_found.boot; decisions = is_found.decisions };
+            numbers = record { boot = stands.decisions.holds.boot; decisions = stands.decisions.holds.decisions };
+            sound = sound_without;
+            held = λ now. absurd (cc (now, mute));
+            stood = λ was. absurd (cc (same.told ∙ was, mute));
           }
 
-      keeps : StoreKeeps shape rec.c v kept_there
-      keeps = record {
-        has_shape = has_shape;
-        format = ap (λ (l : CoordinatorLog). l.header.format) own.log_is ∙ log_format;
-        nulls = nulls;
-        boot = refl;
-        decisions = refl;
-        definitions = refl;
-        conts = refl;
-        tables = refl;
-        placed = λ p low. subst (λ (s : Shape). IsPlaced s p (each_tables rec.c v p)) has_shape (in_place.placed p low);
-      }
-
-      held : IsHeld e shape x kept_there
-      held = record { which = o.which; c = rec.c; v = v; is = stands; keeps = keeps; kept = sound_kept rec.c own.is kept_there refl refl refl refl texts typed }
-
-      pub holds_found : (found : Found) → found.schema ≡ r.schema → found.catalogue ≡ r.catalogue → found.conts ≡ r.conts → found.boot ≡ kept.boot → found.decisions ≡ kept.decisions → HoldsFound e shape x found c v
-      holds_found found schema catalogue conts boot decisions = record {
-        kept = kept_there;
-        held = held;
-        is_found = record {
-          schema = schema ∙ rec.schema;
-          catalogue = catalogue ∙ rec.catalogue;
-          conts = conts ∙ rec.conts;
-          boot = boot ∙ o.keeps.boot ∙ sym (ap (λ (l : CoordinatorLog). l.told.boot) own.log_is);
-          decisions = decisions ∙ o.keeps.decisions ∙ sym (ap (λ (l : CoordinatorLog). l.told.decisions) own.log_is);
-        };
-        format = log_format;
-        same = λ told. ap (λ (k : Coordinator Definition). kept_in (found_of k v)) (same told);
-      }
+-- where the disks tell, the log of a store that was opened is read
+pub not_unread : (d e : View) (shape : Shape) (x : Store) (kept : log.Kept) (o : OpensStore d e shape x kept) → IsTrue d.told → IsTrue e.told
+    → ((found : opening.Found Definition) → opening_of reading d.bytes shape ≡ Stands found → found.format ≡ 3) → IsUnread o.c.log → ⊥
+not_unread d e shape x kept o was now newest (inl none) =
+    let is : coordinator_of reading o.c.log ≡ Some o.c = is_coordinator reading o.c (o.is.sound now).coordinator in
+    let both : None ≡ Some o.c = sym none ∙ is in
+    absurd (cc both)
+not_unread d e shape x kept o was now newest (inr other) = other (newest (found_of o.c o.v) (o.finds was))

@@ -1,12 +1,9 @@
 -- How an opening may fail where it is known what stands there.
-use Rattle.salt_bytes.specs.Generations.{BothBlank, Counts}
 use Rattle.salt_commit.specs.Stores.{reading}
-use Rattle.salt_devices.proofs.Answered.{AreSpent, IsCounted, IsNothing, counted_log, judged_as, judged_opens}
+use Rattle.salt_devices.proofs.Answered.{AreSpent, judged_opens, not_older}
 use Rattle.salt_devices.specs.Leaving.{StandsFor}
-use Rattle.salt_promise.specs.Standing.{IsOlder}
 use Rattle.salt_devices.specs.Refusing.{RefusedAs}
 use Rattle.salt_model.specs.Kept.{Kept}
-use Rattle.salt_stands.specs.CoordinatorLog.{CoordinatorLog}
 use Rattle.salt_stands.specs.Stands as opening
 use Rattle.salt_stands.specs.Stands.{are_spent, opening_of}
 use Rattle.salt_devices.specs.Remembering.{MayTell}
@@ -14,20 +11,7 @@ use Rattle.salt_storage.specs.OpenErr.TheVariants as open_err
 use Rattle.salt_storage.specs.OpenErr.TheVariants.{NotSalt, NumbersSpent, OtherShape}
 use Rattle.salt_storage.specs.OpenErr.{OpenErr}
 use Rattle.salt_place.specs.declared.placement.Shape.{Shape}
-use Rattle.std.proofs.Common.{List, ap, arith, inl, inr, sym, ℕ, ◌<◌, ◌≡◌, ◌⊎◌, ◌∙◌}
-
-not_older : (shape : Shape) (bytes : ℕ → List ℕ) (a : Kept) (s : StandsFor shape bytes a) (dev : ℕ) → IsOlder bytes dev → ⊥
-not_older shape bytes a s dev o = by (judged_as bytes shape s.found s.is)
-  where
-    by : IsNothing bytes shape s.found ⊎ IsCounted bytes s.found → ⊥
-    by (inl none) = let both : BothBlank ≡ Counts o.which o.log = sym none.blank ∙ o.counts in absurd (cc both)
-    by (inr k) =
-        let both : Counts k.which k.log ≡ Counts o.which o.log = sym k.counts ∙ o.counts in
-        let same : k.log ≡ o.log = cc both in
-        let format : 3 ≡ k.log.header.format = sym s.newest ∙ counted_log bytes s.found k in
-        let older : o.log.header.format < 3 = o.older in
-        let is : k.log.header.format ≡ o.log.header.format = ap (λ (l : CoordinatorLog). l.header.format) same in
-        omega (arith, format, older, is)
+use Rattle.std.proofs.Common.{List, ap, inl, inr, sym, ℕ, ◌≡◌, ◌⊎◌, ◌∙◌}
 
 -- by spent numbers alone, or halted
 pub stands_fails : (shape : Shape) (bytes : ℕ → List ℕ) (a b : Kept) (e : OpenErr) → StandsFor shape bytes a → RefusedAs shape bytes e → MayTell a b e
@@ -36,8 +20,7 @@ stands_fails shape bytes a b e s = by e (judged_opens bytes shape s.found s.is s
     by : (e : OpenErr) → (opening_of reading bytes shape ≡ opening.Stands s.found) ⊎ AreSpent bytes shape s.found → RefusedAs shape bytes e → MayTell a b e
     by (NotSalt dev) (inl opens) (inl is) = let both : opening.Stands s.found ≡ opening.NotSalt dev = sym opens ∙ is in cc both
     by (NotSalt dev) (inr sp) (inl is) = let both : opening.NumbersSpent s.found.kept.boot s.found.kept.decisions ≡ opening.NotSalt dev = sym sp.opens ∙ is in cc both
-    by (NotSalt dev) o (inr (inl pages)) = s.no_pages dev pages
-    by (NotSalt dev) o (inr (inr older)) = not_older shape bytes a s dev older
+    by (NotSalt dev) o (inr older) = not_older bytes shape s.found s.is s.newest dev older
     by (OtherShape kept asked) (inl opens) is = let both : opening.Stands s.found ≡ opening.OtherShape kept asked = sym opens ∙ is in cc both
     by (OtherShape kept asked) (inr sp) is = let both : opening.NumbersSpent s.found.kept.boot s.found.kept.decisions ≡ opening.OtherShape kept asked = sym sp.opens ∙ is in cc both
     by (NumbersSpent boot decisions) (inl opens) is = let both : opening.Stands s.found ≡ opening.NumbersSpent boot decisions = sym opens ∙ is in absurd (cc both)

@@ -23,8 +23,7 @@ mod Begun
 mod Fitting
 mod Opening
 mod Deciding
-mod Reheld
-mod Refound
 mod Anew
 mod Refused
 mod Within
+mod Either

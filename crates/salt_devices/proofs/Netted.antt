@@ -1,8 +1,7 @@
 -- The net of a store that is held.
 use Rattle.salt_commit.specs.Messages.{IsAtRest, IsNewIn, messages_of, net_of, with_waiting}
-use Rattle.salt_commit.specs.Stores.{shape_of_store}
 use Rattle.salt_commit.specs.declared.store.Store.{Store}
-use Rattle.salt_devices.specs.Holding.{IsHeld, IsNewWith, NetFits, net_in}
+use Rattle.salt_devices.specs.Holding.{IsHeld, IsNewWith, IsStanding, NetFits, net_in}
 use Rattle.salt_disk.specs.Disks.{View}
 use Rattle.salt_model.specs.Kept.{Kept}
 use Rattle.salt_net.specs.Paces.{Pace, turning_of}
@@ -44,21 +43,32 @@ net_with x y b h = record { rests = h.rests; later = λ u k. h.new u }
 pub held_as : (d : View) (shape : Shape) (x y : Store) (k : Kept) → y ≡ record x { messages = messages_of y } → IsHeld d shape x k → IsHeld d shape y k
 held_as d shape x y k rest h = subst (λ (z : Store). IsHeld d shape z k) (sym rest) (record {
   which = h.which;
+  told = h.told;
   c = h.c;
   v = h.v;
   is = record { decisions = h.is.decisions; size = h.is.size; parts = h.is.parts; sound = h.is.sound };
+  newest = h.newest;
   keeps = h.keeps;
   kept = h.kept;
 })
+
+-- and stands as it stood
+pub standing_as : (d : View) (shape : Shape) (x y : Store) → y ≡ record x { messages = messages_of y } → IsStanding d shape x → IsStanding d shape y
+standing_as d shape x y rest h = subst (λ (z : Store). IsStanding d shape z) (sym rest) (record {
+  which = h.which;
+  c = h.c;
+  v = h.v;
+  is = record { decisions = h.is.decisions; size = h.is.size; parts = h.is.parts; sound = h.is.sound };
+  newest = h.newest;
+})
+
+pub standing_with : (d : View) (shape : Shape) (x y : Store) → IsWithNet x y → IsStanding d shape x → IsStanding d shape y
+standing_with d shape x y put h = standing_as d shape x y put.rest h
 
 pub held_with : (d : View) (shape : Shape) (x y : Store) (k : Kept) → IsWithNet x y → IsHeld d shape x k → IsHeld d shape y k
 held_with d shape x y k put h = held_as d shape x y k put.rest h
 
 -- WHAT COMMITS HAVE SENT
-
--- the shape of the store is that which is asked for
-pub shape_held : (d : View) (shape : Shape) (x : Store) (k : Kept) → IsHeld d shape x k → shape_of_store x ≡ shape
-shape_held d shape x k h = h.is.decisions.holds.shape ∙ h.keeps.has_shape
 
 -- in a store in whose place another comes
 pub sent_same : (o : Option Store) (x y : Store) → o ≡ Some x → messages_of y ≡ messages_of x → net_of y ≡ net_in o

@@ -2,43 +2,45 @@
 use Rattle.salt_ast.specs.declared.trees.TableDef.{TableDef}
 use Rattle.salt_bytes.specs.Generations.{BothBlank, Counts, Faulty, Pair}
 use Rattle.salt_commit.proofs.Formats.{counted_format}
-use Rattle.salt_commit.proofs.Opened.{same_bytes}
-use Rattle.salt_commit.specs.Openings.{HasRoom, LeavesPages, OpeningFails, OpensStore}
-use Rattle.salt_commit.specs.Prepares.{FullWhere}
+use Rattle.salt_commit.proofs.Opening.{leaves_at}
+use Rattle.salt_commit.specs.Openings.{IsRefusal, LeavesStanding, MayWrite, OpeningFails, OpeningPassesLimit}
 use Rattle.salt_commit.specs.Stores.{reading}
-use Rattle.salt_commit.specs.declared.store.Store.{Store}
 use Rattle.salt_decisions.specs.Kept.{IsKept}
 use Rattle.salt_decisions.specs.Opened.{IsPeeked}
 use Rattle.salt_storage.specs.OpenErr.TheVariants.{Failed, Full, Memory, NotSalt, NumbersSpent, OtherShape, Stopped}
 use Rattle.salt_decisions.specs.declared.kept.Kept as log
-use Rattle.salt_devices.proofs.Answered.{AreAlike, IsLike, IsNothing, IsOpened, counted_log, opened_as, opened_stands, stands_for_nothing}
+use Rattle.salt_devices.proofs.Answered.{AreAlike, IsLike, IsNothing, IsOpened, counted_log, like_stands, opened_as, opened_shape, opened_stands, stands_for_nothing}
 use Rattle.salt_stands.specs.Fitting.{kept_in}
-use Rattle.salt_devices.specs.Leaving.{StandsForSomething}
-use Rattle.salt_devices.specs.Opened.{HoldsFound, IsNewestWhere, IsOpen, IsUnread, OpensAs}
+use Rattle.salt_devices.specs.Filling.{FillsDevice, FillsIn}
+use Rattle.salt_devices.specs.Leaving.{StandsFor, StandsForSomething}
+use Rattle.salt_devices.specs.Opened.{IsNewestWhere, IsUnread}
 use Rattle.salt_devices.specs.Refusing.{RefusedAs}
-use Rattle.salt_disk.specs.Disks.{IsImage, KeepsAll, SameShape, Shrinks, View}
+use Rattle.salt_disk.specs.Disks.{IsImage, KeepsAll, KeepsBut, SameShape, Shrinks, View}
+use Rattle.salt_disk.specs.declared.disks.DiskErr.TheVariants as disk
 use Rattle.salt_disk.specs.declared.disks.DiskErr.{DiskErr}
 use Rattle.salt_model.specs.Kept.{Definition}
-use Rattle.salt_stands.specs.Commits.{found_of}
+use Rattle.salt_parts.proofs.Reading.{same_bytes}
+use Rattle.salt_parts.specs.Openings.{HasRoom}
+use Rattle.salt_shares.specs.Prepares.{FullWhere}
 use Rattle.salt_stands.specs.Coordinator.{coordinator_pair}
 use Rattle.salt_stands.specs.CoordinatorLog.{CoordinatorLog}
 use Rattle.salt_stands.specs.Partition.{pages_device}
 use Rattle.salt_stands.specs.Stands as opening
-use Rattle.salt_stands.specs.Stands.{stands_on, logs_of, nothing_found}
+use Rattle.salt_stands.specs.Stands.{stands_on, logs_of, nothing_found, opening_of}
+use Rattle.salt_storage.specs.Answers as answers
 use Rattle.salt_storage.specs.Answers.{open_disk_err_of}
-use Rattle.salt_storage.specs.declared.found.Found.{Found}
+use Rattle.salt_storage.specs.Writing.{OfOpening}
 use Rattle.salt_storage.specs.OpenErr.TheVariants as storage
 use Rattle.salt_storage.specs.OpenErr.{OpenErr}
 use Rattle.salt_place.specs.Placement.{IsParts}
 use Rattle.salt_place.specs.declared.placement.Shape.{Shape}
-use Rattle.std.proofs.Common.{IsTrue, List, None, Ok, Option, ap, arith, inl, inr, refl, subst, sym, ℕ, ◌*◌, ◌+◌, ◌<◌, ◌≡◌, ◌⊎◌, ◌∙◌}
+use Rattle.std.proofs.Common.{IsTrue, List, None, Ok, Option, Some, ap, arith, inl, inr, refl, subst, sym, ℕ, ◌*◌, ◌+◌, ◌<◌, ◌≡◌, ◌⊎◌, ◌∙◌}
 use Rattle.std.specs.Prelude.{Err, IfErr, Result}
 
 -- ANSWERS
 
 pub refused_as : (shape : Shape) (bytes : ℕ → List ℕ) (e : OpenErr) → OpeningFails shape bytes e → RefusedAs shape bytes e
-refused_as shape bytes (NotSalt dev) (inl is) = inl is
-refused_as shape bytes (NotSalt dev) (inr pages) = inr (inl pages)
+refused_as shape bytes (NotSalt dev) h = inl h
 refused_as shape bytes (OtherShape kept asked) h = h
 refused_as shape bytes (NumbersSpent boot numbers) h = h
 refused_as shape bytes Failed h = tt
@@ -56,18 +58,54 @@ full_is P Stopped dev is h = absurd (cc is)
 full_is P (Full k) dev is h = let same : k ≡ dev = cc is in subst P same h
 full_is P Memory dev is h = absurd (cc is)
 
--- a stop, which only a write meets
-pub stopped_blank : (shape : Shape) (bytes : ℕ → List ℕ) (e : OpenErr) → e ≡ storage.Stopped → OpeningFails shape bytes e → coordinator_pair (logs_of bytes) ≡ BothBlank
-stopped_blank shape bytes (NotSalt k) is h = absurd (cc is)
-stopped_blank shape bytes (OtherShape kept asked) is h = absurd (cc is)
-stopped_blank shape bytes (NumbersSpent boot numbers) is h = absurd (cc is)
-stopped_blank shape bytes Failed is h = absurd (cc is)
-stopped_blank shape bytes Stopped is h = h
-stopped_blank shape bytes (Full k) is h = absurd (cc is)
-stopped_blank shape bytes Memory is h = absurd (cc is)
+-- where a device is full: as a first opening tells it, or by the pages that a partition may take
+pub opening_fills : (d e : View) (shape : Shape) (err : OpenErr) (dev : ℕ) → SameShape d e → err ≡ storage.Full dev → (IsTrue d.told → FullWhere (OpeningPassesLimit d e shape) (open_disk_err_of err)) → FillsIn e shape OfOpening dev
+opening_fills d e shape err dev same is h told = by (full_is (OpeningPassesLimit d e shape) err dev is (h (sym same.told ∙ told)))
+  where
+    by : OpeningPassesLimit d e shape dev → FillsDevice e shape OfOpening dev
+    by (inl passes) = inl passes
+    by (inr u) = inr (record { p = u.passes.p; low = u.passes.low; is = u.passes.device })
 
-pub new_stands : (shape : Shape) (image : ℕ → List ℕ) → stands_on reading image shape ≡ Ok (nothing_found shape) → ((dev : ℕ) → LeavesPages shape image dev → ⊥) → StandsForSomething shape image
-new_stands shape image is none = (kept_in (nothing_found shape), record { found = nothing_found shape; is = is; has_shape = refl; newest = refl; keeps = refl; no_pages = none })
+-- a stop, which only a write meets
+pub stopped_writes : (shape : Shape) (bytes : ℕ → List ℕ) (e : OpenErr) → e ≡ storage.Stopped → OpeningFails shape bytes e → MayWrite shape bytes
+stopped_writes shape bytes (NotSalt k) is h = absurd (cc is)
+stopped_writes shape bytes (OtherShape kept asked) is h = absurd (cc is)
+stopped_writes shape bytes (NumbersSpent boot numbers) is h = absurd (cc is)
+stopped_writes shape bytes Failed is h = absurd (cc is)
+stopped_writes shape bytes Stopped is h = h
+stopped_writes shape bytes (Full k) is h = absurd (cc is)
+stopped_writes shape bytes Memory is h = absurd (cc is)
+
+-- and so a full device
+pub full_writes : (shape : Shape) (bytes : ℕ → List ℕ) (e : OpenErr) (dev : ℕ) → e ≡ storage.Full dev → OpeningFails shape bytes e → MayWrite shape bytes
+full_writes shape bytes (NotSalt k) dev is h = absurd (cc is)
+full_writes shape bytes (OtherShape kept asked) dev is h = absurd (cc is)
+full_writes shape bytes (NumbersSpent boot numbers) dev is h = absurd (cc is)
+full_writes shape bytes Failed dev is h = absurd (cc is)
+full_writes shape bytes Stopped dev is h = absurd (cc is)
+full_writes shape bytes (Full k) dev is h = h
+full_writes shape bytes Memory dev is h = absurd (cc is)
+
+-- what a refusal is
+pub refuses_as : (e : OpenErr) → answers.IsRefusal e → IsRefusal e
+refuses_as (NotSalt k) h = tt
+refuses_as (OtherShape kept asked) h = tt
+refuses_as (NumbersSpent boot numbers) h = tt
+refuses_as Failed h = h
+refuses_as Stopped h = h
+refuses_as (Full k) h = h
+refuses_as Memory h = h
+
+-- want of memory behind an opening leaves what it left
+pub keeps_memory : (touched : ℕ → Type 0) (d e : View) → KeepsBut touched d e None → KeepsBut touched d e (Some disk.Memory)
+keeps_memory touched d e k = record { shape = k.shape; kept = k.kept; images = k.images }
+
+pub leaves_memory : (d e : View) (shape : Shape) → LeavesStanding d e shape None → LeavesStanding d e shape (Some disk.Memory)
+leaves_memory d e shape (inl k) = inl (keeps_memory (λ _. ⊥) d e k)
+leaves_memory d e shape (inr s) = inr s
+
+pub new_stands : (shape : Shape) (image : ℕ → List ℕ) → stands_on reading image shape ≡ Ok (nothing_found shape) → StandsForSomething shape image
+new_stands shape image is = (kept_in (nothing_found shape), record { found = nothing_found shape; is = is; has_shape = refl; newest = refl; keeps = refl })
 
 -- THE LOG that is peeked at
 
@@ -75,7 +113,7 @@ pub unread_refused : (shape found : Shape) (bytes : ℕ → List ℕ) (kept : lo
 unread_refused shape found bytes kept p (inl none) = inl (stands_for_nothing bytes shape p.which p.log p.counts none ∙ ap opening.NotSalt (sym p.device))
 unread_refused shape found bytes kept p (inr other) =
     let known = counted_format (logs_of bytes) p.which p.log p.counts in
-    inr (inr (record { which = p.which; log = p.log; counts = p.counts; older = omega (arith, known, other); device = p.device }))
+    inr (record { which = p.which; log = p.log; counts = p.counts; older = omega (arith, known, other); device = p.device })
 
 pub peeked_refused : (shape found : Shape) (bytes : ℕ → List ℕ) (kept : log.Kept) (p : IsPeeked found kept (coordinator_pair (logs_of bytes))) (e : OpenErr)
     → (e ≡ storage.Memory) ⊎ ((e ≡ storage.NotSalt kept.device) × ((l : CoordinatorLog) → IsKept kept l → IsUnread l)) → RefusedAs shape bytes e
@@ -86,13 +124,13 @@ pub map_err : {A E : Type 0} (r : Result A E) (P Q : E → Type 0) → ((e : E) 
 map_err (Ok x) P Q f h = tt
 map_err (Err e) P Q f h = f e h
 
--- the log that is opened is in the newest format
-pub opened_newest : (schema : List TableDef) (d e : View) (shape : Shape) (x : Store) (kept : log.Kept) (o : OpensStore d e shape x kept) → IsTrue d.told → IsNewestWhere schema (coordinator_pair (logs_of d.bytes)) → kept.format ≡ 3
-opened_newest schema d e shape x kept o told newest = o.keeps.format ∙ by (opened_as d.bytes shape (found_of o.c o.v) (o.finds told))
+-- what is opened is in the newest format
+pub opened_newest : (schema : List TableDef) (bytes : ℕ → List ℕ) (shape : Shape) → IsNewestWhere schema (coordinator_pair (logs_of bytes)) → (found : opening.Found Definition) → opening_of reading bytes shape ≡ opening.Stands found → found.format ≡ 3
+opened_newest schema bytes shape newest found opens = by (opened_as bytes shape found opens)
   where
-    by : IsNothing d.bytes shape (found_of o.c o.v) ⊎ IsOpened d.bytes shape (found_of o.c o.v) → o.c.log.header.format ≡ 3
+    by : IsNothing bytes shape found ⊎ IsOpened bytes shape found → found.format ≡ 3
     by (inl none) = ap (λ (f : opening.Found Definition). f.format) (sym none.is)
-    by (inr k) = counted_log d.bytes (found_of o.c o.v) k.counted ∙ (subst (IsNewestWhere schema) k.counted.counts newest).format
+    by (inr k) = counted_log bytes found k.counted ∙ (subst (IsNewestWhere schema) k.counted.counts newest).format
 
 -- DEVICES
 
@@ -119,41 +157,38 @@ module _ (d : View) (shape : Shape) (parts : IsParts shape.parts) (room : HasRoo
   like_unwritten b answer keeps image left = inl (alike d b shape parts room keeps.shape.count (λ dev. keeps.images dev (λ none. none)) image left)
 
   -- behind an opening of the store
-  module _ (b e : View) (answer : Option DiskErr) (first : KeepsAll d b None) (kept : ¬ (coordinator_pair (logs_of b.bytes) ≡ BothBlank) → KeepsAll b e answer)
+  module _ (b e : View) (answer : Option DiskErr) (first : KeepsAll d b None) (leaves : ¬ (coordinator_pair (logs_of b.bytes) ≡ BothBlank) → LeavesStanding b e shape answer)
       (images : coordinator_pair (logs_of b.bytes) ≡ BothBlank → (image : ℕ → List ℕ) → IsImage e image → stands_on reading image shape ≡ Ok (nothing_found shape))
-      (pages : coordinator_pair (logs_of b.bytes) ≡ BothBlank → (image : ℕ → List ℕ) → IsImage e image → (dev : ℕ) → LeavesPages shape image dev → ⊥) where
+      (newest : (found : opening.Found Definition) → opening_of reading d.bytes shape ≡ opening.Stands found → found.format ≡ 3) where
+    same_pair : coordinator_pair (logs_of b.bytes) ≡ coordinator_pair (logs_of d.bytes)
+    same_pair = ap (λ (bytes : ℕ → List ℕ). coordinator_pair (logs_of bytes)) (same_bytes d b first)
+
+    -- as of the devices before the log was peeked at
+    pub leaves_first : ¬ (coordinator_pair (logs_of d.bytes) ≡ BothBlank) → LeavesStanding d e shape answer
+    leaves_first some = leaves_at shape d b e answer first (leaves (λ blank. some (sym same_pair ∙ blank)))
+
     pub like_opened : (image : ℕ → List ℕ) → IsImage e image → IsLike shape d.bytes image
     like_opened image left = by (coordinator_pair (logs_of d.bytes)) refl
       where
-        same_pair : coordinator_pair (logs_of b.bytes) ≡ coordinator_pair (logs_of d.bytes)
-        same_pair = ap (λ (bytes : ℕ → List ℕ). coordinator_pair (logs_of bytes)) (same_bytes d b first)
-
-        unwritten : ¬ (coordinator_pair (logs_of b.bytes) ≡ BothBlank) → IsLike shape d.bytes image
-        unwritten some =
-            let k = kept some in
-            inl (alike d e shape parts room (k.shape.count ∙ first.shape.count) (λ dev c there. first.images dev (λ none. none) c (k.images dev (λ none. none) c there)) image left)
+        written : LeavesStanding d e shape answer → IsLike shape d.bytes image
+        written (inl keeps) = like_unwritten e answer keeps image left
+        written (inr s) = inr (inr (record { found = s.found; opens = s.opens; newest = newest s.found s.opens; stands = s.images shape image left }))
 
         by : (pair : Pair CoordinatorLog) → coordinator_pair (logs_of d.bytes) ≡ pair → IsLike shape d.bytes image
-        by BothBlank is = inr (record { blank = is; new = images (same_pair ∙ is) image left; unnamed = pages (same_pair ∙ is) image left })
-        by (Faulty which) is = unwritten (λ blank. let both : Faulty which ≡ BothBlank = sym is ∙ (sym same_pair ∙ blank) in absurd (cc both))
-        by (Counts which log) is = unwritten (λ blank. let both : Counts which log ≡ BothBlank = sym is ∙ (sym same_pair ∙ blank) in absurd (cc both))
+        by BothBlank is = inr (inl (record { blank = is; new = images (same_pair ∙ is) image left }))
+        by (Faulty which) is = written (leaves_first (λ blank. let both : Faulty which ≡ BothBlank = sym is ∙ blank in absurd (cc both)))
+        by (Counts which log) is = written (leaves_first (λ blank. let both : Counts which log ≡ BothBlank = sym is ∙ blank in absurd (cc both)))
 
--- THE STORE that is opened
-
-pub is_open : (d e : View) (shape : Shape) (x : Store) (kept : log.Kept) (o : OpensStore d e shape x kept) → IsOpen e shape x kept o.c o.v
-is_open d e shape x kept o = record { which = o.which; is = o.is; keeps = o.keeps; has_shape = o.has_shape; nulls = o.nulls }
-
-pub opens_as : (d e : View) (shape : Shape) (x : Store) (kept : log.Kept) (o : OpensStore d e shape x kept) (found : Found) → SameShape d e → HoldsFound e shape x found o.c o.v → OpensAs d e shape x found
-opens_as d e shape x kept o found shaped h = record {
-  kept = h.kept;
-  held = h.held;
-  is_found = h.is_found;
-  stood = λ told. record {
-    found = found_of o.c o.v;
-    is = opened_stands d.bytes shape (found_of o.c o.v) (o.finds told);
-    has_shape = o.has_shape;
-    newest = h.format;
-    keeps = h.same (shaped.told ∙ told);
-    no_pages = o.no_pages told;
-  };
-}
+    -- so each image stands for something, where the opening may have written
+    pub something_left : MayWrite shape b.bytes → (image : ℕ → List ℕ) → IsImage e image → StandsForSomething shape image
+    something_left (inl blank) image left = new_stands shape image (images blank image left)
+    something_left (inr stands) image left =
+        let opens : opening_of reading d.bytes shape ≡ opening.Stands stands.0 = ap (λ (bytes : ℕ → List ℕ). opening_of reading bytes shape) (sym (same_bytes d b first)) ∙ stands.1 in
+        let was : StandsFor shape d.bytes (kept_in stands.0) = record {
+          found = stands.0;
+          is = opened_stands d.bytes shape stands.0 opens;
+          has_shape = opened_shape d.bytes shape stands.0 opens;
+          newest = newest stands.0 opens;
+          keeps = refl;
+        } in
+        (kept_in stands.0, like_stands shape d.bytes image (like_opened image left) (kept_in stands.0) was)

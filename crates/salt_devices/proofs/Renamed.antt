@@ -3,27 +3,25 @@ use Rattle.salt_bytes.specs.Coordinator.{Decision}
 use Rattle.salt_bytes.specs.Generations.{WhichLog}
 use Rattle.salt_bytes.specs.Partition.{Prepared}
 use Rattle.salt_bytes.specs.Spellable.{Every}
-use Rattle.salt_commit.proofs.Standing.{if_some, make_some}
+use Rattle.salt_parts.proofs.Lists.{if_some, make_some}
 use Rattle.salt_commit.specs.Stores.{IsStore, decided_by, reading}
 use Rattle.salt_commit.specs.declared.store.Store.{Store}
 use Rattle.salt_devices.proofs.Renaming.{coordinator_renamed, decided_renamed, decision_renamed, renamed, view_renamed}
-use Rattle.salt_devices.proofs.Stores.{logs_of_store}
-use Rattle.salt_devices.specs.Holding.{IsFresh, IsHeld, IsNewTo, StoreKeeps}
+use Rattle.law_generations.specs.AsIf.{IsNewName}
+use Rattle.salt_devices.specs.Holding.{IsStanding}
 use Rattle.salt_disk.specs.Disks.{View}
 use Rattle.salt_codec.specs.declared.prepared.PreparedUnit.{PreparedUnit}
-use Rattle.salt_model.specs.Kept.{Definition, Kept}
+use Rattle.salt_model.specs.Kept.{Definition}
 use Rattle.salt_model.specs.Tables.{no_rows, with_changes}
 use Rattle.salt_values.specs.Id.{has_id}
-use Rattle.salt_partition.specs.Contents.{AreKeyed}
-use Rattle.salt_partition.specs.Partitions.{IsLastKept, IsPartition}
-use Rattle.salt_partition.specs.declared.partition.Partition.{Partition}
-use Rattle.salt_stands.proofs.Commits.{listed_same}
-use Rattle.salt_stands.specs.Commits.{each_tables, found_of, partition_count}
+use Rattle.salt_paged.specs.Partitions.{IsPartition}
+use Rattle.salt_paged.specs.declared.partition.Partition.{Partition}
+use Rattle.salt_partition.specs.Contents.{ArePut}
+use Rattle.salt_partition.specs.Partitions.{IsLastKept}
+use Rattle.salt_rows.specs.Stores.{IsRowStore}
 use Rattle.salt_stands.specs.Coordinator.{Coordinator, decided_for, unit_of}
-use Rattle.salt_stands.specs.Partition.{changes_if, decided_changes, part_tables}
+use Rattle.salt_stands.specs.Partition.{changes_if, decided_changes, pages_device}
 use Rattle.salt_stands.specs.Pieces.{PartView, is_prepared_in}
-use Rattle.salt_stands.specs.Placed.{IsPlaced}
-use Rattle.salt_stands.specs.Stands.{found_with}
 use Rattle.salt_stands.specs.Words.{has_bit}
 use Rattle.salt_values.specs.Id.{is_same_id}
 use Rattle.salt_values.specs.declared.id.Id.{Id}
@@ -107,11 +105,11 @@ all_decided u us (p ∷ ps) = by (has_id p.unit us) refl (all_decided u us ps)
     by true e h = (has_renamed u p.unit us ∙ e, h)
     by false e h = h
 
-keyed_renamed : (u : Id) (us : List Id) (ps : List Prepared) → Every AreKeyed ps → Every AreKeyed (decided_renamed u us ps)
-keyed_renamed u us [] h = tt
-keyed_renamed u us (p ∷ ps) h = by (has_id p.unit us) (keyed_renamed u us ps h.1)
+put_renamed : (u : Id) (us : List Id) (ps : List Prepared) → Every ArePut ps → Every ArePut (decided_renamed u us ps)
+put_renamed u us [] h = tt
+put_renamed u us (p ∷ ps) h = by (has_id p.unit us) (put_renamed u us ps h.1)
   where
-    by : (b : Bool) → Every AreKeyed (decided_renamed u us ps) → Every AreKeyed (if b then record { unit = renamed u p.unit; changes = p.changes } ∷ decided_renamed u us ps else decided_renamed u us ps)
+    by : (b : Bool) → Every ArePut (decided_renamed u us ps) → Every ArePut (if b then record { unit = renamed u p.unit; changes = p.changes } ∷ decided_renamed u us ps else decided_renamed u us ps)
     by true more = (h.0, more)
     by false more = more
 
@@ -143,18 +141,18 @@ module _ (d : View) (mute : d.told ≡ false) (u : Id) where
       → IsPartition d x p (record v { log = record v.log { prepared = decided_renamed u us v.log.prepared } }) (map (renamed u) us)
   part_renamed x p v us is = record {
     part = is.part;
+    header = is.header;
+    which = is.which;
     entries = is.entries;
     is_log = is.is_log;
     some = is.some;
     device = is.device;
     known = is.known;
     other = is.other;
-    nulls = is.nulls;
-    pages = is.pages;
-    none = is.none;
-    keyed = keyed_renamed u us v.log.prepared is.keyed;
+    put = put_renamed u us v.log.prepared is.put;
     last = last_renamed u us v.log.prepared x.last;
-    rows = is.rows ∙ ap (λ cs. (with_changes (v.rows ++ cs) no_rows).list) (sym (changes_renamed u us v.log.prepared));
+    rows = subst (λ cs. IsRowStore d x.rows (pages_device p) v.log.header.sides (with_changes (v.rows ++ cs) no_rows)) (sym (changes_renamed u us v.log.prepared)) is.rows;
+    keyed = is.keyed;
     told = λ told. not_told _ told;
   }
 
@@ -190,51 +188,25 @@ module _ (d : View) (mute : d.told ≡ false) (u : Id) where
       sound = λ told. not_told _ told;
     }
 
-    tables_renamed : (p : ℕ) → each_tables (coordinator_renamed u c) (view_renamed u c v) p ≡ each_tables c v p
-    tables_renamed p =
-        ap (λ us. part_tables us (view_renamed u c v p).log (v p).rows) (decided_for_renamed u p c.log.told.decided)
-        ∙ ap (λ cs. with_changes ((v p).rows ++ cs) no_rows) (changes_renamed u (decided_by c p) (v p).log.prepared)
-
-    found_renamed : found_of (coordinator_renamed u c) (view_renamed u c v) ≡ found_of c v
-    found_renamed = ap (found_with c) (listed_same (each_tables (coordinator_renamed u c) (view_renamed u c v)) (each_tables c v) 0 (partition_count c) (λ p low. tables_renamed p))
-
-    fresh_renamed : IsFresh (coordinator_renamed u c) (view_renamed u c v) u
+    fresh_renamed : IsNewName (coordinator_renamed u c) (view_renamed u c v) u
     fresh_renamed = record {
       fresh = λ p low. none_prepared u (decided_by c p) (v p).log.prepared;
       new = λ p low. ap (has_id u) (decided_for_renamed u p c.log.told.decided) ∙ none_renamed u (decided_by c p);
     }
 
-    keeps_renamed : (shape : Shape) (k : Kept) → StoreKeeps shape c v k → StoreKeeps shape (coordinator_renamed u c) (view_renamed u c v) k
-    keeps_renamed shape k h = record {
-      has_shape = h.has_shape;
-      format = h.format;
-      nulls = h.nulls;
-      boot = h.boot;
-      decisions = h.decisions;
-      definitions = h.definitions;
-      conts = h.conts;
-      tables = h.tables ∙ ap (λ f. f.kept.tables) (sym found_renamed);
-      placed = λ p low. subst (IsPlaced shape p) (sym (tables_renamed p)) (h.placed p low);
-    }
+-- a store that stands does so in a view in which no entry and no decision names the unit
+pub record IsStandingWithout (d : View) (shape : Shape) (x : Store) (u : Id) : Type 0 where
+  pub standing : IsStanding d shape x
+  pub fresh : IsNewName standing.c standing.v u
 
--- a store that is held is held in a view in which no entry names a unit that is new
-pub record IsHeldWithout (d : View) (shape : Shape) (x : Store) (k : Kept) (u : Id) : Type 0 where
-  pub held : IsHeld d shape x k
-  pub fresh : IsFresh held.c held.v u
-
-pub held_without : (d : View) (shape : Shape) (x : Store) (k : Kept) (u : Id) → IsHeld d shape x k → IsNewTo d u → IsHeldWithout d shape x k u
-held_without d shape x k u h new = by d.told refl
-  where
-    by : (b : Bool) → d.told ≡ b → IsHeldWithout d shape x k u
-    by true told = record { held = h; fresh = new told h.c h.v (logs_of_store d x h.which h.c h.v h.is told) }
-    by false mute = record {
-      held = record {
-        which = h.which;
-        c = coordinator_renamed u h.c;
-        v = view_renamed u h.c h.v;
-        is = store_renamed d mute u x h.which h.c h.v h.is;
-        keeps = keeps_renamed d mute u x h.which h.c h.v h.is shape k h.keeps;
-        kept = h.kept;
-      };
-      fresh = fresh_renamed d mute u x h.which h.c h.v h.is;
-    }
+pub standing_without : (d : View) (shape : Shape) (x : Store) (u : Id) → d.told ≡ false → IsStanding d shape x → IsStandingWithout d shape x u
+standing_without d shape x u mute s = record {
+  standing = record {
+    which = s.which;
+    c = coordinator_renamed u s.c;
+    v = view_renamed u s.c s.v;
+    is = store_renamed d mute u x s.which s.c s.v s.is;
+    newest = record { has_shape = s.newest.has_shape; format = s.newest.format; nulls = s.newest.nulls };
+  };
+  fresh = fresh_renamed d mute u x s.which s.c s.v s.is;
+}

@@ -6,9 +6,11 @@ use Rattle.salt_bytes.specs.Generations.{Counts, WhichLog}
 use Rattle.salt_bytes.specs.Partition.{spell_prepared}
 use Rattle.salt_bytes.specs.declared.moves.Move.{Move}
 use Rattle.salt_commit.specs.Openings.{StorePassesLimit}
-use Rattle.salt_commit.specs.Shares.{has_changes, mask_of, shares_of}
+use Rattle.salt_commit.specs.Shares.{mask_of, shares_of}
 use Rattle.salt_decisions.specs.declared.header_payload.TheConstants.{FORMAT}
 use Rattle.salt_disk.specs.Disks.{View}
+use Rattle.salt_parts.specs.Openings.{IsPagesOf}
+use Rattle.salt_shares.specs.Shares.{has_changes}
 use Rattle.salt_stands.specs.Coordinator.{device_of}
 use Rattle.salt_stands.specs.CoordinatorLog.{CoordinatorLog}
 use Rattle.salt_stands.specs.Partition.{part_device, part_pair}
@@ -44,11 +46,12 @@ definition_entry text log = Defines (record { number = log.told.decisions + 1; t
 abbrev pub decision_entry : Shape → Id → List Change → Move → CoordinatorLog → CoordinatorEntry
 decision_entry shape u cs m log = Decides (record { number = log.told.decisions + 1; unit = u; mask = mask_of (shares_of shape cs); move = spell_move FORMAT m })
 
+-- an opening applies decided units in the pages of partitions, and so does a unit's commit behind its decision
 abbrev pub FillsDevice : View → Shape → ToWrite → ℕ → Type 0
-FillsDevice d shape OfOpening dev = StorePassesLimit d shape dev
+FillsDevice d shape OfOpening dev = StorePassesLimit d shape dev ⊎ IsPagesOf shape.parts dev
 FillsDevice d shape OfBoot dev = EntryFills d next_boot dev
 FillsDevice d shape (OfDefinition text) dev = EntryFills d (definition_entry text) dev
-FillsDevice d shape (OfUnit u cs m) dev = EntryFills d (decision_entry shape u cs m) dev ⊎ ShareFills d shape u cs dev
+FillsDevice d shape (OfUnit u cs m) dev = EntryFills d (decision_entry shape u cs m) dev ⊎ (ShareFills d shape u cs dev ⊎ IsPagesOf shape.parts dev)
 
 -- what is to be written would pass the limit of the device; of disks that do not tell their bytes nothing is said
 abbrev pub FillsIn : View → Shape → ToWrite → ℕ → Type 0

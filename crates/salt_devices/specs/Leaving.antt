@@ -1,6 +1,5 @@
 -- What an opening may come upon, and what a stop may leave there.
 use Rattle.salt_bytes.specs.Generations.{BothBlank}
-use Rattle.salt_commit.specs.Openings.{LeavesPages}
 use Rattle.salt_commit.specs.Stores.{reading}
 use Rattle.salt_stands.specs.Fitting.{kept_in}
 use Rattle.salt_devices.specs.declared.pending.Pending.TheVariants.{Opening}
@@ -12,14 +11,13 @@ use Rattle.salt_stands.specs.Stands.{Found, stands_on, logs_of}
 use Rattle.salt_place.specs.declared.placement.Shape.{Shape}
 use Rattle.std.specs.Prelude.{Bool, IsTrue, List, Ok, false, true, ℕ, ◌<◌, ◌≡◌, ◌⊎◌}
 
--- the devices stand for what is kept, in this shape and the newest format; no pages are left there
+-- the devices stand for what is kept, in this shape and the newest format
 pub record StandsFor (shape : Shape) (image : ℕ → List ℕ) (k : Kept) : Type 0 where
   pub found : Found Definition
   pub is : stands_on reading image shape ≡ Ok found
   pub has_shape : found.shape ≡ shape
   pub newest : found.format ≡ 3
   pub keeps : kept_in found ≡ k
-  pub no_pages : (dev : ℕ) → LeavesPages shape image dev → ⊥
 
 -- the image stands for whatever the bytes stand for
 abbrev pub StandsStill : Shape → (bytes image : ℕ → List ℕ) → Type 0
@@ -31,7 +29,7 @@ abbrev pub MayCome : View → (started : Bool) → (ℕ → List ℕ) → Type 0
 MayCome d true image = (dev : ℕ) → dev < d.count → image dev ≡ d.bytes dev
 MayCome d false image = IsImage d image
 
--- a coordinator's log was begun there, so no opening writes; the devices stand for the one or the other
+-- a coordinator's log was begun there, and the devices stand for the one or the other
 pub record IsEither (shape : Shape) (image : ℕ → List ℕ) (a b : Kept) : Type 0 where
   pub begun : ¬ (coordinator_pair (logs_of image) ≡ BothBlank)
   pub stands : StandsFor shape image a ⊎ StandsFor shape image b

@@ -5,3 +5,4 @@ pub mod Opened
 pub mod Refusing
 pub mod Remembering
 pub mod Standing
+pub mod Writing

@@ -1,12 +1,13 @@
 //! A database over its devices.
 
+ghost use Rattle.salt_devices.specs.Remembering.{numbers_known};
 ghost use Rattle.salt_devices.specs.declared.pending.Pending.TheVariants.{Nothing};
 ghost use Rattle.std.specs.Prelude.{None, true, ◌≡◌};
 
 use crate::again::{numbers_of, open_again};
-use crate::held::{begin_boot, decide_definition, decide_unit, load_rows, put_over};
+use crate::held::{begin_boot, decide_definition, decide_unit, load_rows, put_over, reject};
 use crate::open::open_first;
-use crate::pending::{Pending, pending_opening, pending_unit};
+use crate::pending::{Pending, pending_opening};
 use salt_bytes::Move;
 use salt_commit::Store;
 use salt_disk::Disks;
@@ -19,8 +20,9 @@ use salt_storage::{Found, Halt, Numbers, OpenErr, Storage};
 use salt_values::{Change, Id, Key};
 use std::alloc::{AllocError, Global};
 
-/// A database over devices, in the shape that is asked for: a store that stands on them, once it is opened. Behind an error the
-/// store stays, as what is remembered, until it is reopened. Where commits go over messages, each opening begins a new net.
+/// A database over devices, in the shape that is asked for: a store that stands on them, from an opening to the next error or
+/// restart. Behind that its numbers alone are remembered, and what was being written, until it is reopened. Where commits go over
+/// messages, each opening begins a new net.
 #[derive(Drop)]
 pub struct Devices {
     alloc: Global,
@@ -30,6 +32,9 @@ pub struct Devices {
     // whether the devices were started, and nothing was called since
     started: bool,
     store: Option<Store>,
+    // the numbers of a store that was given up
+    numbers: Numbers,
+    // and what was being written then
     pending: Pending,
 }
 
@@ -48,31 +53,54 @@ impl Devices {
             over_net,
             started: true,
             store: None,
+            numbers: Numbers {
+                boot: 0,
+                decisions: 0,
+            },
             pending: Pending::Nothing,
         }
+    }
+
+    /// The numbers that are known: of the store, as long as it stands, and else those that are remembered.
+    fn known(&self) -> Numbers
+        ensures { result ≡ numbers_known self.now.store self.now.numbers }
+    {
+        match &self.store {
+            Some(store) => numbers_of(store),
+            None => self.numbers,
+        }
+    }
+
+    /// The store is given up behind a call that failed: these are its numbers before that, and this was being written.
+    fn forget(&mut self, numbers: Numbers, pending: Pending)
+        ensures { self.new ≡ record self.old { store = None; numbers = numbers; pending = pending } }
+    {
+        self.store = None;
+        self.numbers = numbers;
+        self.pending = pending;
     }
 }
 
 impl Storage for Devices {
     ghost use Rattle.salt_devices.specs.Filling.{FillsIn};
-    ghost use Rattle.salt_devices.specs.Holding.{CanStart, IsNewWith, net_in, setup_in};
+    ghost use Rattle.salt_devices.specs.Holding.{IsCallable, IsNewWith, net_in, setup_in};
     ghost use Rattle.salt_devices.specs.Refusing.{FindsKept, RefusesDevices};
     ghost use Rattle.salt_devices.specs.Standing.{RestsAs, StandsHeld, StandsLeft, StandsStarted};
     ghost use Rattle.salt_devices.specs.declared.pending.Pending.TheVariants.{Opening};
 
     ghost holds = { λ d x k. StandsHeld x.shape x.started x.store x.pending d k };
 
-    ghost leaves = { λ d x a b. StandsLeft x.shape x.started x.store x.pending d a b };
+    ghost leaves = { λ d x a b. StandsLeft x.shape x.started x.store x.numbers x.pending d a b };
 
     ghost rests = { λ d x k. RestsAs x.shape x.started d k };
 
-    ghost settled = { λ d x. StandsStarted x.shape x.started x.pending d };
+    ghost settled = { λ d x. StandsStarted x.shape x.started x.store x.pending d };
 
     ghost unopened = { λ x. x.store ≡ None };
 
     ghost tried = { λ d x. x.pending ≡ Opening };
 
-    ghost able = { λ d x. CanStart x.shape x.started x.pending d };
+    ghost able = { λ d x. IsCallable x.shape x.started x.store x.pending d };
 
     ghost is_new = { λ d x u. IsNewWith d x.store u };
 
@@ -92,7 +120,7 @@ impl Storage for Devices {
         place: &Placement<F>,
     ) -> Result<Found, OpenErr> {
         self.started = false;
-        match open_first(self.alloc, disks, place, self.shape, &self.pending) {
+        match open_first(self.alloc, disks, place, self.shape, self.pending) {
             Ok((store, found)) => {
                 self.store = Some(put_over(store, self.over_net));
                 self.pending = Pending::Nothing;
@@ -110,11 +138,9 @@ impl Storage for Devices {
         disks: &mut D,
         place: &Placement<F>,
     ) -> Result<Numbers, OpenErr> {
-        let Some(before) = &self.store else {
-            unreachable!()
-        };
         self.started = false;
-        match open_again(self.alloc, disks, place, self.shape, before, &self.pending) {
+        let (numbers, pending) = (self.numbers, self.pending);
+        match open_again(self.alloc, disks, place, self.shape, numbers, pending) {
             Ok(store) => {
                 let found = numbers_of(&store);
                 self.store = Some(put_over(store, self.over_net));
@@ -127,12 +153,13 @@ impl Storage for Devices {
 
     fn boot<D: Disks>(&mut self, disks: &mut D) -> Result<u64, Halt> {
         let Some(store) = &mut self.store else {
-            unreachable!()
+            return Err(reject(disks));
         };
+        let before = numbers_of(store);
         match begin_boot(store, disks) {
             Ok(boot) => Ok(boot),
             Err(e) => {
-                self.pending = Pending::Boot;
+                self.forget(before, Pending::Boot);
                 Err(e)
             }
         }
@@ -146,11 +173,15 @@ impl Storage for Devices {
         reach: &Reach,
     ) -> Result<Tables, Halt> {
         let Some(store) = &mut self.store else {
-            unreachable!()
+            return Err(reject(disks));
         };
+        let before = numbers_of(store);
         match load_rows(store, disks, place, schema, reach) {
             Ok(rows) => Ok(rows),
-            Err(e) => Err(e),
+            Err(e) => {
+                self.forget(before, Pending::Nothing);
+                Err(e)
+            }
         }
     }
 
@@ -163,13 +194,13 @@ impl Storage for Devices {
         made: &Move,
     ) -> Result<u64, Halt> {
         let Some(store) = &mut self.store else {
-            unreachable!()
+            return Err(reject(disks));
         };
-        let before = store.decisions();
+        let before = numbers_of(store);
         match decide_unit(self.alloc, store, disks, place, unit, changes, made) {
             Ok(number) => Ok(number),
             Err(e) => {
-                self.pending = pending_unit(self.alloc, e, before, changes);
+                self.forget(before, Pending::Decision);
                 Err(e)
             }
         }
@@ -182,12 +213,13 @@ impl Storage for Devices {
         text: &[u8],
     ) -> Result<u64, Halt> {
         let Some(store) = &mut self.store else {
-            unreachable!()
+            return Err(reject(disks));
         };
+        let before = numbers_of(store);
         match decide_definition(store, disks, place, text) {
             Ok(number) => Ok(number),
             Err(e) => {
-                self.pending = Pending::Definition;
+                self.forget(before, Pending::Decision);
                 Err(e)
             }
         }
@@ -208,7 +240,13 @@ impl Storage for Devices {
         self.over_net
     }
 
+    fn reject<D: Disks>(&self, disks: &mut D) -> Halt {
+        reject(disks)
+    }
+
     fn restart<D: Disks>(&mut self, disks: &mut D) {
+        self.numbers = self.known();
+        self.store = None;
         disks.restart();
         self.started = true;
     }

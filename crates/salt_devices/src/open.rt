@@ -2,23 +2,23 @@
 
 ghost use Rattle.salt_bytes.specs.Generations.{BothBlank};
 ghost use Rattle.salt_commit.specs.Messages.{messages_of};
-ghost use Rattle.salt_commit.specs.Openings.{HasRoom, StorePassesLimit};
-ghost use Rattle.salt_stands.specs.LogDevices.{IsStoreLog};
+ghost use Rattle.salt_commit.specs.Openings.{LeavesStanding};
+ghost use Rattle.salt_commit.specs.Stores.{IsStoreDevice};
 ghost use Rattle.salt_decisions.specs.Kept.{IsKept};
 ghost use Rattle.salt_devices.specs.Holding.{setup_in};
 ghost use Rattle.salt_devices.specs.Leaving.{CanOpen, StandsForSomething, StandsFor, StandsStill};
-ghost use Rattle.salt_devices.specs.Opened.{HoldsFound, IsNewest, IsNewestOf, IsNewestWhere, IsOpen, IsUnread, OpensAs};
+ghost use Rattle.salt_devices.specs.Filling.{FillsIn};
+ghost use Rattle.salt_devices.specs.Opened.{IsNewest, IsNewestOf, IsNewestWhere, IsUnread, OpensAs};
 ghost use Rattle.salt_devices.specs.Refusing.{RefusedAs};
 ghost use Rattle.salt_devices.specs.declared.pending.Pending.TheVariants.{Opening};
 ghost use Rattle.salt_disk.specs.Disks.{HasCause, IsImage, IsSettled, KeepsAll, KeepsBut};
-ghost use Rattle.salt_model.specs.Kept.{Definition};
-ghost use Rattle.salt_stands.specs.Coordinator.{Coordinator, coordinator_pair};
+ghost use Rattle.salt_parts.specs.Openings.{HasRoom};
+ghost use Rattle.salt_stands.specs.Coordinator.{coordinator_pair};
 ghost use Rattle.salt_stands.specs.CoordinatorLog.{CoordinatorLog};
-ghost use Rattle.salt_stands.specs.Pieces.{PartView};
 ghost use Rattle.salt_stands.specs.Stands.{are_spent, logs_of};
 ghost use Rattle.salt_storage.specs.Answers.{IsLater, IsRefusal, WritesNothing, open_disk_err, open_disk_err_of};
 ghost use Rattle.salt_storage.specs.Staying.{StaysWithin};
-ghost use Rattle.salt_storage.specs.Writing.{FindsNoMore};
+ghost use Rattle.salt_storage.specs.Writing.{FindsNoMore, OfOpening};
 ghost use Rattle.salt_storage.specs.declared.halt.Halt.TheVariants.{Memory, Stopped};
 ghost use Rattle.salt_storage.specs.OpenErr.TheVariants.{NotSalt};
 ghost use Rattle.salt_storage.specs.OpenErr.{OpenErr};
@@ -98,47 +98,27 @@ fn schema_of_log<D: Disks>(alloc: Global, disks: &mut D) -> Result<Schema, OpenE
     }
 }
 
-/// What was opened with a store, where its log stands for something in the newest format and its rows fit; else nothing, which
-/// only disks can bring about that don't tell their bytes.
-fn fitting<D: Disks, F: Fn(PlaceKind, &Key, u32) -> u32>(
-    alloc: Global,
-    disks: &D,
-    place: &Placement<F>,
-    store: &Store,
-    kept: &Kept,
-) -> Result<Option<Found>, AllocError>
-    requires callable { TakesEachKey (F.pre place.now.place) }
-    requires answers { GivesPlaceOf (F.post place.now.place) }
-    ensures some { IfOk result (λ o. IfSome o (λ found. (shape : Shape) (c : Coordinator Definition) (v : ℕ → PartView) → IsOpen (D.view disks.now) shape store.now kept.now c v
-        → HoldsFound (D.view disks.now) shape store.now found c v)) }
-    ensures numbers { IfOk result (λ o. IfSome o (λ found. (found.boot ≡ kept.now.boot) × (found.decisions ≡ kept.now.decisions))) }
-    ensures none { result ≡ Ok None → (shape : Shape) (c : Coordinator Definition) (v : ℕ → PartView) → IsOpen (D.view disks.now) shape store.now kept.now c v
-        → IsTrue (D.view disks.now).told → kept.now.format ≡ 3 → ⊥ }
+/// What was found, of a log that keeps this and what it stands for.
+fn found_of(kept: &Kept, recovered: Recovered) -> Found
+    ensures { result ≡ record { schema = recovered.schema; catalogue = recovered.catalogue; conts = recovered.conts; boot = kept.now.boot; decisions = kept.now.decisions } }
 {
-    definitions_are_read();
-    spelled_tables_have_keys();
-    let Some(found) = newest(alloc, kept)? else {
-        return Ok(None);
-    };
-    if !store.rows_fit(disks, place, &found.schema)? {
-        return Ok(None);
-    }
     let Recovered {
         schema,
         catalogue,
         conts,
-    } = found;
-    Ok(Some(Found {
+    } = recovered;
+    Found {
         schema,
         catalogue,
         conts,
         boot: kept.boot,
         decisions: kept.decisions,
-    }))
+    }
 }
 
-/// Opens devices on which nothing is pending, in this shape; blank ones are made new ones. What an error leaves of them refuses
-/// and finds nothing that they did not before, and stands for what they stood for.
+/// Opens devices on which nothing is pending, in this shape; blank ones are made new ones. All is read and judged before anything is
+/// written; then an opening may be full or stopped on others, too. What an error leaves of them refuses and finds nothing that they
+/// did not before, and stands for what they stood for.
 pub fn open_devices<D: Disks, F: Fn(PlaceKind, &Key, u32) -> u32>(
     alloc: Global,
     disks: &mut D,
@@ -155,7 +135,8 @@ pub fn open_devices<D: Disks, F: Fn(PlaceKind, &Key, u32) -> u32>(
     ensures numbers { IfOk result (λ made. are_spent made.1.boot made.1.decisions ≡ false) }
     ensures err { IsTrue (D.view disks.old).told → IfErr result (RefusedAs shape (D.view disks.old).bytes) }
 
-    ensures kept { IsTrue (D.view disks.old).told → ¬ (coordinator_pair (logs_of (D.view disks.old).bytes) ≡ BothBlank) → KeepsAll (D.view disks.old) (D.view disks.new) (open_disk_err result) }
+    ensures leaves { IsTrue (D.view disks.old).told → ¬ (coordinator_pair (logs_of (D.view disks.old).bytes) ≡ BothBlank) → LeavesStanding (D.view disks.old) (D.view disks.new) shape (open_disk_err result) }
+    ensures refused { IsTrue (D.view disks.old).told → IfErr result (λ e. IsRefusal e → KeepsAll (D.view disks.old) (D.view disks.new) (open_disk_err result)) }
     ensures still { OnErr result (IsTrue (D.view disks.old).told → (image : ℕ → List ℕ) → IsImage (D.view disks.new) image
         → FindsNoMore (RefusedAs shape (D.view disks.old).bytes) (StandsFor shape (D.view disks.old).bytes) (RefusedAs shape image) (StandsFor shape image)) }
     ensures rests { OnErr result (IsTrue (D.view disks.old).told → (image : ℕ → List ℕ) → IsImage (D.view disks.new) image → StandsStill shape (D.view disks.old).bytes image) }
@@ -165,15 +146,16 @@ pub fn open_devices<D: Disks, F: Fn(PlaceKind, &Key, u32) -> u32>(
     ensures unwritten { (refusal : OpenErr) → IsRefusal refusal → RefusedAs shape (D.view disks.old).bytes refusal → IsTrue (D.view disks.old).told
         → WritesNothing (D.view disks.old) (D.view disks.new) (open_disk_err result) }
 
-    ensures blank { (dev : ℕ) → result ≡ Err (OpenErr.Full dev) → IsTrue (D.view disks.old).told → coordinator_pair (logs_of (D.view disks.old).bytes) ≡ BothBlank }
-    ensures full { (dev : ℕ) → result ≡ Err (OpenErr.Full dev) → IsTrue (D.view disks.old).told → StorePassesLimit (D.view disks.new) shape dev }
-    ensures others { KeepsBut (IsStoreLog shape.parts) (D.view disks.old) (D.view disks.new) (open_disk_err result) }
+    ensures full { (dev : ℕ) → result ≡ Err (OpenErr.Full dev) → FillsIn (D.view disks.new) shape OfOpening dev }
+    ensures others { KeepsBut (IsStoreDevice shape.parts) (D.view disks.old) (D.view disks.new) (open_disk_err result) }
     ensures cause { HasCause (D.view disks.old) (D.view disks.new) (open_disk_err result) }
 {
+    definitions_are_read();
+    spelled_tables_have_keys();
     let schema = schema_of_log(alloc, disks)?;
     match open_store(alloc, disks, place, shape, &schema) {
-        Ok((store, kept)) => match fitting(alloc, &*disks, place, &store, &kept) {
-            Ok(Some(found)) => Ok((store, found)),
+        Ok((store, kept)) => match newest(alloc, &kept) {
+            Ok(Some(recovered)) => Ok((store, found_of(&kept, recovered))),
             Ok(None) => Err(fault(disks)),
             Err(e) => Err(e.into()),
         },
@@ -200,13 +182,13 @@ pub fn open_first<D: Disks, F: Fn(PlaceKind, &Key, u32) -> u32>(
     disks: &mut D,
     place: &Placement<F>,
     shape: Shape,
-    pending: &Pending,
+    pending: Pending,
 ) -> Result<(Store, Found), OpenErr>
     requires callable { TakesEachKey (F.pre place.now.place) }
     requires answers { GivesPlaceOf (F.post place.now.place) }
     requires parts { IsParts shape.parts }
     requires room { HasRoom (D.view disks.old) shape.parts }
-    requires opens { CanOpen pending.now true (D.view disks.old) shape }
+    requires opens { CanOpen pending true (D.view disks.old) shape }
 
     ensures ok { IfOk result (λ made. OpensAs (D.view disks.old) (D.view disks.new) shape made.0 made.1) }
     ensures plain { IfOk result (λ made. messages_of made.0 ≡ None) }
@@ -216,10 +198,10 @@ pub fn open_first<D: Disks, F: Fn(PlaceKind, &Key, u32) -> u32>(
         → FindsNoMore (RefusedAs shape (D.view disks.old).bytes) (StandsFor shape (D.view disks.old).bytes) (RefusedAs shape image) (StandsFor shape image)) }
     ensures rests { OnErr result (IsTrue (D.view disks.old).told → (image : ℕ → List ℕ) → IsImage (D.view disks.new) image → StandsStill shape (D.view disks.old).bytes image) }
     ensures stopped { result ≡ Err OpenErr.Stopped → IsTrue (D.view disks.old).told → (image : ℕ → List ℕ) → IsImage (D.view disks.new) image → StandsForSomething shape image }
-    ensures later { pending.now ≡ Opening → IfErr result IsLater }
+    ensures later { pending ≡ Opening → IfErr result IsLater }
     ensures unwritten { (refusal : OpenErr) → IsRefusal refusal → RefusedAs shape (D.view disks.old).bytes refusal → IsTrue (D.view disks.old).told
         → WritesNothing (D.view disks.old) (D.view disks.new) (open_disk_err result) }
-    ensures full { (dev : ℕ) → result ≡ Err (OpenErr.Full dev) → IsTrue (D.view disks.old).told → StorePassesLimit (D.view disks.new) shape dev }
+    ensures full { (dev : ℕ) → result ≡ Err (OpenErr.Full dev) → FillsIn (D.view disks.new) shape OfOpening dev }
     ensures within { (over : Bool) → StaysWithin (setup_in shape over) (setup_in shape over) (D.view disks.old) (D.view disks.new) }
     ensures cause { HasCause (D.view disks.old) (D.view disks.new) (open_disk_err result) }
 {

@@ -3,7 +3,7 @@ use Rattle.salt_model.specs.Kept.{Kept}
 use Rattle.salt_stands.specs.Stands.{are_spent}
 use Rattle.salt_storage.specs.Storing.{IsFound, booted}
 use Rattle.salt_storage.specs.declared.found.Found.{Found}
-use Rattle.std.proofs.Common.{ap, arith, false, sym, ◌+◌, ◌≡◌, ◌≤◌, ◌∙◌}
+use Rattle.std.proofs.Common.{IsTrue, ap, arith, false, sym, ◌+◌, ◌≡◌, ◌≤◌, ◌∙◌}
 
 -- of what was found, and of that with a boot more
 unspent : (x : Found) (k : Kept) → IsFound x k → are_spent x.boot x.decisions ≡ false → are_spent k.boot k.decisions ≡ false
@@ -15,18 +15,24 @@ new_unspent x k f boot decisions =
     let none : k.decisions ≡ 0 = omega (arith, f.decisions, decisions) in
     ap (λ n. are_spent n k.decisions) first ∙ ap (are_spent 1) none
 
-pub boot-requires : goal.boot-requires
-boot-requires g c =
-    let h = c.in_ok-found.ensures.holds in
-    (h.0, h.1, unspent c.in_ok-found.found h.0 h.2 c.in_ok-found.ensures.numbers)
+pub boot-requires-clause-held : goal.boot-requires-clause-held
+boot-requires-clause-held g c now =
+    let h = c.in_ok-found.ensures.found in
+    (h.0, h.4 (sym c.in_ok-found.ensures.within.shape.told ∙ now), unspent c.in_ok-found.found h.0 h.1 c.in_ok-found.ensures.numbers)
 
-pub boot-requires-2 : goal.boot-requires-2
-boot-requires-2 g c =
-    let h = c.in_ok-found.ensures.holds in
-    (booted h.0, c.arm.ensures.holds (booted h.0) (c.in_ok-boot.ensures.holds h.0 h.1), new_unspent c.in_ok-found.found h.0 h.2 c.if-found-gt0.false c.if-found-gt0-2.false)
+pub boot-requires-2-clause-able : goal.boot-requires-2-clause-able
+boot-requires-2-clause-able g c = c.arm.ensures.able c.in_ok-boot.ensures.able
+
+pub boot-requires-2-clause-held : goal.boot-requires-2-clause-held
+boot-requires-2-clause-held g c now =
+    let h = c.in_ok-found.ensures.found in
+    let was : IsTrue (g.D.Disks.view c.args.disks.now).told = sym c.in_ok-found.ensures.within.shape.told ∙ sym c.in_ok-boot.ensures.within.shape.told ∙ sym c.arm.ensures.within.shape.told ∙ now in
+    (booted h.0, c.arm.ensures.holds (booted h.0) (c.in_ok-boot.ensures.holds h.0 (h.4 was)), new_unspent c.in_ok-found.found h.0 h.1 c.if-found-gt0.false c.if-found-gt0-2.false)
 
 pub reopen-requires-clause-left : goal.reopen-requires-clause-left
-reopen-requires-clause-left g c =
-    let h = c.in_ok-found.ensures.holds in
+reopen-requires-clause-left g c now =
+    let h = c.in_ok-found.ensures.found in
+    let was : IsTrue (g.D.Disks.view c.args.disks.now).told =
+    sym c.in_ok-found.ensures.within.shape.told ∙ sym c.in_ok-boot.ensures.within.shape.told ∙ sym c.arm.ensures.within.shape.told ∙ sym c.in-Err.ensures.within.shape.told ∙ sym c.restart.ensures.within.shape.told ∙ now in
     let k = booted h.0 in
-    (k, booted k, c.restart.ensures.leaves k (booted k) (c.in-Err.ensures.leaves k (c.arm.ensures.holds k (c.in_ok-boot.ensures.holds h.0 h.1))))
+    (k, booted k, c.restart.ensures.leaves k (booted k) (c.in-Err.ensures.leaves k (c.arm.ensures.holds k (c.in_ok-boot.ensures.holds h.0 (h.4 was)))))

@@ -1,56 +1,67 @@
-use Rattle.salt_decisions.proofs.Appended.{on_err}
-use Rattle.salt_devices.proofs.Booting.{boot_is, boot_new, not_spent}
-use Rattle.salt_devices.proofs.Entered.{boot_held, boot_leaves}
+use Rattle.salt_devices.proofs.Booting.{boot_counted, boot_is, boot_new, not_spent}
+use Rattle.salt_devices.proofs.Entered.{boot_held, boot_leaves, boot_stands}
 use Rattle.salt_devices.proofs.Filled.{boot_fills}
 use Rattle.salt_storage.proofs.Halted.{answer_is, full_is}
-use Rattle.salt_devices.proofs.Stores.{held_stands}
-use Rattle.salt_devices.proofs.Within.{entry_within}
+use Rattle.salt_devices.proofs.Stores.{standing_on}
+use Rattle.salt_devices.proofs.Either.{either}
+use Rattle.salt_devices.proofs.Within.{entry_within, kept_within}
 use Rattle.salt_devices.proofs.held.begin_boot.Goals as goal
 use Rattle.salt_commit.specs.Stores.{coordinator_device, coordinator_gate, last_boot}
 use Rattle.salt_bytes.specs.Coordinator.{Boots, spell_entry}
 use Rattle.salt_devices.proofs.Untouched.{all_bytes, boot_stays}
 use Rattle.salt_disk.specs.Disks.{FullExactly, KeepsOthers}
-use Rattle.std.proofs.Common.{Err, None, Some, ap, arith, length, subst, sym, ◌+◌, ◌<◌, ◌∙◌}
+use Rattle.salt_storage.specs.Answers.{disk_err_of}
+use Rattle.std.proofs.Common.{Err, None, Some, ap, arith, length, subst, sym, ◌+◌, ◌-◌, ◌<◌, ◌^◌, ◌∙◌}
 use Rattle.std.proofs.lemmas.Result.{err_from_is_err_and}
 
+pub reject-requires : goal.reject-requires
+reject-requires g c = c.is_spent.ensures.mute c.if-is_spent.true
+
+pub returns-then-is_spent-clause-leaves : goal.returns-then-is_spent-clause-leaves
+returns-then-is_spent-clause-leaves g c shape k h = absurd (cc (h.told, c.is_spent.ensures.mute c.if-is_spent.true))
+
+pub returns-then-is_spent-clause-within : goal.returns-then-is_spent-clause-within
+returns-then-is_spent-clause-within g c setup s = kept_within (g.D.Disks.view c.args.disks.now) (g.D.Disks.view c.reject.new.disks) setup (Some (disk_err_of c.reject.result)) c.reject.ensures.kept
+
 pub boot-requires-clause-stands : goal.boot-requires-clause-stands
-boot-requires-clause-stands g c =
-    let r = c.requires.held in
-    held_stands (g.D.Disks.view c.args.disks.now) r.0 c.args.store.now r.1 r.2
+boot-requires-clause-stands g c = let s = c.requires.stands in standing_on (g.D.Disks.view c.args.disks.now) s.0 c.args.store.now s.1
 
 pub boot-requires-clause-below : goal.boot-requires-clause-below
 boot-requires-clause-below g c =
-    let r = c.requires.held in
-    let d = g.D.Disks.view c.args.disks.now in
-    let is = boot_is d d r.0 c.args.store.now c.args.store.now r.1 r.2 (Rattle.salt_disk.proofs.CallAfterCall.same_shape d) in
+    either (last_boot c.args.store.now < 2 ^ 64 - 1) (g.D.Disks.view c.args.disks.now).told
+    (λ told.
+    let r = c.requires.held told in
+    let is = boot_is (g.D.Disks.view c.args.disks.now) r.0 c.args.store.now r.1 r.2 in
     let low = not_spent r.1.boot r.1.decisions r.3 in
-    omega (arith, is, low)
+    omega (arith, is, low))
+    (λ mute. c.is_spent.ensures.below c.if-is_spent.false mute)
 
-pub returns-clause-number : goal.returns-clause-number
-returns-clause-number g c shape k h =
-    let d = g.D.Disks.view c.args.disks.now in
-    c.in_ok-boot.ensures.number ∙ ap (λ n. n + 1) (boot_is d d shape c.args.store.now c.args.store.now k h (Rattle.salt_disk.proofs.CallAfterCall.same_shape d))
+pub returns-clause-stands : goal.returns-clause-stands
+returns-clause-stands g c shape s =
+    let made = c.in_ok-boot.ensures.ok s.which s.c s.v s.is in
+    boot_stands (g.D.Disks.view c.args.disks.now) (g.D.Disks.view c.boot.new.disks) shape c.args.store.now c.boot.new.self s made.0 made.1
+
+pub returns-clause-boot : goal.returns-clause-boot
+returns-clause-boot g c =
+    let s = c.requires.stands.1 in
+    let made = c.in_ok-boot.ensures.ok s.which s.c s.v s.is in
+    boot_counted (g.D.Disks.view c.args.disks.now) (g.D.Disks.view c.boot.new.disks) c.args.store.now c.boot.new.self s.which s.c s.v s.is c.in_ok-boot.ensures.others.shape made.0 made.1
 
 pub returns-clause-holds : goal.returns-clause-holds
 returns-clause-holds g c shape k h =
-    boot_held (g.D.Disks.view c.args.disks.now) (g.D.Disks.view c.boot.new.disks) shape c.args.store.now k h c.in_ok-boot.ensures.others.shape c.boot.new.self (c.in_ok-boot.ensures.ok h.which h.c h.v h.is)
+    let made = c.in_ok-boot.ensures.ok h.which h.c h.v h.is in
+    boot_held (g.D.Disks.view c.args.disks.now) (g.D.Disks.view c.boot.new.disks) shape c.args.store.now k h c.boot.new.self (c.in_ok-boot.ensures.others.shape.told ∙ h.told) made.0 made.1
 
 pub returns-clause-is_new : goal.returns-clause-is_new
 returns-clause-is_new g c u at =
-    let r = c.requires.held in
-    let h = r.2 in
-    boot_new (g.D.Disks.view c.args.disks.now) (g.D.Disks.view c.boot.new.disks) r.0 c.args.store.now c.boot.new.self r.1 h c.in_ok-boot.ensures.others.shape (c.in_ok-boot.ensures.ok h.which h.c h.v h.is) u (at ∙ c.in_ok-boot.ensures.number)
-
-pub returns-clause-leaves : goal.returns-clause-leaves
-returns-clause-leaves g c shape k h =
-    boot_leaves (g.D.Disks.view c.args.disks.now) (g.D.Disks.view c.boot.new.disks) shape c.args.store.now k h c.in_ok-boot.ensures.others.shape None c.in_ok-boot.ensures.others (λ told. c.in_ok-boot.ensures.images h.which h.c h.v h.is told)
+    let s = c.requires.stands.1 in
+    let made = c.in_ok-boot.ensures.ok s.which s.c s.v s.is in
+    boot_new (g.D.Disks.view c.args.disks.now) (g.D.Disks.view c.boot.new.disks) c.args.store.now c.boot.new.self s.which s.c s.v s.is c.in_ok-boot.ensures.others.shape made.0 made.1 u (at ∙ c.in_ok-boot.ensures.number)
 
 pub returns-in_err-boot-clause-leaves : goal.returns-in_err-boot-clause-leaves
-returns-in_err-boot-clause-leaves g c shape k h =
-    boot_leaves (g.D.Disks.view c.args.disks.now) (g.D.Disks.view c.boot.new.disks) shape c.args.store.now k h c.in_err-boot.ensures.others.shape (Some c.in_err-boot.field-0.0) c.in_err-boot.ensures.others (λ told. c.in_err-boot.ensures.images h.which h.c h.v h.is told)
-
-pub returns-in_err-boot-clause-same : goal.returns-in_err-boot-clause-same
-returns-in_err-boot-clause-same g c = on_err _ c.in_err-boot.ensures.same
+returns-in_err-boot-clause-leaves g c =
+    let p = err_from_is_err_and c.from_residual.result c.from_residual.ensures.1 in
+    rw p.1 (λ shape k h. boot_leaves (g.D.Disks.view c.args.disks.now) (g.D.Disks.view c.boot.new.disks) shape c.args.store.now k h (c.in_err-boot.ensures.images h.which h.c h.v h.is h.told))
 
 pub returns-in_err-boot-clause-full : goal.returns-in_err-boot-clause-full
 returns-in_err-boot-clause-full g c dev is shape k h =
@@ -71,7 +82,7 @@ returns-in_err-boot-clause-cause g c =
     rw (answer_is c.from_residual.result p.0 c.in_err-boot.field-0.0 p.1 p.2) c.in_err-boot.ensures.cause
 
 pub returns-clause-within : goal.returns-clause-within
-returns-clause-within g c setup k h = entry_within (g.D.Disks.view c.args.disks.now) (g.D.Disks.view c.boot.new.disks) setup c.args.store.now k h None c.in_ok-boot.ensures.others
+returns-clause-within g c setup s = entry_within (g.D.Disks.view c.args.disks.now) (g.D.Disks.view c.boot.new.disks) setup c.args.store.now s None c.in_ok-boot.ensures.others
 
 pub returns-in_err-boot-clause-within : goal.returns-in_err-boot-clause-within
-returns-in_err-boot-clause-within g c setup k h = entry_within (g.D.Disks.view c.args.disks.now) (g.D.Disks.view c.boot.new.disks) setup c.args.store.now k h (Some c.in_err-boot.field-0.0) c.in_err-boot.ensures.others
+returns-in_err-boot-clause-within g c setup s = entry_within (g.D.Disks.view c.args.disks.now) (g.D.Disks.view c.boot.new.disks) setup c.args.store.now s (Some c.in_err-boot.field-0.0) c.in_err-boot.ensures.others

@@ -12,22 +12,22 @@ fault-requires g c =
     let e = g.D.Disks.view c.open_devices.new.disks in
     not_told e.told (λ now.
     let told : IsTrue d.told = sym c.in-Err.ensures.others.shape.told ∙ now in
-    c.refuses.ensures.refused c.if-refuses.true (not_refused d c.args.shape c.args.pending.now c.in-Err.e c.requires.opens (c.is_opening.ensures.0 c.if-not-is_opening.false) told (c.in-Err.ensures.err told)))
+    c.refuses.ensures.refused c.if-refuses.true (not_refused d c.args.shape c.args.pending c.in-Err.e c.requires.opens (c.is_opening.ensures.0 c.if-not-is_opening.false) told (c.in-Err.ensures.err told)))
 
 pub returns-then-refuses-clause-still : goal.returns-then-refuses-clause-still
 returns-then-refuses-clause-still g c told image left =
     let d = g.D.Disks.view c.args.disks.now in
-    absurd (c.refuses.ensures.refused c.if-refuses.true (not_refused d c.args.shape c.args.pending.now c.in-Err.e c.requires.opens (c.is_opening.ensures.0 c.if-not-is_opening.false) told (c.in-Err.ensures.err told)))
+    absurd (c.refuses.ensures.refused c.if-refuses.true (not_refused d c.args.shape c.args.pending c.in-Err.e c.requires.opens (c.is_opening.ensures.0 c.if-not-is_opening.false) told (c.in-Err.ensures.err told)))
 
 pub returns-then-refuses-clause-rests : goal.returns-then-refuses-clause-rests
 returns-then-refuses-clause-rests g c told image left =
     let d = g.D.Disks.view c.args.disks.now in
-    absurd (c.refuses.ensures.refused c.if-refuses.true (not_refused d c.args.shape c.args.pending.now c.in-Err.e c.requires.opens (c.is_opening.ensures.0 c.if-not-is_opening.false) told (c.in-Err.ensures.err told)))
+    absurd (c.refuses.ensures.refused c.if-refuses.true (not_refused d c.args.shape c.args.pending c.in-Err.e c.requires.opens (c.is_opening.ensures.0 c.if-not-is_opening.false) told (c.in-Err.ensures.err told)))
 
 pub returns-then-refuses-clause-unwritten : goal.returns-then-refuses-clause-unwritten
 returns-then-refuses-clause-unwritten g c refusal is refused told =
     let d = g.D.Disks.view c.args.disks.now in
-    absurd (c.refuses.ensures.refused c.if-refuses.true (not_refused d c.args.shape c.args.pending.now c.in-Err.e c.requires.opens (c.is_opening.ensures.0 c.if-not-is_opening.false) told (c.in-Err.ensures.err told)))
+    absurd (c.refuses.ensures.refused c.if-refuses.true (not_refused d c.args.shape c.args.pending c.in-Err.e c.requires.opens (c.is_opening.ensures.0 c.if-not-is_opening.false) told (c.in-Err.ensures.err told)))
 
 pub returns-in-Ok-clause-within : goal.returns-in-Ok-clause-within
 returns-in-Ok-clause-within g c over = store_within (g.D.Disks.view c.args.disks.now) (g.D.Disks.view c.open_devices.new.disks) (setup_in c.args.shape over) None c.in-Ok.ensures.others

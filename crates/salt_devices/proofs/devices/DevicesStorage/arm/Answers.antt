@@ -1,7 +1,10 @@
-use Rattle.salt_devices.proofs.Standing.{armed, stays_new}
+use Rattle.salt_devices.proofs.Standing.{armed, callable_still, stays_new}
 use Rattle.salt_devices.proofs.Within.{unchanged_within}
 use Rattle.salt_devices.proofs.devices.DevicesStorage.arm.Goals as goal
 use Rattle.salt_devices.specs.Holding.{setup_in}
+
+pub returns-clause-able : goal.returns-clause-able
+returns-clause-able g c h = callable_still _ _ _ _ (g.D.Disks.view c.args.disks.now) (g.D.Disks.view c.arm.new.self) c.arm.ensures.kept h
 
 pub returns-clause-holds : goal.returns-clause-holds
 returns-clause-holds g c k h = armed _ _ _ _ (g.D.Disks.view c.args.disks.now) (g.D.Disks.view c.arm.new.self) c.arm.ensures.kept k h

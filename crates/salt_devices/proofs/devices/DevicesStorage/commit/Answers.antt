@@ -1,58 +1,105 @@
+use Rattle.salt_commit.specs.Messages.{net_of}
+use Rattle.salt_commit.specs.Stores.{last_boot}
+use Rattle.salt_devices.proofs.Booting.{decision_is}
 use Rattle.salt_devices.proofs.Netted.{net_decided, new_there, sent_more}
-use Rattle.salt_devices.proofs.Standing.{goes_on, the_net, the_store, unit_breaks_off}
+use Rattle.salt_devices.proofs.Standing.{breaks_off, callable_none, callable_on, callable_still, goes_on, none_held, the_going, the_store}
+use Rattle.salt_devices.proofs.Stores.{standing_shape}
+use Rattle.salt_devices.proofs.Within.{unchanged_within}
 use Rattle.salt_devices.proofs.devices.DevicesStorage.commit.Goals as goal
-use Rattle.salt_devices.specs.Holding.{setup_in}
+use Rattle.salt_devices.specs.Holding.{NetFits, setup_in}
+use Rattle.salt_devices.specs.declared.pending.Pending.TheVariants.{Decision}
 use Rattle.salt_net.specs.Turns.{commits}
+use Rattle.salt_place.specs.declared.placement.Shape.{Shape}
 use Rattle.salt_stands.specs.Placed.{nodes_in}
+use Rattle.salt_gatelog.proofs.Entries.{not_told}
 use Rattle.salt_storage.specs.Storing.{decided}
-use Rattle.std.proofs.Common.{refl}
+use Rattle.std.proofs.Common.{ap, refl, subst, sym, ◌+◌, ◌∙◌}
+use Rattle.std.specs.Prelude.{option_map}
 
-pub decide_unit-requires-clause-held : goal.decide_unit-requires-clause-held
-decide_unit-requires-clause-held g c =
-    let r = c.requires.may in
+pub decide_unit-requires-clause-stands : goal.decide_unit-requires-clause-stands
+decide_unit-requires-clause-stands g c = (c.args.self.now.shape, (the_going _ _ _ _ _ c.in-Some.store c.in-Some.is c.requires.able).stands)
+
+pub decide_unit-requires-clause-may : goal.decide_unit-requires-clause-may
+decide_unit-requires-clause-may g c told =
+    let r = c.requires.may told in
     (c.args.self.now.shape, r.0, the_store _ _ _ _ _ c.in-Some.store c.in-Some.is r.0 r.1, r.2)
 
-pub returns-in-Err-clause-leaves : goal.returns-in-Err-clause-leaves
-returns-in-Err-clause-leaves g c k conts h may =
-    let held = the_store _ _ _ _ _ c.in-Some.store c.in-Some.is k h in
-    unit_breaks_off _ _ _ _ _ c.in-Some.store c.in-Some.is k h (g.D.Disks.view c.decide_unit.new.disks) c.decide_unit.new.store _ c.decisions-before.result c.args.changes.now conts c.in-Err.e (c.in-Err.ensures.within (setup_in c.args.self.now.shape c.args.self.now.over_net) k held).shape
-    (c.in-Err.ensures.leaves c.args.self.now.shape k conts held may) c.pending_unit.ensures (λ not. c.in-Err.ensures.stay c.in-Err.e refl not) c.decisions-before.ensures c.in-Err.ensures.boot may.sound
+pub decide_unit-requires-clause-rests : goal.decide_unit-requires-clause-rests
+decide_unit-requires-clause-rests g c = (the_going _ _ _ _ _ c.in-Some.store c.in-Some.is c.requires.able).net.rests
 
-pub returns-in-Err-clause-full : goal.returns-in-Err-clause-full
-returns-in-Err-clause-full g c dev is =
-    let r = c.requires.may in
-    c.in-Err.ensures.full dev is c.args.self.now.shape r.0 (the_store _ _ _ _ _ c.in-Some.store c.in-Some.is r.0 r.1)
+pub decide_unit-requires-clause-new : goal.decide_unit-requires-clause-new
+decide_unit-requires-clause-new g c told = (c.requires.new told).0 told
 
-pub returns-in-Ok-clause-within : goal.returns-in-Ok-clause-within
-returns-in-Ok-clause-within g c = let r = c.requires.may in c.in-Ok.ensures.within (setup_in c.args.self.now.shape c.args.self.now.over_net) r.0 (the_store _ _ _ _ _ c.in-Some.store c.in-Some.is r.0 r.1)
+pub decide_unit-requires-clause-new_in : goal.decide_unit-requires-clause-new_in
+decide_unit-requires-clause-new_in g c told = new_there c.args.self.now.store c.in-Some.store c.args.unit c.in-Some.is (c.requires.new told).1
 
-pub returns-in-Err-clause-within : goal.returns-in-Err-clause-within
-returns-in-Err-clause-within g c = let r = c.requires.may in c.in-Err.ensures.within (setup_in c.args.self.now.shape c.args.self.now.over_net) r.0 (the_store _ _ _ _ _ c.in-Some.store c.in-Some.is r.0 r.1)
+pub returns-in-Ok-clause-able : goal.returns-in-Ok-clause-able
+returns-in-Ok-clause-able g c =
+    let going = the_going _ _ _ _ _ c.in-Some.store c.in-Some.is c.requires.able in
+    callable_on _ _ _ _ _ c.in-Some.store c.in-Some.is (g.D.Disks.view c.decide_unit.new.disks) c.decide_unit.new.store (c.in-Ok.ensures.within (setup_in c.args.self.now.shape c.args.self.now.over_net) going.stands).shape c.requires.able
+    (c.in-Ok.ensures.stands c.args.self.now.shape going.stands)
+    (subst (λ n. NetFits c.decide_unit.new.store n) (sym c.in-Ok.ensures.boot) (net_decided c.in-Some.store c.decide_unit.new.store (last_boot c.in-Some.store) c.args.unit c.in-Ok.ensures.begun going.net c.in-Ok.ensures.rests c.in-Ok.ensures.others_new))
+
+pub returns-in-Ok-clause-number : goal.returns-in-Ok-clause-number
+returns-in-Ok-clause-number g c k h =
+    c.in-Ok.ensures.number ∙ ap (λ n. n + 1) (decision_is (g.D.Disks.view c.args.disks.now) c.args.self.now.shape c.in-Some.store k (the_store _ _ _ _ _ c.in-Some.store c.in-Some.is k h))
 
 pub returns-in-Ok-clause-holds : goal.returns-in-Ok-clause-holds
 returns-in-Ok-clause-holds g c k conts h may =
-    let x = c.args.self.now in
-    let held = the_store _ _ _ _ _ c.in-Some.store c.in-Some.is k h in
-    goes_on _ _ _ _ _ c.in-Some.store c.in-Some.is k h (g.D.Disks.view c.decide_unit.new.disks) c.decide_unit.new.store (decided k c.args.changes.now conts) (c.in-Ok.ensures.within (setup_in x.shape x.over_net) k held).shape
-    (c.in-Ok.ensures.holds x.shape k conts held may)
-    (net_decided c.in-Some.store c.decide_unit.new.store k.boot c.args.unit may.boot (the_net _ _ _ _ _ c.in-Some.store c.in-Some.is k h) c.in-Ok.ensures.rests c.in-Ok.ensures.others_new)
-
-pub decide_unit-requires-clause-rests : goal.decide_unit-requires-clause-rests
-decide_unit-requires-clause-rests g c = let r = c.requires.may in (the_net _ _ _ _ _ c.in-Some.store c.in-Some.is r.0 r.1).rests
-
-pub decide_unit-requires-clause-new : goal.decide_unit-requires-clause-new
-decide_unit-requires-clause-new g c = c.requires.new.0
-
-pub decide_unit-requires-clause-new_in : goal.decide_unit-requires-clause-new_in
-decide_unit-requires-clause-new_in g c = new_there c.args.self.now.store c.in-Some.store c.args.unit c.in-Some.is c.requires.new.1
+    let going = the_going _ _ _ _ _ c.in-Some.store c.in-Some.is c.requires.able in
+    goes_on _ _ _ _ _ c.in-Some.store c.in-Some.is k h (g.D.Disks.view c.decide_unit.new.disks) c.decide_unit.new.store (decided k c.args.changes.now conts) (c.in-Ok.ensures.within (setup_in c.args.self.now.shape c.args.self.now.over_net) going.stands).shape
+    (c.in-Ok.ensures.holds c.args.self.now.shape k conts (the_store _ _ _ _ _ c.in-Some.store c.in-Some.is k h) may)
 
 pub returns-in-Ok-clause-is_new : goal.returns-in-Ok-clause-is_new
 returns-in-Ok-clause-is_new g c u other new =
     (c.in-Ok.ensures.is_new u other new.0, c.in-Ok.ensures.others_new u other (new_there c.args.self.now.store c.in-Some.store u c.in-Some.is new.1))
 
+pub returns-in-Err-clause-able : goal.returns-in-Err-clause-able
+returns-in-Err-clause-able g c =
+    let going = the_going _ _ _ _ _ c.in-Some.store c.in-Some.is c.requires.able in
+    rw c.forget.ensures (callable_none _ _ _ _ _ c.in-Some.store c.in-Some.is (g.D.Disks.view c.decide_unit.new.disks) Decision (c.in-Err.ensures.within (setup_in c.args.self.now.shape c.args.self.now.over_net) going.stands).shape c.requires.able (λ is. absurd (cc is)))
+
+pub returns-in-Err-clause-leaves : goal.returns-in-Err-clause-leaves
+returns-in-Err-clause-leaves g c k conts h may =
+    let going = the_going _ _ _ _ _ c.in-Some.store c.in-Some.is c.requires.able in
+    rw c.forget.ensures (breaks_off _ _ _ _ _ c.in-Some.store c.in-Some.is k h (g.D.Disks.view c.decide_unit.new.disks) c.numbers_of-before.result Decision (decided k c.args.changes.now conts) (c.in-Err.ensures.within (setup_in c.args.self.now.shape c.args.self.now.over_net) going.stands).shape
+    (c.in-Err.ensures.leaves c.args.self.now.shape k conts (the_store _ _ _ _ _ c.in-Some.store c.in-Some.is k h) may) c.numbers_of-before.ensures (refl, refl))
+
+pub returns-in-Err-clause-full : goal.returns-in-Err-clause-full
+returns-in-Err-clause-full g c dev is =
+    let going = the_going _ _ _ _ _ c.in-Some.store c.in-Some.is c.requires.able in
+    let same = (c.in-Err.ensures.within (setup_in c.args.self.now.shape c.args.self.now.over_net) going.stands).shape in
+    rw c.forget.ensures (λ now.
+    let r = c.requires.may (sym same.told ∙ now) in
+    c.in-Err.ensures.full dev is c.args.self.now.shape r.0 (the_store _ _ _ _ _ c.in-Some.store c.in-Some.is r.0 r.1) now)
+
+pub returns-in-Ok-clause-within : goal.returns-in-Ok-clause-within
+returns-in-Ok-clause-within g c =
+    let going = the_going _ _ _ _ _ c.in-Some.store c.in-Some.is c.requires.able in
+    c.in-Ok.ensures.within (setup_in c.args.self.now.shape c.args.self.now.over_net) going.stands
+
+pub returns-in-Err-clause-within : goal.returns-in-Err-clause-within
+returns-in-Err-clause-within g c =
+    let going = the_going _ _ _ _ _ c.in-Some.store c.in-Some.is c.requires.able in
+    rw c.forget.ensures (c.in-Err.ensures.within (setup_in c.args.self.now.shape c.args.self.now.over_net) going.stands)
+
 pub returns-in-Ok-clause-net : goal.returns-in-Ok-clause-net
-returns-in-Ok-clause-net g c =
-    let r = c.requires.may in
-    let shape = c.args.self.now.shape in
-    let held = the_store _ _ _ _ _ c.in-Some.store c.in-Some.is r.0 r.1 in
-    sent_more c.args.self.now.store c.in-Some.store c.decide_unit.new.store (commits c.args.unit (nodes_in shape c.args.changes.now)) c.in-Some.is (c.in-Ok.ensures.net shape r.0 held)
+returns-in-Ok-clause-net g c k h =
+    let going = the_going _ _ _ _ _ c.in-Some.store c.in-Some.is c.requires.able in
+    let same = standing_shape (g.D.Disks.view c.args.disks.now) c.args.self.now.shape c.in-Some.store going.stands in
+    sent_more c.args.self.now.store c.in-Some.store c.decide_unit.new.store (commits c.args.unit (nodes_in c.args.self.now.shape c.args.changes.now)) c.in-Some.is
+    (c.in-Ok.ensures.net ∙ ap (λ (s : Shape). option_map (commits c.args.unit (nodes_in s c.args.changes.now)) (net_of c.in-Some.store)) same)
+
+-- WHERE NO STORE STANDS nothing is held, so the disks do not tell
+
+pub reject-requires : goal.reject-requires
+reject-requires g c = not_told (g.D.Disks.view c.args.disks.now).told (λ told. let r = c.requires.may told in none_held _ _ _ _ _ r.0 c.in_default.not-Some r.1)
+
+pub returns-in_default-clause-able : goal.returns-in_default-clause-able
+returns-in_default-clause-able g c = callable_still _ _ _ _ (g.D.Disks.view c.args.disks.now) (g.D.Disks.view c.reject.new.disks) c.reject.ensures.unchanged c.requires.able
+
+pub returns-in_default-clause-leaves : goal.returns-in_default-clause-leaves
+returns-in_default-clause-leaves g c k conts h may = absurd (none_held _ _ _ _ _ k c.in_default.not-Some h)
+
+pub returns-in_default-clause-within : goal.returns-in_default-clause-within
+returns-in_default-clause-within g c = unchanged_within (g.D.Disks.view c.args.disks.now) (g.D.Disks.view c.reject.new.disks) (setup_in c.args.self.now.shape c.args.self.now.over_net) c.reject.ensures.unchanged

@@ -1,40 +1,69 @@
+use Rattle.salt_commit.specs.Stores.{last_boot}
 use Rattle.salt_devices.proofs.Netted.{net_same, new_same, new_there, sent_same}
-use Rattle.salt_devices.proofs.Standing.{breaks_off, goes_on, still_counted, the_net, the_store}
-use Rattle.salt_devices.proofs.Within.{kept_within}
+use Rattle.salt_devices.proofs.Standing.{breaks_off, callable_none, callable_on, callable_still, goes_on, none_held, the_going, the_store}
+use Rattle.salt_devices.proofs.Within.{kept_within, unchanged_within}
 use Rattle.salt_devices.proofs.devices.DevicesStorage.load.Goals as goal
 use Rattle.salt_devices.specs.Holding.{setup_in}
-use Rattle.salt_devices.specs.Remembering.{AreNumbersOf, MayFollow, numbers_before}
-use Rattle.std.proofs.Common.{None, arith, refl, subst, sym}
+use Rattle.salt_devices.specs.declared.pending.Pending.TheVariants.{Nothing}
+use Rattle.salt_gatelog.proofs.Entries.{not_told}
+use Rattle.std.proofs.Common.{None, ap, arith, refl, ℕ, ◌≡◌}
 
-pub load_rows-requires-clause-held : goal.load_rows-requires-clause-held
-load_rows-requires-clause-held g c =
-    let r = c.requires.reach in
+pub load_rows-requires-clause-stands : goal.load_rows-requires-clause-stands
+load_rows-requires-clause-stands g c = (c.args.self.now.shape, (the_going _ _ _ _ _ c.in-Some.store c.in-Some.is c.requires.able).stands)
+
+pub load_rows-requires-clause-reach : goal.load_rows-requires-clause-reach
+load_rows-requires-clause-reach g c told =
+    let r = c.requires.reach told in
     (c.args.self.now.shape, r.0, the_store _ _ _ _ _ c.in-Some.store c.in-Some.is r.0 r.1, r.2, r.3)
+
+pub returns-in-Ok-clause-able : goal.returns-in-Ok-clause-able
+returns-in-Ok-clause-able g c =
+    let going = the_going _ _ _ _ _ c.in-Some.store c.in-Some.is c.requires.able in
+    let same : last_boot c.load_rows.new.store ≡ last_boot c.in-Some.store = ap (λ (n : ℕ × ℕ). n.0) c.in-Ok.ensures.numbers in
+    callable_on _ _ _ _ _ c.in-Some.store c.in-Some.is (g.D.Disks.view c.load_rows.new.disks) c.load_rows.new.store c.in-Ok.ensures.kept.shape c.requires.able
+    (c.in-Ok.ensures.stands c.args.self.now.shape going.stands)
+    (net_same c.in-Some.store c.load_rows.new.store (last_boot c.in-Some.store) (last_boot c.load_rows.new.store) c.in-Ok.ensures.messages (omega (arith, same)) going.net)
+
+pub returns-in-Ok-clause-rows : goal.returns-in-Ok-clause-rows
+returns-in-Ok-clause-rows g c k h = c.in-Ok.ensures.rows c.args.self.now.shape k (the_store _ _ _ _ _ c.in-Some.store c.in-Some.is k h)
 
 pub returns-in-Ok-clause-holds : goal.returns-in-Ok-clause-holds
 returns-in-Ok-clause-holds g c k h =
-    let held = the_store _ _ _ _ _ c.in-Some.store c.in-Some.is k h in
     goes_on _ _ _ _ _ c.in-Some.store c.in-Some.is k h (g.D.Disks.view c.load_rows.new.disks) c.load_rows.new.store k c.in-Ok.ensures.kept.shape
-    (c.in-Ok.ensures.holds c.args.self.now.shape k held)
-    (net_same c.in-Some.store c.load_rows.new.store k.boot k.boot c.in-Ok.ensures.messages (omega arith) (the_net _ _ _ _ _ c.in-Some.store c.in-Some.is k h))
+    (c.in-Ok.ensures.holds c.args.self.now.shape k (the_store _ _ _ _ _ c.in-Some.store c.in-Some.is k h))
 
 pub returns-in-Ok-clause-is_new : goal.returns-in-Ok-clause-is_new
 returns-in-Ok-clause-is_new g c u new =
     (c.in-Ok.ensures.is_new u new.0, new_same c.in-Some.store c.load_rows.new.store u c.in-Ok.ensures.messages (new_there c.args.self.now.store c.in-Some.store u c.in-Some.is new.1))
 
+pub returns-in-Err-clause-able : goal.returns-in-Err-clause-able
+returns-in-Err-clause-able g c =
+    rw c.forget.ensures (callable_none _ _ _ _ _ c.in-Some.store c.in-Some.is (g.D.Disks.view c.load_rows.new.disks) Nothing c.in-Err.ensures.kept.shape c.requires.able (λ is. absurd (cc is)))
+
 pub returns-in-Err-clause-leaves : goal.returns-in-Err-clause-leaves
 returns-in-Err-clause-leaves g c k h =
-    let held = the_store _ _ _ _ _ c.in-Some.store c.in-Some.is k h in
-    breaks_off _ _ _ _ _ c.in-Some.store c.in-Some.is k h (g.D.Disks.view c.load_rows.new.disks) c.load_rows.new.store _ k c.in-Err.ensures.kept.shape
-    (c.in-Err.ensures.leaves c.args.self.now.shape k held) c.in-Err.ensures.stay
-    (subst (λ q. AreNumbersOf (numbers_before c.load_rows.new.store q) k) (sym h.nothing) (still_counted _ _ _ _ _ c.in-Some.store c.in-Some.is k h c.load_rows.new.store c.in-Err.ensures.numbers))
-    (subst (λ q. MayFollow q k k) (sym h.nothing) refl) held.kept
+    rw c.forget.ensures (breaks_off _ _ _ _ _ c.in-Some.store c.in-Some.is k h (g.D.Disks.view c.load_rows.new.disks) c.numbers_of-before.result Nothing k c.in-Err.ensures.kept.shape
+    (c.in-Err.ensures.leaves c.args.self.now.shape k (the_store _ _ _ _ _ c.in-Some.store c.in-Some.is k h)) c.numbers_of-before.ensures refl)
 
 pub returns-in-Ok-clause-within : goal.returns-in-Ok-clause-within
 returns-in-Ok-clause-within g c = kept_within (g.D.Disks.view c.args.disks.now) (g.D.Disks.view c.load_rows.new.disks) (setup_in c.args.self.now.shape c.args.self.now.over_net) None c.in-Ok.ensures.kept
 
 pub returns-in-Err-clause-within : goal.returns-in-Err-clause-within
-returns-in-Err-clause-within g c = kept_within (g.D.Disks.view c.args.disks.now) (g.D.Disks.view c.load_rows.new.disks) (setup_in c.args.self.now.shape c.args.self.now.over_net) _ c.in-Err.ensures.kept
+returns-in-Err-clause-within g c = rw c.forget.ensures (kept_within (g.D.Disks.view c.args.disks.now) (g.D.Disks.view c.load_rows.new.disks) (setup_in c.args.self.now.shape c.args.self.now.over_net) _ c.in-Err.ensures.kept)
 
 pub returns-in-Ok-clause-net : goal.returns-in-Ok-clause-net
 returns-in-Ok-clause-net g c = sent_same c.args.self.now.store c.in-Some.store c.load_rows.new.store c.in-Some.is c.in-Ok.ensures.messages
+
+-- WHERE NO STORE STANDS nothing is held, so the disks do not tell
+
+pub reject-requires : goal.reject-requires
+reject-requires g c = not_told (g.D.Disks.view c.args.disks.now).told (λ told. let r = c.requires.reach told in none_held _ _ _ _ _ r.0 c.in_default.not-Some r.1)
+
+pub returns-in_default-clause-able : goal.returns-in_default-clause-able
+returns-in_default-clause-able g c = callable_still _ _ _ _ (g.D.Disks.view c.args.disks.now) (g.D.Disks.view c.reject.new.disks) c.reject.ensures.unchanged c.requires.able
+
+pub returns-in_default-clause-leaves : goal.returns-in_default-clause-leaves
+returns-in_default-clause-leaves g c k h = absurd (none_held _ _ _ _ _ k c.in_default.not-Some h)
+
+pub returns-in_default-clause-within : goal.returns-in_default-clause-within
+returns-in_default-clause-within g c = unchanged_within (g.D.Disks.view c.args.disks.now) (g.D.Disks.view c.reject.new.disks) (setup_in c.args.self.now.shape c.args.self.now.over_net) c.reject.ensures.unchanged
