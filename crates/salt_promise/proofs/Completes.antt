@@ -86,4 +86,4 @@ module _ (r : Run) (command : Command) (x : RunsAs r command) (m : MeetsNothing 
   by o (NumbersSpent boot decisions) e = absurd (m.unspent o.trace boot decisions (may o (ap (λ s. (way_of s).lines) e)) (o.ends.spent boot decisions e))
 
   pub completes : (r.status ≡ Done) ⊎ (r.status ≡ Memory)
-  completes = by (over x.goes) r.status refl
+  completes = by (over (x.goes m.told)) r.status refl

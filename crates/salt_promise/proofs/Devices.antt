@@ -1,31 +1,29 @@
 -- What the devices of worked runs stand for: those of one partition that has no rows, under a coordinator of which no log was left behind.
-use Rattle.salt_bytes.specs.Generations.{Counts, LogA, Pair, content_of, pair_of}
+use Rattle.salt_bytes.specs.Generations.{Pair, content_of, pair_of}
 use Rattle.salt_bytes.specs.Log.{entries_in, entries_up_to, framed, split_payload}
 use Rattle.salt_stands.specs.Fitting.{definitions_reading}
 use Rattle.salt_model.specs.Kept.{Definition, Kept}
 use Rattle.salt_model.specs.Tables.{Tables, no_rows, with_changes}
-use Rattle.salt_model.specs.Words.{and_then, is_empty}
+use Rattle.salt_model.specs.Words.{and_then}
 use Rattle.salt_stands.specs.Coordinator.{Coordinator, coordinator_at, judge_coordinator}
 use Rattle.salt_stands.specs.CoordinatorLog.{CoordinatorLog, Told, coordinator_generation, coordinator_in}
-use Rattle.salt_stands.specs.FirstOpening.{first_part_header}
-use Rattle.salt_stands.specs.LogDevices.{IsStoreLog}
-use Rattle.salt_stands.specs.Partition.{judge_part, part_at, part_pair}
-use Rattle.salt_stands.specs.PartitionLog.{PartitionLog, partition_generation, partition_in}
+use Rattle.salt_stands.specs.Partition.{judge_part, part_at}
+use Rattle.salt_stands.specs.PartitionLog.{partition_generation, partition_in}
 use Rattle.salt_stands.specs.Stands.{Found, found_with, stands_on, logs_of, with_parts}
 use Rattle.salt_stands.specs.Reading.{Reading}
 use Rattle.salt_stands.specs.Tables.{joined}
-use Rattle.salt_promise.specs.Standing.{IsReader, NamesPages, StandFor}
-use Rattle.salt_promise.specs.Worked.{blank, header_at, on, one_part, opened}
-use Rattle.std.proofs.Common.{ap, arith, inl, inr, subst, sym, ◌∙◌}
-use Rattle.std.specs.Prelude.{List, None, Ok, Option, Result, Some, [], false, refl, suc, true, zero, ℕ, ◌<◌, ◌∷◌, ◌≡◌}
+use Rattle.salt_promise.specs.Standing.{IsReader, StandFor}
+use Rattle.salt_promise.specs.Worked.{header_at, on, one_part, opened}
+use Rattle.std.proofs.Common.{ap, arith, ◌∙◌}
+use Rattle.std.specs.Prelude.{List, Ok, Option, Result, Some, [], refl, suc, zero, ℕ, ◌<◌, ◌∷◌, ◌≡◌, ◌≤◌}
 
--- nothing is on a device that is no log of one partition
+-- nothing is on a device past those of one partition
 
-pub beside-logs : (first second third fourth : List ℕ) (dev : ℕ) → ¬ IsStoreLog 1 dev → on (first ∷ second ∷ third ∷ fourth ∷ []) dev ≡ []
-beside-logs first second third fourth zero h = absurd (h (inl (inl refl)))
-beside-logs first second third fourth (suc zero) h = absurd (h (inl (inr refl)))
-beside-logs first second third fourth (suc (suc zero)) h = absurd (h (inr (record { p = 0; low = omega arith; is = inl refl })))
-beside-logs first second third fourth (suc (suc (suc zero))) h = absurd (h (inr (record { p = 0; low = omega arith; is = inr refl })))
+pub beside-logs : (first second third fourth : List ℕ) (dev : ℕ) → 5 ≤ dev → on (first ∷ second ∷ third ∷ fourth ∷ []) dev ≡ []
+beside-logs first second third fourth zero h = absurd (omega (arith, h))
+beside-logs first second third fourth (suc zero) h = absurd (omega (arith, h))
+beside-logs first second third fourth (suc (suc zero)) h = absurd (omega (arith, h))
+beside-logs first second third fourth (suc (suc (suc zero))) h = absurd (omega (arith, h))
 beside-logs first second third fourth (suc (suc (suc (suc dev)))) h = refl
 
 -- THEY STAND, whatever reads definitions
@@ -36,14 +34,10 @@ coordinator_told told definitions = record { log = record { header = header_at 0
 abbrev pub kept_told : Told → List Definition → Kept
 kept_told told definitions = record { boot = told.boot; decisions = told.decisions; definitions = definitions; tables = no_rows; conts = [] }
 
-abbrev new_part : PartitionLog
-new_part = record { header = first_part_header 2 0; prepared = [] }
-
--- the coordinator's log is read so, the partition's is new, and no unit of its is named
+-- the coordinator's log is read so, and the partition has no rows
 pub record IsNew (read : List ℕ → Option Definition) (bytes : ℕ → List ℕ) (told : Told) (definitions : List Definition) : Type 0 where
   pub coordinator : coordinator_at (definitions_reading read) (logs_of bytes) ≡ Ok (Some (coordinator_told told definitions))
   pub part : part_at (definitions_reading read) (coordinator_told told definitions) (logs_of bytes) bytes 0 ≡ Ok no_rows
-  pub counts : part_pair 0 (logs_of bytes) ≡ Counts LogA new_part
 
 module _ (read : List ℕ → Option Definition) (reads : IsReader read) (bytes : ℕ → List ℕ) (told : Told) (definitions : List Definition)
     (new : IsNew read bytes told definitions) (image : ℕ → List ℕ) (is : (dev : ℕ) → dev < 26 → image dev ≡ bytes dev) where
@@ -90,24 +84,9 @@ module _ (read : List ℕ → Option Definition) (reads : IsReader read) (bytes 
       ∙ ap with_part (partition ∙ new.part)
       ∙ whole
 
-  -- no pages are named there
-
-  same-part : part_pair 0 (logs_of image) ≡ part_pair 0 (logs_of bytes)
-  same-part =
-      ap (λ x. pair_of partition_generation (content_of (partition_in 0) (entries_in x)) (content_of (partition_in 0) (logs_of image 3))) (is 2 (omega arith))
-      ∙ ap (λ x. pair_of partition_generation (content_of (partition_in 0) (logs_of bytes 2)) (content_of (partition_in 0) (entries_in x))) (is 3 (omega arith))
-
-  unnamed-there : (dev : ℕ) → NamesPages read one_part image dev → ⊥
-  unnamed-there dev x =
-      let first : x.p ≡ 0 = let low = x.low in omega arith in
-      let both : Counts LogA new_part ≡ Counts x.which x.log = sym (same-part ∙ new.counts) ∙ subst (λ p. part_pair p (logs_of image) ≡ Counts x.which x.log) first x.counts in
-      let same : new_part ≡ x.log = cc in
-      let none : true ≡ false = ap (λ (l : PartitionLog). is_empty l.header.sides) same ∙ x.names in
-      absurd (cc none)
-
   -- an image of them stands for what the coordinator's log tells
   pub new-stands : StandFor one_part image (kept_told told definitions)
-  new-stands = record { read = read; reads = reads; found = found; is = stands; has_shape = refl; newest = refl; no_pages = unnamed-there; keeps = refl }
+  new-stands = record { read = read; reads = reads; found = found; is = stands; has_shape = refl; newest = refl; keeps = refl }
 
 -- after a first opening
 
@@ -116,19 +95,4 @@ opened_told = record { boot = 1; decisions = 0; definitions = []; decided = [] }
 
 pub opened-new : (read : List ℕ → Option Definition) → IsNew read opened opened_told []
 unfolding entries_in entries_up_to split_payload framed with_changes
-opened-new read = record { coordinator = refl; part = refl; counts = refl }
-
--- BLANK devices name no pages
-module _ (read : List ℕ → Option Definition) where
-  abbrev blank_reading : Reading Definition
-  blank_reading = definitions_reading read
-
-  blank-coordinator : coordinator_at blank_reading (logs_of blank) ≡ Ok None
-  unfolding entries_in
-  blank-coordinator = refl
-
-  pub unnamed : (bytes : ℕ → List ℕ) → coordinator_at blank_reading (logs_of bytes) ≡ Ok None → (dev : ℕ) → NamesPages read one_part bytes dev → ⊥
-  unnamed bytes none dev x = let both : Ok None ≡ Ok (Some x.c) = sym none ∙ x.found in absurd (cc both)
-
-  pub blank-unnamed : (dev : ℕ) → NamesPages read one_part blank dev → ⊥
-  blank-unnamed = unnamed blank blank-coordinator
+opened-new read = record { coordinator = refl; part = refl }

@@ -33,7 +33,6 @@ use Rattle.salt_promise.specs.declared.status.Status.TheVariants.{Done}
 use Rattle.salt_stands.specs.Coordinator.{Coordinator, are_sound, coordinator_at}
 use Rattle.salt_stands.specs.CoordinatorLog.{Told}
 use Rattle.salt_stands.specs.Fitting.{definitions_reading, is_refused}
-use Rattle.salt_stands.specs.LogDevices.{IsStoreLog}
 use Rattle.salt_stands.specs.Stands.{logs_of}
 use Rattle.salt_ast.specs.Pieces.{Lexes, Piece, blank, ended, token}
 use Rattle.salt_ast.specs.TokenSpelling.{keyword_of, sign_of}
@@ -41,7 +40,7 @@ use Rattle.salt_ast.specs.declared.sign.Sign.TheVariants as mark
 use Rattle.salt_ast.specs.declared.token.TokenKind.TheVariants as kind
 use Rattle.std.proofs.Common.{ap, arith, inl, inr, sym, ◌∙◌}
 use Rattle.std.specs.Option.{ok_or}
-use Rattle.std.specs.Prelude.{List, None, Ok, Option, Result, Some, [], codes, false, not, option_map, refl, true, ℕ, ◌++◌, ◌∷◌, ◌≡◌, option_and_then}
+use Rattle.std.specs.Prelude.{List, None, Ok, Option, Result, Some, [], codes, false, not, option_map, refl, true, ℕ, ◌++◌, ◌∷◌, ◌≡◌, ◌≤◌, option_and_then}
 use Rattle.std.specs.Bool.{then_some}
 
 -- THE TABLE
@@ -126,11 +125,11 @@ module _ (read : List ℕ → Option Definition) (reads : IsReader read) where
 
   new-before : IsNew read bytes_before (told_at 1) definitions
   unfolding entries_in entries_up_to split_payload framed with_changes
-  new-before = record { coordinator = judged-before ∙ ap (judged 1) is-read ∙ defines 1; part = refl; counts = refl }
+  new-before = record { coordinator = judged-before ∙ ap (judged 1) is-read ∙ defines 1; part = refl }
 
   new-behind : IsNew read bytes_behind (told_at 2) definitions
   unfolding entries_in entries_up_to split_payload framed with_changes
-  new-behind = record { coordinator = judged-behind ∙ ap (judged 2) is-read ∙ defines 2; part = refl; counts = refl }
+  new-behind = record { coordinator = judged-behind ∙ ap (judged 2) is-read ∙ defines 2; part = refl }
 
 -- THE RUN
 
@@ -188,7 +187,7 @@ module _ (read : List ℕ → Option Definition) (reads : IsReader read) where
   -- it is as promised
   pub finds-table : ((t : Trace) → IsPlayed t → WellKept (start_of t).kept → Promises t) → Runs finds_table
   finds-table law = runs_as refl (record {
-    goes = inr (record {
+    goes = λ tells. inr (record {
       start = start;
       trace = trace;
       opens = λ told. opens one_part bytes_before at_first stood refl;
@@ -217,7 +216,7 @@ module _ (read : List ℕ → Option Definition) (reads : IsReader read) where
     source = refl;
     sink = refl;
     downs = (0, omega arith, (0, omega arith, omega arith));
-    stops = λ off. record { stops = []; behind = refl; are = refl };
+    stops = λ tells off. record { stops = []; behind = refl; are = refl };
     shape = record { count = refl; can_stop = refl; told = refl; limit = λ dev. refl };
     others = λ told dev low out c h. h ∙ beside-both dev out;
   })
@@ -228,7 +227,7 @@ module _ (read : List ℕ → Option Definition) (reads : IsReader read) where
       well : WellKept at_first
       well = record { boots = tt; accepted = tt; defined = tt; tries = tt }
 
-      beside-both : (dev : ℕ) → ¬ IsStoreLog 1 dev → bytes_behind dev ≡ bytes_before dev
+      beside-both : (dev : ℕ) → 5 ≤ dev → bytes_behind dev ≡ bytes_before dev
       beside-both dev out =
           beside-logs (bytes_behind 0) (bytes_behind 1) (bytes_behind 2) (bytes_behind 3) dev out
           ∙ sym (beside-logs (bytes_before 0) (bytes_before 1) (bytes_before 2) (bytes_before 3) dev out)

@@ -34,14 +34,13 @@ use Rattle.salt_promise.specs.Worked.{ample, begun, blank, header_at, holding, o
 use Rattle.salt_promise.specs.declared.command.Command.TheVariants.{Script}
 use Rattle.salt_promise.specs.declared.status.Status.TheVariants.{DiskFault}
 use Rattle.salt_stands.specs.CoordinatorLog as coordinator_log
-use Rattle.salt_stands.specs.LogDevices.{IsStoreLog}
 use Rattle.salt_ast.specs.Pieces.{Lexes, Piece, blank as space, ended, token}
 use Rattle.salt_ast.specs.TokenSpelling.{keyword_of, sign_of}
 use Rattle.salt_ast.specs.declared.sign.Sign.TheVariants as mark
 use Rattle.salt_ast.specs.declared.token.TokenKind.TheVariants as kind
 use Rattle.salt_values.specs.declared.id.Id.{Id}
 use Rattle.std.proofs.Common.{None, arith, false, inl, inr, ◌∙◌}
-use Rattle.std.specs.Prelude.{IfSome, List, Option, Some, [], codes, refl, suc, zero, ℕ, ⊤, ◌++◌, ◌<◌, ◌∷◌, ◌≡◌, ◌⊎◌}
+use Rattle.std.specs.Prelude.{IfSome, List, Option, Some, [], codes, refl, suc, zero, ℕ, ⊤, ◌++◌, ◌<◌, ◌∷◌, ◌≡◌, ◌≤◌, ◌⊎◌}
 
 -- THE SCRIPT: a session begins a unit, and commits it
 
@@ -101,7 +100,7 @@ decided_told = record { boot = 1; decisions = 1; definitions = []; decided = dec
 
 decided-new : (read : List ℕ → Option Definition) → IsNew read decided decided_told []
 unfolding entries_in entries_up_to split_payload framed with_changes
-decided-new read = record { coordinator = refl; part = refl; counts = refl }
+decided-new read = record { coordinator = refl; part = refl }
 
 abbrev pub torn : View
 torn = record (holding ample opened []) { faults = 1; image = λ dev c. (c ≡ opened dev) ⊎ (c ≡ decided dev) }
@@ -241,7 +240,7 @@ module _ (read : List ℕ → Option Definition) (reads : IsReader read) where
   -- it is as promised
   pub in-flight : ((t : Trace) → IsPlayed t → WellKept (start_of t).kept → Promises t) → Runs in_flight
   in-flight law = runs_as refl (record {
-    goes = inr (record {
+    goes = λ tells. inr (record {
       start = start;
       trace = trace;
       opens = λ told. opens read reads;
@@ -265,7 +264,7 @@ module _ (read : List ℕ → Option Definition) (reads : IsReader read) where
     source = refl;
     sink = refl;
     downs = (0, omega arith, (0, omega arith, (0, omega arith, (0, omega arith, (omega arith, omega arith)))));
-    stops = λ off. record { stops = []; behind = refl; are = refl };
+    stops = λ tells off. record { stops = []; behind = refl; are = refl };
     shape = record { count = refl; can_stop = refl; told = refl; limit = λ dev. refl };
     others = λ told dev low out c. beside dev out c;
   })
@@ -273,6 +272,6 @@ module _ (read : List ℕ → Option Definition) (reads : IsReader read) where
       well : WellKept nothing_kept
       well = record { boots = tt; accepted = tt; defined = tt; tries = tt }
 
-      beside : (dev : ℕ) → ¬ IsStoreLog 1 dev → (c : List ℕ) → (c ≡ opened dev) ⊎ (c ≡ decided dev) → c ≡ []
+      beside : (dev : ℕ) → 5 ≤ dev → (c : List ℕ) → (c ≡ opened dev) ⊎ (c ≡ decided dev) → c ≡ []
       beside dev out c (inl h) = h ∙ beside-logs (opened 0) (opened 1) (opened 2) (opened 3) dev out
       beside dev out c (inr h) = h ∙ beside-logs (decided 0) (decided 1) (decided 2) (decided 3) dev out

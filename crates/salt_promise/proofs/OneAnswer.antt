@@ -4,7 +4,7 @@ use Rattle.salt_bytes.specs.Generations.{BothBlank, Counts, Faulty, Pair, WhichL
 use Rattle.salt_model.specs.Words.{and_then}
 use Rattle.salt_stands.specs.Fitting.{definitions_reading, kept_in}
 use Rattle.salt_model.specs.Kept.{Definition, Kept}
-use Rattle.salt_promise.specs.Standing.{AnswersTo, IsOlder, IsReader, NamesPages, StandFor}
+use Rattle.salt_promise.specs.Standing.{AnswersTo, IsOlder, IsReader, StandFor}
 use Rattle.salt_stands.specs.Coordinator.{Coordinator, are_sound, coordinator_of, coordinator_pair, define, definitions_read, device_of, judge_coordinator}
 use Rattle.salt_stands.specs.CoordinatorLog.{CoordinatorLog}
 use Rattle.salt_stands.specs.OpenConts.{moved}
@@ -53,22 +53,6 @@ module _ (a b : List ℕ → Option Definition) (same : (text : List ℕ) → a 
 
   same_standing : (shape : Shape) (bytes : ℕ → List ℕ) → stands_on (definitions_reading a) bytes shape ≡ stands_on (definitions_reading b) bytes shape
   same_standing shape bytes = ap (λ r. and_then r (with_parts (definitions_reading a) (logs_of bytes) bytes shape)) (same_judged (coordinator_pair (logs_of bytes)))
-
-  -- and name the same pages
-  same_pages : (shape : Shape) (bytes : ℕ → List ℕ) (dev : ℕ) → NamesPages a shape bytes dev → NamesPages b shape bytes dev
-  same_pages shape bytes dev x = record {
-    c = x.c;
-    found = sym (same_judged (coordinator_pair (logs_of bytes))) ∙ x.found;
-    is_shape = x.is_shape;
-    p = x.p;
-    low = x.low;
-    before = x.before;
-    which = x.which;
-    log = x.log;
-    counts = x.counts;
-    names = x.names;
-    device = x.device;
-  }
 
 -- THE FORMAT of what opens is that of the log that counts
 
@@ -126,10 +110,9 @@ module _ (shape : Shape) (bytes : ℕ → List ℕ) (x : Found Definition) (h : 
   one_answer (Stands y) g = sym g.is.0 ∙ by-another g.read g.reads
   one_answer (opening.NotSalt dev) g = by g.is
     where
-      by : (opening_of (definitions_reading g.read) bytes shape ≡ opening.NotSalt dev) ⊎ (NamesPages g.read shape bytes dev ⊎ IsOlder bytes dev) → opening.NotSalt dev ≡ Stands x
+      by : (opening_of (definitions_reading g.read) bytes shape ≡ opening.NotSalt dev) ⊎ IsOlder bytes dev → opening.NotSalt dev ≡ Stands x
       by (inl is) = sym is ∙ by-another g.read g.reads
-      by (inr (inl pages)) = absurd (h.is.2 dev (same_pages g.read h.read (same_read g.read h.read g.reads h.reads) shape bytes dev pages))
-      by (inr (inr older)) = absurd (not-older h.read shape bytes x h.is.0 h.is.1 dev older)
+      by (inr older) = absurd (not-older h.read shape bytes x h.is.0 h.is.1 dev older)
   one_answer (opening.OtherShape kept asked) g = sym g.is ∙ by-another g.read g.reads
   one_answer (opening.NumbersSpent boot decisions) g = sym g.is ∙ by-another g.read g.reads
 

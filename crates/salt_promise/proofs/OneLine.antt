@@ -12,7 +12,7 @@ use Rattle.salt_model.specs.Trace as trace_words
 use Rattle.salt_model.specs.Trace.{Rejected, Start, Trace, from, start_of, ◌asks◌, ◌says◌}
 use Rattle.salt_model.specs.declared.events.Event.TheVariants.{Opened, Ready, Refused}
 use Rattle.salt_model.specs.declared.events.Refusal.TheVariants.{Byte}
-use Rattle.salt_promise.proofs.Devices.{beside-logs, blank-unnamed, kept_told, new-stands, opened-new, opened_told}
+use Rattle.salt_promise.proofs.Devices.{beside-logs, kept_told, new-stands, opened-new, opened_told}
 use Rattle.salt_promise.specs.Worked.{after, blank, one_line, one_part, opened, printed, script}
 use Rattle.salt_promise.specs.Doing.{AreLinesOf, IsWritten, story_before_line, text_under}
 use Rattle.salt_promise.specs.Ending.{StandsBehind}
@@ -36,7 +36,7 @@ trace = served asks Rejected Byte says Refused Byte
 
 pub opens : (read : List ℕ → Option Definition) → IsReader read → OpenAs one_part blank nothing_kept
 unfolding entries_in
-opens read is = record { found = nothing_found one_part; answers = record { read = read; reads = is; is = (refl, refl, blank-unnamed read) }; keeps = refl }
+opens read is = record { found = nothing_found one_part; answers = record { read = read; reads = is; is = (refl, refl) }; keeps = refl }
 
 pub served-complete : IsComplete served
 unfolding computing
@@ -86,7 +86,7 @@ images read reads image is = record {
 -- it is as promised
 pub meets : (read : List ℕ → Option Definition) → IsReader read → ((t : Trace) → IsPlayed t → WellKept (start_of t).kept → Promises t) → Runs one_line
 meets read reads law = runs_as refl (record {
-  goes = inr (record {
+  goes = λ tells. inr (record {
     start = start;
     trace = trace;
     opens = λ told. opens read reads;
@@ -110,7 +110,7 @@ meets read reads law = runs_as refl (record {
   source = refl;
   sink = refl;
   downs = (0, omega arith, (0, omega arith, (0, omega arith, omega arith)));
-  stops = λ off. record { stops = []; behind = refl; are = refl };
+  stops = λ tells off. record { stops = []; behind = refl; are = refl };
   shape = record { count = refl; can_stop = refl; told = refl; limit = λ dev. refl };
   others = λ told dev low out c h. h ∙ beside-logs (opened 0) (opened 1) (opened 2) (opened 3) dev out;
 })

@@ -71,7 +71,6 @@ opens shape bytes k s unspent = record {
     is = (
       coordinator s.read bytes shape s.found s.has_shape (ap (λ x. are_spent x.boot x.decisions) s.keeps ∙ unspent) (coordinator_at (definitions_reading s.read) (logs_of bytes)) s.is,
       s.newest,
-      s.no_pages,
     );
   };
   keeps = s.keeps;

@@ -7,7 +7,7 @@ use Rattle.salt_disk.specs.Disks.{AreUnchanged, IsImage, View}
 use Rattle.salt_model.specs.Kept.{Definition, WellKept, nothing_kept}
 use Rattle.salt_model.specs.Played.{IsPlayed}
 use Rattle.salt_model.specs.Trace.{Start, Trace, from, start_of}
-use Rattle.salt_promise.proofs.Devices.{beside-logs, blank-unnamed, unnamed}
+use Rattle.salt_promise.proofs.Devices.{beside-logs}
 use Rattle.salt_promise.specs.Ending.{StandsBehind}
 use Rattle.salt_promise.specs.Filling.{FirstFills}
 use Rattle.salt_promise.specs.Given.{Run, Stream}
@@ -64,7 +64,7 @@ first-fills = record { blank = refl; fills = inl (0, omega arith, inr (refl, ome
 module _ (read : List ℕ → Option Definition) (reads : IsReader read) where
   opens : OpenAs one_part blank nothing_kept
   unfolding entries_in
-  opens = record { found = nothing_found one_part; answers = record { read = read; reads = reads; is = (refl, refl, blank-unnamed read) }; keeps = refl }
+  opens = record { found = nothing_found one_part; answers = record { read = read; reads = reads; is = (refl, refl) }; keeps = refl }
 
   blank-stands : coordinator_at (definitions_reading read) (logs_of created) ≡ Ok None
   unfolding entries_in
@@ -86,7 +86,6 @@ module _ (read : List ℕ → Option Definition) (reads : IsReader read) where
       is = ap (λ r. and_then r (with_parts (definitions_reading read) (logs_of image) image one_part)) (image-blank image is);
       has_shape = refl;
       newest = refl;
-      no_pages = unnamed read image (image-blank image is);
       keeps = refl;
     };
     is = record { boots = 0; most = omega arith; is = inl refl };
@@ -95,7 +94,7 @@ module _ (read : List ℕ → Option Definition) (reads : IsReader read) where
 
   pub full-device : ((t : Trace) → IsPlayed t → WellKept (start_of t).kept → Promises t) → Runs full
   full-device law = runs_as refl (record {
-    goes = inr (record {
+    goes = λ tells. inr (record {
       start = start;
       trace = from start;
       opens = λ told. opens;
@@ -119,7 +118,7 @@ module _ (read : List ℕ → Option Definition) (reads : IsReader read) where
     source = refl;
     sink = refl;
     downs = omega arith;
-    stops = λ off. record { stops = []; behind = refl; are = refl };
+    stops = λ tells off. record { stops = []; behind = refl; are = refl };
     shape = record { count = refl; can_stop = refl; told = refl; limit = λ dev. refl };
     others = λ told dev low out c h. h ∙ beside-logs [] [] [] (0 ∷ []) dev out;
   })
@@ -140,7 +139,7 @@ module _ (read : List ℕ → Option Definition) (reads : IsReader read) where
 
   pub spent-numbers : Runs (run (holding ample (begun (header_at (2 ^ 63)) []) []) (holding ample (begun (header_at (2 ^ 63)) []) []) (NumbersSpent (2 ^ 63) 0))
   spent-numbers = runs_as refl (record {
-    goes = inl (record {
+    goes = λ tells. inl (record {
       answer = opening.NumbersSpent (2 ^ 63) 0;
       is = λ told. record { read = read; reads = reads; is = spent-answer };
       ends = refl;
@@ -153,7 +152,7 @@ module _ (read : List ℕ → Option Definition) (reads : IsReader read) where
     source = refl;
     sink = refl;
     downs = omega arith;
-    stops = λ off. record { stops = []; behind = refl; are = refl };
+    stops = λ tells off. record { stops = []; behind = refl; are = refl };
     shape = record { count = refl; can_stop = refl; told = refl; limit = λ dev. refl };
     others = λ told dev low out c h. h;
   })

@@ -2,7 +2,6 @@
 use Rattle.salt_bytes.specs.Coordinator.{Boots, Decides, spell_entry, spell_header}
 use Rattle.salt_bytes.specs.Partition.{spell_partition_header}
 use Rattle.salt_stands.specs.FirstOpening.{first_header, first_part_header}
-use Rattle.salt_stands.specs.LogDevices.{IsPartitionLog, IsStoreLog}
 use Rattle.salt_stands.specs.Partition.{part_device}
 use Rattle.salt_bytes.specs.Generations.{BothBlank, Counts, LogA, WhichLog}
 use Rattle.salt_bytes.specs.Log.{entries_in, entries_up_to, framed, split_payload}
@@ -54,7 +53,7 @@ use Rattle.salt_stands.specs.Tables.{joined}
 use Rattle.salt_stands.specs.Unspent.{OpensUnspent}
 use Rattle.std.proofs.Common.{ap, arith, inl, inr, subst, sym, ◌∙◌}
 use Rattle.std.proofs.lemmas.List.{same_from_push}
-use Rattle.std.specs.Prelude.{Bool, List, None, Ok, Option, Result, Some, [], codes, false, if◌then◌else◌, pos, refl, suc, true, zero, ℕ, ◌&&◌, ◌+◌, ◌++◌, ◌-◌, ◌^◌, ◌<◌, ◌∷◌, ◌≡◌, ◌≤◌, ◌⊎◌}
+use Rattle.std.specs.Prelude.{Bool, IsTrue, List, None, Ok, Option, Result, Some, [], codes, false, if◌then◌else◌, pos, refl, suc, true, zero, ℕ, ◌&&◌, ◌+◌, ◌++◌, ◌-◌, ◌^◌, ◌<◌, ◌∷◌, ◌≡◌, ◌≤◌, ◌⊎◌}
 
 abbrev half : ℕ
 half = 2 ^ 63
@@ -92,7 +91,7 @@ spent-closed : (k : Kept) → OpenAs one_part (begun (header_at half) []) k → 
 spent-closed k o = let both : opening.NumbersSpent half 0 ≡ Stands o.found = sym (spent-answer o.answers.read) ∙ o.answers.is.0 in cc
 
 spent-at-first : Runs spent_run → ⊥
-spent-at-first = of-script spent_run refl (λ x. by x.goes)
+spent-at-first = of-script spent_run refl (λ x. by (x.goes refl))
   where
     by : FindsNothing spent_run (Script one_part false false) ⊎ RunsOver spent_run (Script one_part false false) → ⊥
     by (inl f) = let e = f.story in cc
@@ -117,8 +116,8 @@ each-unspent u (t says e) h = every-more (OpensUnspent u) (story_of t) e (each-u
 abbrev spent_later_story : List Event
 spent_later_story = Opened half 0 ∷ Ready ∷ Down why.Fault ∷ Opened (half + 1) 0 ∷ Ready ∷ []
 
-spent-later : (r : Run) → r.command ≡ Some (Script one_part false false) → r.story ≡ spent_later_story → Runs r → ⊥
-spent-later r is told = of-script r is (λ x. by x.goes)
+spent-later : (r : Run) → r.command ≡ Some (Script one_part false false) → IsTrue r.before.devices.told → r.story ≡ spent_later_story → Runs r → ⊥
+spent-later r is tells told = of-script r is (λ x. by (x.goes tells))
   where
     unspent : (t : Trace) → Every (OpensUnspent t) spent_later_story → ⊥
     unspent t h = let e = h.1.1.1.0 in cc
@@ -136,40 +135,28 @@ abbrev touched_run : Status → Run
 touched_run status = run (holding ample (begun (header_at half) []) []) (holding ample touched_bytes []) status None [] []
 
 written-where-refused : (status : Status) → Runs (touched_run status) → ⊥
-written-where-refused status = of-script (touched_run status) refl (λ x. by x.goes)
+written-where-refused status = of-script (touched_run status) refl (λ x. by (x.goes refl))
   where
     by : FindsNothing (touched_run status) (Script one_part false false) ⊎ RunsOver (touched_run status) (Script one_part false false) → ⊥
     by (inl f) = let both : ◌≡◌ {A = List ℕ} (0 ∷ 0 ∷ []) (0 ∷ []) = (f.devices refl).images 1 (0 ∷ 0 ∷ []) refl in cc
     by (inr o) = spent-closed o.start.kept (o.opens refl)
 
--- A DEVICE THAT IS NO LOG of the one partition is written, by a run that is right else: one with pages, or one behind them all
+-- A DEVICE PAST THOSE of the one partition is written, by a run that is right else
 
-abbrev beside : (pages behind : List ℕ) → ℕ → List ℕ
-beside pages behind = on (opened 0 ∷ opened 1 ∷ opened 2 ∷ opened 3 ∷ pages ∷ behind ∷ [])
+abbrev beside : (behind : List ℕ) → ℕ → List ℕ
+beside behind = on (opened 0 ∷ opened 1 ∷ opened 2 ∷ opened 3 ∷ [] ∷ behind ∷ [])
 
 abbrev spilt_run : (ℕ → List ℕ) → Run
 spilt_run bytes = record one_line { after = record after { devices = holding ample bytes [] } }
 
-no-log : (dev : ℕ) → 4 ≤ dev → ¬ IsStoreLog 1 dev
-no-log dev high (inl (inl is)) = omega (arith, high, is)
-no-log dev high (inl (inr is)) = omega (arith, high, is)
-no-log dev high (inr t) = by t.is
-  where
-    by : IsPartitionLog t.p dev → ⊥
-    by (inl is) = omega (arith, high, is, t.low)
-    by (inr is) = omega (arith, high, is, t.low)
-
-spilt : (bytes : ℕ → List ℕ) (dev : ℕ) → 4 ≤ dev → dev < 26 → bytes dev ≡ 0 ∷ [] → Runs (spilt_run bytes) → ⊥
+spilt : (bytes : ℕ → List ℕ) (dev : ℕ) → 5 ≤ dev → dev < 26 → bytes dev ≡ 0 ∷ [] → Runs (spilt_run bytes) → ⊥
 spilt bytes dev high low written = of-script (spilt_run bytes) refl by
   where
     by : RunsAs (spilt_run bytes) (Script one_part false false) → ⊥
-    by x = let both : ◌≡◌ {A = List ℕ} (0 ∷ []) [] = x.others refl dev low (no-log dev high) (0 ∷ []) (sym written) in cc
+    by x = let both : ◌≡◌ {A = List ℕ} (0 ∷ []) [] = x.others refl dev low high (0 ∷ []) (sym written) in cc
 
-written-pages : Runs (spilt_run (beside (0 ∷ []) [])) → ⊥
-written-pages = spilt (beside (0 ∷ []) []) 4 (omega arith) (omega arith) refl
-
-written-behind : Runs (spilt_run (beside [] (0 ∷ []))) → ⊥
-written-behind = spilt (beside [] (0 ∷ [])) 5 (omega arith) (omega arith) refl
+written-behind : Runs (spilt_run (beside (0 ∷ []))) → ⊥
+written-behind = spilt (beside (0 ∷ [])) 5 (omega arith) (omega arith) refl
 
 -- A FULL DEVICE at a first opening
 
@@ -197,7 +184,7 @@ abbrev from_nothing : Trace
 from_nothing = from (record { kept = nothing_kept; can_stop = true; early = false; over_net = false })
 
 at-first : (bytes : ℕ → List ℕ) → (NextFills (full_run bytes).after.devices one_part from_nothing Fallen None 1 → ⊥) → Runs (full_run bytes) → ⊥
-at-first bytes never = of-script (full_run bytes) refl (λ x. by x.goes)
+at-first bytes never = of-script (full_run bytes) refl (λ x. by (x.goes refl))
   where
     refused : (a : Opening Definition) → EndsRefused a (DeviceFull 1) → ⊥
     refused (Stands found) h = h
@@ -233,7 +220,8 @@ full-of-standing = at-first stand never
 
     never : NextFills (full_run stand).after.devices one_part from_nothing Fallen None 1 → ⊥
     never (inl f) = let both : BothBlank ≡ Counts LogA stood = sym f.blank ∙ stand-counts in cc
-    never (inr f) =
+    never (inr (inr pages)) = let e = pages.device in omega arith
+    never (inr (inl f)) =
         let a : f.which ≡ LogA = which-log f.which f.log stood (sym f.counts ∙ stand-counts) in
         apart (subst (λ w. 1 ≡ device_of 0 w) a f.device)
 
@@ -263,7 +251,8 @@ full-of-closed = at-first closed never
 
     never : NextFills (full_run closed).after.devices one_part from_nothing Fallen None 1 → ⊥
     never (inl f) = first f.fills
-    never (inr f) = let both : Counts f.which f.log ≡ BothBlank = sym f.counts ∙ closed-blank in cc
+    never (inr (inr pages)) = let e = pages.device in omega arith
+    never (inr (inl f)) = let both : Counts f.which f.log ≡ BothBlank = sym f.counts ∙ closed-blank in cc
 
 -- THE NUMBERS OF STATUS 10 are those of each image: here its boot is one more than the devices have
 
@@ -290,7 +279,7 @@ other_numbers = run (holding ample (begun (header_at (half - 1)) []) ((1, 0) ∷
     (Down why.Stopped ∷ Down why.Stopped ∷ []) (codes "down stopped" ++ 10 ∷ (codes "down stopped" ++ 10 ∷ []))
 
 other-numbers : Runs other_numbers → ⊥
-other-numbers = of-script other_numbers refl (λ x. by x.goes)
+other-numbers = of-script other_numbers refl (λ x. by (x.goes refl))
   where
     apart : half ≡ half + 1 → ⊥
     apart e = omega arith
@@ -351,7 +340,7 @@ same-number (t turns b) h = same-number t h
 same-number (t says e) h = let both = split-last (story_of t) e h in keeps-number t e (stage t) both.1 ∙ same-number t both.0
 
 in-flight-untold : Runs untold_run → ⊥
-in-flight-untold = of-script untold_run refl (λ x. by x.goes)
+in-flight-untold = of-script untold_run refl (λ x. by (x.goes refl))
   where
     apart : ◌≡◌ {A = ℕ} 1 0 → ⊥
     apart e = omega arith
@@ -393,11 +382,11 @@ early-stop : (first : List (ℕ × ℕ)) → first ≡ [] → armed_behind early
 unfolding early_story
 early-stop first e = ap (λ stops. armed_behind early_story (Some stops)) e
 
-stop-before-armed : (r : Run) → r.command ≡ Some (Script one_part false false) → r.before.devices.armed ≡ [] → r.story ≡ early_story → Runs r → ⊥
-stop-before-armed r is none told = of-script r is no-stop
+stop-before-armed : (r : Run) → r.command ≡ Some (Script one_part false false) → IsTrue r.before.devices.told → r.before.devices.armed ≡ [] → r.story ≡ early_story → Runs r → ⊥
+stop-before-armed r is tells none told = of-script r is no-stop
   where
     no-stop : RunsAs r (Script one_part false false) → ⊥
-    no-stop x = let both : None ≡ Some (x.stops refl).stops = sym (ap (λ s. armed_behind s (Some r.before.devices.armed)) told ∙ early-stop r.before.devices.armed none) ∙ (x.stops refl).behind in cc
+    no-stop x = let both : None ≡ Some (x.stops tells refl).stops = sym (ap (λ s. armed_behind s (Some r.before.devices.armed)) told ∙ early-stop r.before.devices.armed none) ∙ (x.stops tells refl).behind in cc
 
 -- ANOTHER STOP is armed at last than the one that the story tells
 
@@ -412,8 +401,8 @@ abbrev first-pick : List (ℕ × ℕ) → ℕ
 first-pick [] = 0
 first-pick (stop ∷ stops) = stop.1
 
-another-stop : (r : Run) → r.command ≡ Some (Script one_part false false) → r.status ≡ Done → r.before.devices.armed ≡ [] → r.story ≡ armed_story → r.after.devices.armed ≡ (7, 0) ∷ [] → Runs r → ⊥
-another-stop r is done none told left = of-script r is by
+another-stop : (r : Run) → r.command ≡ Some (Script one_part false false) → IsTrue r.before.devices.told → r.status ≡ Done → r.before.devices.armed ≡ [] → r.story ≡ armed_story → r.after.devices.armed ≡ (7, 0) ∷ [] → Runs r → ⊥
+another-stop r is tells done none told left = of-script r is by
   where
     same : (a b : List (ℕ × ℕ)) → Some a ≡ Some b → a ≡ b
     same a b e = cc
@@ -423,9 +412,9 @@ another-stop r is done none told left = of-script r is by
 
     by : RunsAs r (Script one_part false false) → ⊥
     by x =
-        let stops = sym (ap (λ s. armed_behind s (Some r.before.devices.armed)) told ∙ told-stops r.before.devices.armed none) ∙ (x.stops refl).behind in
-        let last : r.after.devices.armed ≡ (x.stops refl).stops = subst (λ s. AreArmed s (x.stops refl).stops r.after.devices.armed) done (x.stops refl).are in
-        apart (ap first-pick (sym left ∙ last ∙ sym (same ((7, 1) ∷ []) (x.stops refl).stops stops)))
+        let stops = sym (ap (λ s. armed_behind s (Some r.before.devices.armed)) told ∙ told-stops r.before.devices.armed none) ∙ (x.stops tells refl).behind in
+        let last : r.after.devices.armed ≡ (x.stops tells refl).stops = subst (λ s. AreArmed s (x.stops tells refl).stops r.after.devices.armed) done (x.stops tells refl).are in
+        apart (ap first-pick (sym left ∙ last ∙ sym (same ((7, 1) ∷ []) (x.stops tells refl).stops stops)))
 
 -- PAIRS OF MESSAGES are no stops, though the story alone does not tell them apart: here what `net` armed is taken for the stop that came.
 
@@ -486,7 +475,7 @@ undrained (t says a) none e h =
     does-more t (finds-none t none both.0) (subst (λ b. DoesItsRests (t says b)) both.1 h.1)
 
 statements-in-opening : Runs undrained_run → ⊥
-statements-in-opening = of-script undrained_run refl (λ x. by x.goes)
+statements-in-opening = of-script undrained_run refl (λ x. by (x.goes refl))
   where
     ok : {x y : Found Definition} → ◌≡◌ {A = Opening Definition} (Stands x) (Stands y) → x ≡ y
     ok h = cc

@@ -18,7 +18,7 @@ use Rattle.salt_stands.specs.Coordinator.{coordinator_pair, device_of}
 use Rattle.salt_stands.specs.CoordinatorLog.{CoordinatorLog}
 use Rattle.salt_stands.specs.FirstOpening.{IsCreated, first_header, first_part_header}
 use Rattle.salt_stands.specs.OpenConts.{make_move}
-use Rattle.salt_stands.specs.Partition.{part_device, part_pair}
+use Rattle.salt_stands.specs.Partition.{pages_device, part_device, part_pair}
 use Rattle.salt_stands.specs.PartitionLog.{PartitionLog}
 use Rattle.salt_stands.specs.Placed.{changes_at}
 use Rattle.salt_stands.specs.Stands.{logs_of}
@@ -69,6 +69,12 @@ pub record ShareFills (d : View) (shape : Shape) (u : Id) (changes : List Change
   pub changed : is_empty (changes_at shape p changes) ≡ false
   pub over : IsTooLong d dev (spell_prepared (record { unit = u; changes = changes_at shape p changes }))
 
+-- the pages of a partition
+pub record IsOfPages (shape : Shape) (dev : ℕ) : Type 0 where
+  pub p : ℕ
+  pub low : p < shape.parts
+  pub device : dev ≡ pages_device p
+
 -- a unit's decision, with the bits of the partitions that it changes, and with its program's move: from the continuations that are open
 -- before it to those that are open behind it
 pub record DecisionFills (d : View) (shape : Shape) (trace : Trace) (e : Event) (u : Id) (changes : List Change) (dev : ℕ) : Type 0 where
@@ -82,11 +88,11 @@ pub record DecisionFills (d : View) (shape : Shape) (trace : Trace) (e : Event) 
 
 -- of a run that is down an opening; else the decision that comes next
 abbrev pub NextFills : View → Shape → Trace → Phase → Option Event → (dev : ℕ) → Type 0
-NextFills d shape trace Fallen e dev = FirstFills d shape dev ⊎ EntryFills d (λ log. Boots (log.told.boot + 1)) dev
+NextFills d shape trace Fallen e dev = FirstFills d shape dev ⊎ (EntryFills d (λ log. Boots (log.told.boot + 1)) dev ⊎ IsOfPages shape dev)
 NextFills d shape trace phase (Some (Defined n text)) dev = EntryFills d (λ log. Defines (record { number = log.told.decisions + 1; text = text })) dev
 NextFills d shape trace phase (Some (Ended u (Committed n))) dev =
-    ShareFills d shape u (changes_of u trace) dev ⊎ DecisionFills d shape trace (Ended u (Committed n)) u (changes_of u trace) dev
-NextFills d shape trace phase (Some (Ended u (Branched n cause))) dev = DecisionFills d shape trace (Ended u (Branched n cause)) u [] dev
+    ShareFills d shape u (changes_of u trace) dev ⊎ (DecisionFills d shape trace (Ended u (Committed n)) u (changes_of u trace) dev ⊎ IsOfPages shape dev)
+NextFills d shape trace phase (Some (Ended u (Branched n cause))) dev = DecisionFills d shape trace (Ended u (Branched n cause)) u [] dev ⊎ IsOfPages shape dev
 NextFills d shape trace phase e dev = ⊥
 
 -- the device is full behind the trace

@@ -21,13 +21,12 @@ use Rattle.salt_promise.specs.Promises.{Promises}
 use Rattle.salt_promise.specs.Status.{ends_between}
 use Rattle.salt_promise.specs.Standing.{AnswersTo, OpenAs}
 use Rattle.salt_promise.specs.Ways.{way_of}
-use Rattle.salt_stands.specs.LogDevices.{IsStoreLog}
 use Rattle.salt_stands.specs.Stands as opening
 use Rattle.salt_stands.specs.Stands.{Opening}
 use Rattle.salt_stands.specs.Turning.{turning}
 use Rattle.salt_stands.specs.Unspent.{OpensUnspent}
 use Rattle.salt_place.specs.declared.placement.Shape.{Shape}
-use Rattle.std.specs.Prelude.{Bool, IfSome, IsTrue, List, None, Option, Some, [], false, if◌then◌else◌, true, ℕ, ⊤, ◌&&◌, ◌<◌, ◌≡◌, ◌⊎◌}
+use Rattle.std.specs.Prelude.{Bool, IfSome, IsTrue, List, None, Option, Some, [], false, if◌then◌else◌, true, ℕ, ⊤, ◌&&◌, ◌*◌, ◌+◌, ◌<◌, ◌≡◌, ◌≤◌, ◌⊎◌}
 
 -- 1. THE WORDS SAY NO COMMAND
 
@@ -115,9 +114,9 @@ pub record RunsOver (r : Run) (command : Command) : Type 0 where
 
 -- THE RUN
 
--- each device that is no log of the shape keeps its images, one with pages too
+-- each device past those of the shape keeps its images: two of the coordinator, and of each part two logs and its pages
 abbrev pub AreOthersKept : Shape → (old new : View) → Type 0
-AreOthersKept shape old new = IsTrue old.told → (dev : ℕ) → dev < old.count → ¬ IsStoreLog shape.parts dev → Shrinks old new dev
+AreOthersKept shape old new = IsTrue old.told → (dev : ℕ) → dev < old.count → 2 + 3 * shape.parts ≤ dev → Shrinks old new dev
 
 abbrev pub ends_reading : Status → Bool
 ends_reading ReadFault = true
@@ -127,13 +126,15 @@ abbrev pub ends_writing : Status → Bool
 ends_writing WriteFault = true
 ends_writing status = false
 
+-- Of disks that tell it is promised how a run goes; of others, which may give what was not written, only what is counted of it and
+-- what it leaves alone.
 pub record RunsAs (r : Run) (command : Command) : Type 0 where
-  pub goes : FindsNothing r command ⊎ RunsOver r command
+  pub goes : IsTrue r.before.devices.told → FindsNothing r command ⊎ RunsOver r command
   pub source : FailsOnly (ends_reading r.status) r.before.source r.after.source
   pub sink : FailsOnly (ends_writing r.status) r.before.sink r.after.sink
   pub downs : Downs r.status r.before.devices.faults r.story r.after.devices.faults
   -- where no line arms pairs of messages, the story alone tells which stops were armed
-  pub stops : over_net_of command ≡ false → Stops r.status (armed_behind r.story (Some r.before.devices.armed)) r.after.devices.armed
+  pub stops : IsTrue r.before.devices.told → over_net_of command ≡ false → Stops r.status (armed_behind r.story (Some r.before.devices.armed)) r.after.devices.armed
   pub shape : SameShape r.before.devices r.after.devices
   pub others : AreOthersKept (shape_of command) r.before.devices r.after.devices
 

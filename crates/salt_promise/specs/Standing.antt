@@ -5,16 +5,12 @@ use Rattle.salt_bytes.specs.Generations.{Counts, WhichLog}
 use Rattle.salt_stands.specs.Fitting.{definitions_reading, kept_in}
 use Rattle.salt_model.specs.Kept.{Definition, Kept, OfProgram, OfTable}
 use Rattle.salt_model.specs.Printable.{IsSpelledProgram, IsSpelledTable}
-use Rattle.salt_model.specs.Tables.{Tables}
-use Rattle.salt_model.specs.Words.{is_empty}
-use Rattle.salt_stands.specs.Coordinator.{Coordinator, coordinator_at, coordinator_pair, device_of}
+use Rattle.salt_stands.specs.Coordinator.{coordinator_pair, device_of}
 use Rattle.salt_stands.specs.CoordinatorLog.{CoordinatorLog}
-use Rattle.salt_stands.specs.Partition.{pages_device, part_at, part_pair}
-use Rattle.salt_stands.specs.PartitionLog.{PartitionLog}
 use Rattle.salt_stands.specs.Stands as opening
 use Rattle.salt_stands.specs.Stands.{Found, Opening, Stands, stands_on, logs_of, opening_of}
 use Rattle.salt_place.specs.declared.placement.Shape.{Shape}
-use Rattle.std.specs.Prelude.{List, Ok, Option, Some, false, ℕ, ◌<◌, ◌↔◌, ◌≡◌, ◌⊎◌}
+use Rattle.std.specs.Prelude.{List, Ok, Option, Some, ℕ, ◌<◌, ◌↔◌, ◌≡◌, ◌⊎◌}
 
 -- the canonical text of a definition, which some text spells within the limits
 abbrev pub IsTextOf : Definition → List ℕ → Type 0
@@ -25,29 +21,13 @@ IsTextOf (OfProgram p) text = IsSpelledProgram p × (text ≡ program_text p)
 pub record IsReader (read : List ℕ → Option Definition) : Type 0 where
   pub each : (text : List ℕ) (d : Definition) → (read text ≡ Some d) ↔ IsTextOf d text
 
--- NOT READ YET are an older format, and pages
-
--- the coordinator's log that counts is of an older format
+-- NOT READ is an older format: the coordinator's log that counts is of one
 pub record IsOlder (bytes : ℕ → List ℕ) (dev : ℕ) : Type 0 where
   pub which : WhichLog
   pub log : CoordinatorLog
   pub counts : coordinator_pair (logs_of bytes) ≡ Counts which log
   pub older : log.header.format < 3
   pub device : dev ≡ device_of 0 which
-
--- the coordinator stands in the shape that is asked for, and so do the partitions before one whose log that counts names pages
-pub record NamesPages (read : List ℕ → Option Definition) (shape : Shape) (bytes : ℕ → List ℕ) (dev : ℕ) : Type 0 where
-  pub c : Coordinator Definition
-  pub found : coordinator_at (definitions_reading read) (logs_of bytes) ≡ Ok (Some c)
-  pub is_shape : c.log.header.shape ≡ shape
-  pub p : ℕ
-  pub low : p < shape.parts
-  pub before : (q : ℕ) → q < p → (tables : Tables) × (part_at (definitions_reading read) c (logs_of bytes) bytes q ≡ Ok tables)
-  pub which : WhichLog
-  pub log : PartitionLog
-  pub counts : part_pair p (logs_of bytes) ≡ Counts which log
-  pub names : is_empty log.header.sides ≡ false
-  pub device : dev ≡ pages_device p
 
 -- WHAT STANDS
 
@@ -59,16 +39,13 @@ pub record StandFor (shape : Shape) (bytes : ℕ → List ℕ) (k : Kept) : Type
   pub is : stands_on (definitions_reading read) bytes shape ≡ Ok found
   pub has_shape : found.shape ≡ shape
   pub newest : found.format ≡ 3
-  pub no_pages : (dev : ℕ) → NamesPages read shape bytes dev → ⊥
   pub keeps : kept_in found ≡ k
 
 -- HOW THEY OPEN
 
 abbrev pub IsAnswer : (read : List ℕ → Option Definition) → Shape → (bytes : ℕ → List ℕ) → Opening Definition → Type 0
-IsAnswer read shape bytes (Stands found) =
-    (opening_of (definitions_reading read) bytes shape ≡ Stands found) × (found.format ≡ 3) × ((dev : ℕ) → NamesPages read shape bytes dev → ⊥)
-IsAnswer read shape bytes (opening.NotSalt dev) =
-    (opening_of (definitions_reading read) bytes shape ≡ opening.NotSalt dev) ⊎ (NamesPages read shape bytes dev ⊎ IsOlder bytes dev)
+IsAnswer read shape bytes (Stands found) = (opening_of (definitions_reading read) bytes shape ≡ Stands found) × (found.format ≡ 3)
+IsAnswer read shape bytes (opening.NotSalt dev) = (opening_of (definitions_reading read) bytes shape ≡ opening.NotSalt dev) ⊎ IsOlder bytes dev
 IsAnswer read shape bytes answer = opening_of (definitions_reading read) bytes shape ≡ answer
 
 -- what an opening that asks for this shape answers of the bytes

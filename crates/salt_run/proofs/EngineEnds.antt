@@ -14,6 +14,7 @@ use Rattle.salt_devices.specs.Holding.{net_in, setup_in}
 use Rattle.salt_devices.specs.Standing.{RestsAs, StandsHeld, StandsLeft}
 use Rattle.salt_devices.specs.declared.devices.Devices.{Devices}
 use Rattle.salt_disk.specs.Disks.{AreUnchanged, IsUnchanged, KeepsAll, SameShape, View}
+use Rattle.salt_disk.specs.declared.disks.DiskErr.TheVariants as disk
 use Rattle.salt_disk.specs.declared.disks.DiskErr.{DiskErr}
 use Rattle.salt_engine.specs.Flights.{flight_of}
 use Rattle.salt_engine.specs.Netted.{CanReopenNet}
@@ -140,7 +141,8 @@ module _ (command : Command) (d : View) (started0 : Bool) (shape0 : Shape) (was 
   -- nothing: what they stood for rests there
   module _ (e : View) (shape : Shape) (started : Bool) (asked : shape ≡ shape0) (rests : (k : Kept) → FindsKept d started0 shape0 k → RestsAs shape started e k) (reason : OpenErr) (story : List Event)
       (x : FailsToFind (RefusesDevices d started0 shape0) (FindsKept d started0 shape0) (RefusesDevices e started shape) (FindsKept e started shape) (FillsIn e shape) reason story)
-      (kept : (refusal : OpenErr) → IsRefusal refusal → RefusesDevices d started0 shape0 refusal → IsTrue d.told → KeepsAll d e (open_disk_err_of reason) × (story ≡ [])) where
+      (kept : (refusal : OpenErr) → IsRefusal refusal → RefusesDevices d started0 shape0 refusal → IsTrue d.told → KeepsAll d e (open_disk_err_of reason) × (story ≡ []))
+      (room : (refusal : OpenErr) → IsRefusal refusal → RefusesDevices d started0 shape0 refusal → IsTrue d.told → (dev : ℕ) → open_disk_err_of reason ≡ Some (disk.Full dev) → ⊥) where
     now : shape ≡ shape_of command
     now = asked ∙ asked0
 
@@ -149,6 +151,10 @@ module _ (command : Command) (d : View) (started0 : Bool) (shape0 : Shape) (was 
 
     unwritten : (status : Status) → IsStatusOf reason status → (refusal : OpenErr) → IsRefusal refusal → RefusesDevices d true (shape_of command) refusal → IsTrue d.told → AreAsBefore (may_have_failed status) d e × (story ≡ [])
     unwritten status is r refusal h tells = let k = kept r refusal (refuses-then r h) tells in (as-before d e reason status is k.0, k.1)
+
+    unfilled : (status : Status) → IsStatusOf reason status → (refusal : OpenErr) → IsRefusal refusal → RefusesDevices d true (shape_of command) refusal → IsTrue d.told → (dev : ℕ) → status ≡ DeviceFull dev → ⊥
+    unfilled status (inl same) r refusal h tells dev full = room r refusal (refuses-then r h) tells dev (ap open_disk_err_of (full-reason reason dev (sym same ∙ full)))
+    unfilled status (inr w) r refusal h tells dev full = not-full status dev w.0 full
 
     finds-then : (k : Kept) → FindsKept d true (shape_of command) k → FindsKept d started0 shape0 k
     finds-then k h = subst (λ (s : Shape). FindsKept d started0 s k) (sym asked0) (subst (λ (b : Bool). FindsKept d b (shape_of command) k) (sym was) h)
@@ -170,6 +176,7 @@ module _ (command : Command) (d : View) (started0 : Bool) (shape0 : Shape) (was 
       rests = λ k h told image left. subst (λ (s : Shape). StandsFor s image k) now (stands-alone shape started e k (rests k (finds-then k h)) told image left);
       full = λ dev full. by dev full is;
       unwritten = unwritten status is;
+      unfilled = unfilled status is;
     }
       where
         by : (dev : ℕ) → status ≡ DeviceFull dev → IsStatusOf reason status → FillsIn e (shape_of command) OfOpening dev
@@ -196,12 +203,12 @@ opens-over can k can_stop early over_net setup net found over begun opens = λ p
 -- an opening of what was found can be opened
 abbrev pub can_open : View → Opening Devices → ℕ → Point → Type 0
 can_open d o room p =
-    opening_can_reopen (λ x k. StandsHeld x.shape x.started x.store x.pending d k) (λ x a b. StandsLeft x.shape x.started x.store x.pending d a b) d.can_stop o room p ×
+    opening_can_reopen (λ x k. StandsHeld x.shape x.started x.store x.pending d k) (λ x a b. StandsLeft x.shape x.started x.store x.numbers x.pending d a b) d.can_stop o room p ×
     CanReopenNet (setup_in o.storage.shape o.storage.over_net) (net_in o.storage.store) o.found p.state
 
 abbrev pub left_by : View → Opening Devices → OnDevices
 left_by d o =
-    on_devices (can_open d o) (λ numbers room p. opening_stands_for_kept (λ x k. StandsHeld x.shape x.started x.store x.pending d k) (λ x a b. StandsLeft x.shape x.started x.store x.pending d a b)
+    on_devices (can_open d o) (λ numbers room p. opening_stands_for_kept (λ x k. StandsHeld x.shape x.started x.store x.pending d k) (λ x a b. StandsLeft x.shape x.started x.store x.numbers x.pending d a b)
     (λ x k. RestsAs x.shape x.started d k) o numbers room p) (λ w dev. FillsIn d o.storage.shape w dev)
 
 pub begins-found : (k : Kept) (early over_net : Bool) (o : Opening Devices) (y : Devices) (d mid : View) (story : List Event) → o.storage ≡ y → y.over_net ≡ over_net → net_in y.store ≡ net_begun (setup_in y.shape y.over_net) →
@@ -210,10 +217,10 @@ pub begins-found : (k : Kept) (early over_net : Bool) (o : Opening Devices) (y :
 begins-found k early over_net o y d mid story same over begun new holding sound unfound counts =
     begins-over k mid.can_stop early over_net (left_by mid o) (flight_of o.in_flight) d mid story unfound sound
     (opens-over (CanReopenAt (λ k. StandsHeld o.storage.shape o.storage.started o.storage.store o.storage.pending mid k)
-    (λ a b. StandsLeft o.storage.shape o.storage.started o.storage.store o.storage.pending mid a b) mid.can_stop o.found (opening_books o.stage) o.single o.in_flight) k mid.can_stop early over_net (setup_in o.storage.shape o.storage.over_net) (net_in o.storage.store) o.found (ap (λ (x : Devices). x.over_net) same ∙ over)
+    (λ a b. StandsLeft o.storage.shape o.storage.started o.storage.store o.storage.numbers o.storage.pending mid a b) mid.can_stop o.found (opening_books o.stage) o.single o.in_flight) k mid.can_stop early over_net (setup_in o.storage.shape o.storage.over_net) (net_in o.storage.store) o.found (ap (λ (x : Devices). x.over_net) same ∙ over)
     (subst (λ (x : Devices). net_in x.store ≡ net_begun (setup_in x.shape x.over_net)) (sym same) begun)
     (opened-first (λ k. StandsHeld o.storage.shape o.storage.started o.storage.store o.storage.pending mid k)
-    (λ a b. StandsLeft o.storage.shape o.storage.started o.storage.store o.storage.pending mid a b) mid.can_stop o.found o.stage o.single o.in_flight early over_net k new
+    (λ a b. StandsLeft o.storage.shape o.storage.started o.storage.store o.storage.numbers o.storage.pending mid a b) mid.can_stop o.found o.stage o.single o.in_flight early over_net k new
     (subst (λ (x : Devices). StandsHeld x.shape x.started x.store x.pending mid k) (sym same) holding) sound)) (ap flight_of new.none) counts
 
 -- AND ENDS
@@ -270,7 +277,7 @@ module _ (e : View) where
   held x k = StandsHeld x.shape x.started x.store x.pending e k
 
   abbrev left : Devices → Kept → Kept → Type 0
-  left x a b = StandsLeft x.shape x.started x.store x.pending e a b
+  left x a b = StandsLeft x.shape x.started x.store x.numbers x.pending e a b
 
   abbrev rested : Devices → Kept → Type 0
   rested x k = RestsAs x.shape x.started e k
@@ -278,7 +285,7 @@ module _ (e : View) where
   ends-over : (x : Devices) (target : Shape) → x.shape ≡ target → (found : Option Numbers) (books : Option Books) (single : Bool) (i : Option InFlight) (status : Status) (trace : Trace) →
       IsPlayed trace → EndsFound (left_on_devices (held x) (left x) (rested x) (FillsIn e x.shape) e.can_stop found books single i) status trace → EndsBehind e target status (flight_at status (flight_of i)) trace
   ends-over x target same found books single i status trace played f =
-      subst (λ (s : Shape). EndsBehind e s status (flight_at status (flight_of i)) trace) same (ends-behind x.shape x.started x.store x.pending e found books single i status trace played f)
+      subst (λ (s : Shape). EndsBehind e s status (flight_at status (flight_of i)) trace) same (ends-behind x.shape x.started x.store x.numbers x.pending e found books single i status trace played f)
 
   abbrev LeftIn : Database Devices → Option Numbers → ℕ → Point → Type 0
   LeftIn x numbers room p = database_stands_for_kept held left rested x numbers room p

@@ -3,7 +3,7 @@ use Rattle.salt_bytes.specs.Coordinator.{spell_header}
 use Rattle.salt_bytes.specs.Partition.{spell_partition_header}
 use Rattle.salt_commit.proofs.Shared.{mask_bit, share_is}
 use Rattle.salt_commit.specs.Openings.{PartPassesLimit, StorePassesLimit}
-use Rattle.salt_commit.specs.Shares.{has_changes, mask_of, shares_of}
+use Rattle.salt_commit.specs.Shares.{mask_of, shares_of}
 use Rattle.salt_decisions.specs.Opened.{FullAtFirst, first_payload}
 use Rattle.salt_devices.specs.Filling as filling
 use Rattle.salt_devices.specs.Filling.{FillsDevice}
@@ -26,7 +26,7 @@ use Rattle.salt_model.specs.declared.events.End.TheVariants.{Branched, Committed
 use Rattle.salt_model.specs.declared.events.End.{End}
 use Rattle.salt_model.specs.declared.events.Event.TheVariants.{Defined, Ended}
 use Rattle.salt_model.specs.declared.events.Event.{Event}
-use Rattle.salt_promise.specs.Filling.{DecisionFills, FirstFills, NewPairFills, NextFills}
+use Rattle.salt_promise.specs.Filling.{DecisionFills, FirstFills, IsOfPages, NewPairFills, NextFills}
 use Rattle.salt_promise.specs.Filling as promise
 use Rattle.salt_run.specs.Ending.{IsFullBehind}
 use Rattle.salt_loop.specs.Ending.{MayBeWritten}
@@ -36,8 +36,9 @@ use Rattle.salt_stands.specs.Partition.{part_device}
 use Rattle.salt_stands.specs.Placed.{changes_at}
 use Rattle.salt_stands.specs.Turning.{changes_of, change_at}
 use Rattle.salt_stands.specs.Words.{has_bit}
+use Rattle.salt_shares.specs.Shares.{has_changes}
 use Rattle.salt_driver.specs.Writing.{IsUnitWritten, IsWrittenBy, changes_decided}
-use Rattle.salt_storage.specs.Writing.{OfUnit, ToWrite}
+use Rattle.salt_storage.specs.Writing.{OfOpening, OfUnit, ToWrite}
 use Rattle.salt_values.specs.declared.change.Change.{Change}
 use Rattle.salt_values.specs.declared.id.Id.{Id}
 use Rattle.salt_place.specs.declared.placement.Shape.{Shape}
@@ -86,6 +87,11 @@ module _ (d : View) (shape : Shape) (dev : ℕ) where
       part : (p : PartPassesLimit d shape.parts dev) → NewPairFills d (part_device p.p) (spell_partition_header (first_part_header 2 p.p)) dev
       part p = elim p.passes [ inl a ↦ inr a | inr b ↦ inl b ]
 
+  -- or one behind a fall
+  pub opening-fills : (trace : Trace) (e : Option Event) → FillsDevice d shape OfOpening dev → NextFills d shape trace Fallen e dev
+  opening-fills trace e (inl f) = inl (first-fills f)
+  opening-fills trace e (inr h) = inr (inr (record { p = h.p; low = h.low; device = h.is }))
+
   -- WHAT COMES NEXT
 
   module _ (trace : Trace) (played : IsPlayed trace) (p : Point) (keeps : KeepsPoint p trace) where
@@ -102,12 +108,9 @@ module _ (d : View) (shape : Shape) (dev : ℕ) where
         ap (changes_decided (Committed n)) r.1 ∙ ap (map change_at) (sym r.3.changes) ∙ ap (λ (v : Id). changes_of v trace) r.2
 
     decision : (u : Id) (end : End) (cs : List Change) → Good trace (Ended u end) → (w : ToWrite) → FillsDevice d shape w dev → IsUnitWritten s u end w → changes_decided end (unit_named u s.units) ≡ cs →
-        promise.ShareFills d shape u cs dev ⊎ DecisionFills d shape trace (Ended u end) u cs dev
-    decision u end cs good w fills x same = elim written [ inl f ↦ inr (decides f) | inr f ↦ inl (share-fills u cs f) ]
+        promise.ShareFills d shape u cs dev ⊎ (DecisionFills d shape trace (Ended u end) u cs dev ⊎ IsOfPages shape dev)
+    decision u end cs good w fills x same = by written
       where
-        written : promise.EntryFills d (filling.decision_entry shape u cs x.made) dev ⊎ filling.ShareFills d shape u cs dev
-        written = subst (λ (l : List Change). FillsDevice d shape (OfUnit u l x.made) dev) same (subst (λ (v : ToWrite). FillsDevice d shape v dev) x.writes fills)
-
         decides : promise.EntryFills d (filling.decision_entry shape u cs x.made) dev → DecisionFills d shape trace (Ended u end) u cs dev
         decides f = record {
           mask = mask_of (shares_of shape cs);
@@ -118,6 +121,15 @@ module _ (d : View) (shape : Shape) (dev : ℕ) where
               ∙ ap (λ (k : Kept). Some k.conts) (sym (kept-says s trace (Ended u end) ground good keeps.state.units));
           fills = f;
         }
+
+        by : FillsDevice d shape (OfUnit u cs x.made) dev →
+            promise.ShareFills d shape u cs dev ⊎ (DecisionFills d shape trace (Ended u end) u cs dev ⊎ IsOfPages shape dev)
+        by (inl f) = inr (inl (decides f))
+        by (inr (inl f)) = inl (share-fills u cs f)
+        by (inr (inr h)) = inr (inr (record { p = h.p; low = h.low; device = h.is }))
+
+        written : FillsDevice d shape (OfUnit u cs x.made) dev
+        written = subst (λ (l : List Change). FillsDevice d shape (OfUnit u l x.made) dev) same (subst (λ (v : ToWrite). FillsDevice d shape v dev) x.writes fills)
 
     told-next : (ph : Phase) → phase trace ≡ ph → (o : Option Event) → next trace ≡ o → IfSome (Good trace) o → (w : ToWrite) → IsWrittenBy s o w → FillsDevice d shape w dev → NextFills d shape trace ph o dev
     told-next Fallen is None comes good w h fills = absurd h
@@ -134,6 +146,9 @@ full-behind d shape trace dev played f = by f.writes
     by (inl h) =
         told-next d shape dev trace played f.point f.keeps (phase trace) refl (next trace) refl (replays trace played).coming f.next
         (subst (λ (o : Option Event). IsWrittenBy f.point.state.units o f.next) (sym f.keeps.next) h) f.fills
-    by (inr h) =
-        subst (λ (ph : Phase). NextFills d shape trace ph (next trace) dev) (sym (f.keeps.state.units.phase ∙ h.0))
-        (inr (subst (λ (v : ToWrite). FillsDevice d shape v dev) h.1 f.fills))
+    by (inr (down, inl opening)) =
+        subst (λ (ph : Phase). NextFills d shape trace ph (next trace) dev) (sym (f.keeps.state.units.phase ∙ down))
+        (opening-fills d shape dev trace (next trace) (subst (λ (v : ToWrite). FillsDevice d shape v dev) opening f.fills))
+    by (inr (down, inr boot)) =
+        subst (λ (ph : Phase). NextFills d shape trace ph (next trace) dev) (sym (f.keeps.state.units.phase ∙ down))
+        (inr (inl (subst (λ (v : ToWrite). FillsDevice d shape v dev) boot f.fills)))

@@ -1,5 +1,4 @@
 -- How a run goes: its devices are refused, or it runs over what they stand for.
-use Rattle.salt_bytes.specs.Log.{entries_in}
 use Rattle.law_definitions.specs.Texts.{definition_in}
 use Rattle.salt_stands.specs.Fitting.{kept_in}
 use Rattle.salt_devices.specs.Refusing.{RefusedAs, RefusesDevices}
@@ -16,7 +15,7 @@ use Rattle.salt_promise.specs.Runs.{AreAsBefore, EndsRefused, may_have_failed}
 use Rattle.salt_promise.specs.Standing.{AnswersTo, IsReader}
 use Rattle.salt_promise.specs.declared.status.Status.TheVariants.{DeviceFull}
 use Rattle.salt_promise.specs.declared.status.Status.{Status}
-use Rattle.salt_run.proofs.Answering.{OpensHere, RefusedHere, answered, blank-opens, opens-here, stands-here, well-here}
+use Rattle.salt_run.proofs.Answering.{OpensHere, RefusedHere, answered, opens-here, stands-here, well-here}
 use Rattle.salt_run.proofs.EngineEnds.{any-start, refused-so}
 use Rattle.salt_run.proofs.Promised.{over, streams_of}
 use Rattle.salt_run.proofs.Refused.{by-reason, nothing, nothing-well}
@@ -25,10 +24,8 @@ use Rattle.salt_run.proofs.Unopened.{IsEndOver, ended-spent, halted, unopened}
 use Rattle.salt_run.specs.Doing.{Does}
 use Rattle.salt_run.specs.Running.{FindsNothing, Runs}
 use Rattle.salt_loop.specs.Ending.{IsStatusOf}
-use Rattle.salt_stands.proofs.Pairs.{pair_same}
-use Rattle.salt_stands.specs.CoordinatorLog.{coordinator_generation, coordinator_in}
 use Rattle.salt_stands.specs.Stands as opening
-use Rattle.salt_stands.specs.Stands.{Opening, logs_of}
+use Rattle.salt_stands.specs.Stands.{Opening}
 use Rattle.salt_storage.specs.Answers.{IsLater, IsRefusal, halted_by}
 use Rattle.salt_storage.specs.declared.halt.Halt.TheVariants as halt
 use Rattle.salt_storage.specs.declared.halt.Halt.{Halt}
@@ -38,7 +35,7 @@ use Rattle.salt_storage.specs.OpenErr.{OpenErr}
 use Rattle.salt_place.specs.Placement.{IsParts}
 use Rattle.salt_place.specs.declared.placement.Shape.{Shape}
 use Rattle.salt_promise.specs.declared.command.Command.{Command}
-use Rattle.std.proofs.Common.{ap, inl, inr, subst, sym, ◌∙◌}
+use Rattle.std.proofs.Common.{inl, inr, subst, sym, ◌∙◌}
 use Rattle.std.specs.Prelude.{Bool, IsTrue, List, [], false, refl, true, ℕ, ◌≡◌, ◌≤◌, ◌⊎◌}
 
 not-told : (told : Bool) → told ≡ false → IsTrue told → ⊥
@@ -112,11 +109,7 @@ module _ (reads : IsReader definition_in) (r : Run) (command : Command) (parts :
         before = x.unwritten h.refusal h.some (λ t. record { image = r.before.devices.bytes; comes = λ dev low. refl; is = h.is }) told
 
         never-full : (dev : ℕ) → r.status ≡ DeviceFull dev → ⊥
-        never-full dev so =
-            let now : IsTrue r.after.devices.told = shape.told ∙ told in
-            let kept = before.0.unchanged (ap may_have_failed so) in
-            let pair = pair_same coordinator_generation coordinator_in 0 (logs_of r.after.devices.bytes) (logs_of r.before.devices.bytes) (ap entries_in (sym (kept.each 0).bytes)) (ap entries_in (sym (kept.each 1).bytes)) in
-            blank-opens (shape_of command) r.before.devices.bytes (pair ∙ (x.full dev so now).blank) h
+        never-full dev so = x.unfilled h.refusal h.some (λ t. record { image = r.before.devices.bytes; comes = λ dev low. refl; is = h.is }) told dev so
 
         ends : EndsAnyway r.status
         ends = ends-anyway e r.status status never-full

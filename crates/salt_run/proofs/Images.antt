@@ -27,9 +27,9 @@ pub may-come : (d : View) (started : Bool) → (started ≡ true → AreSettled 
 may-come d true settled image left = λ dev low. (settled refl).each dev low (image dev) (left dev low)
 may-come d false settled image left = left
 
-module _ (shape : Shape) (started : Bool) (o : Option Store) (q : Pending) (d : View)
+module _ (shape : Shape) (started : Bool) (o : Option Store) (n : Numbers) (q : Pending) (d : View)
     (told : IsTrue d.told) (doubt : Type 0) (room : ℕ) (p : Point) (image : ℕ → List ℕ) (left : IsImage d image) where
-  either : (a b : Kept) → StandsLeft shape started o q d a b → IsLeft doubt room p a → IsLeft doubt room p b → StandsAt shape doubt room p image
+  either : (a b : Kept) → StandsLeft shape started o n q d a b → IsLeft doubt room p a → IsLeft doubt room p b → StandsAt shape doubt room p image
   either a b h first second =
       elim (h.leaves told image (may-come d started h.can.settled image left)).stands [
         | inl s ↦ record { found = a; stands = s; left = first }
@@ -37,14 +37,14 @@ module _ (shape : Shape) (started : Bool) (o : Option Store) (q : Pending) (d : 
       ]
 
   in-one : (o : Option Store) (k : Kept) → HoldsIn d shape o k → StandsFor shape image k
-  in-one (Some x) k h = held_image d shape x k h told image left
+  in-one (Some x) k h = held_image d shape x k h image left
   in-one None k h = absurd h
 
   held : (k : Kept) → StandsHeld shape started o q d k → IsLeft doubt room p k → StandsAt shape doubt room p image
   held k h here = record { found = k; stands = in-one o k h.held; left = here }
 
   abbrev LeftHere : Option Numbers → Type 0
-  LeftHere found = LeavesOnDevices (StandsHeld shape started o q d) (StandsLeft shape started o q d) doubt found room p
+  LeftHere found = LeavesOnDevices (StandsHeld shape started o q d) (StandsLeft shape started o n q d) doubt found room p
 
   pub stands-left : (found : Option Numbers) → LeftHere found → StandsAt shape doubt room p image
   stands-left (Some numbers) h = held h.0 h.1 h.2

@@ -31,12 +31,12 @@ in-doubt (NumbersSpent boot decisions) i h = tt
 in-doubt status (Some f) h = tt
 in-doubt status None h = absurd (cc h)
 
-module _ (shape : Shape) (started : Bool) (o : Option Store) (q : Pending) (d : View)
+module _ (shape : Shape) (started : Bool) (o : Option Store) (n : Numbers) (q : Pending) (d : View)
     (found : Option Numbers) (books : Option Books) (single : Bool) (i : Option InFlight) (status : Status) (trace : Trace) (played : IsPlayed trace) where
   abbrev LeftAt : Option Numbers → ℕ → Point → Type 0
-  LeftAt numbers room p = LeavesOnDevices (StandsHeld shape started o q d) (StandsLeft shape started o q d) (IsSome i) found room p × IsAlone (RestsAs shape started d) numbers room p
+  LeftAt numbers room p = LeavesOnDevices (StandsHeld shape started o q d) (StandsLeft shape started o n q d) (IsSome i) found room p × IsAlone (RestsAs shape started d) numbers room p
 
-  module _ (x : EndsFound (left_on_devices (StandsHeld shape started o q d) (StandsLeft shape started o q d) (RestsAs shape started d) (FillsIn d shape) d.can_stop found books single i) status trace) where
+  module _ (x : EndsFound (left_on_devices (StandsHeld shape started o q d) (StandsLeft shape started o n q d) (RestsAs shape started d) (FillsIn d shape) d.can_stop found books single i) status trace) where
     images : IsTrue d.told → (image : ℕ → List ℕ) → IsImage d image → StandsBehind shape status (flight_at status (flight_of i)) trace image
     images told image is = by status x.stands
       where
@@ -48,7 +48,7 @@ module _ (shape : Shape) (started : Bool) (o : Option Store) (q : Pending) (d : 
           numbers = (sym h.1.boot_is, sym h.1.decisions_are);
         }
         by t h =
-            let s : StandsAt shape (IsSome i) x.room x.point image = stands-left shape started o q d told (IsSome i) x.room x.point image is found h.0 in
+            let s : StandsAt shape (IsSome i) x.room x.point image = stands-left shape started o n q d told (IsSome i) x.room x.point image is found h.0 in
             record { found = s.found; stands = s.stands; is = is-behind trace played x.point x.keeps (IsSome i) (IsInDoubt t (flight_of i)) (in-doubt t i) x.room s.found x.boots s.left; numbers = tt }
 
     spent : (boot decisions : ℕ) → status ≡ NumbersSpent boot decisions → AreSpentBehind trace boot decisions

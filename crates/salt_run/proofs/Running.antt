@@ -28,7 +28,7 @@ use Rattle.salt_promise.specs.declared.command.Command.TheVariants.{Load, Script
 use Rattle.salt_promise.specs.declared.command.Command.{Command}
 use Rattle.salt_devices.specs.Holding.{setup_in}
 use Rattle.std.proofs.Common.{inl, inr, ◌∙◌}
-use Rattle.std.specs.Prelude.{Bool, List, Some, false, refl, ℕ, ◌≡◌, ◌≤◌}
+use Rattle.std.specs.Prelude.{Bool, IsTrue, List, Some, false, refl, ℕ, ◌≡◌, ◌≤◌}
 
 -- STREAMS fail only where the run ends by that
 
@@ -61,23 +61,24 @@ module _ (reads : IsReader definition_in) (r : Run) (count : 26 ≤ r.before.dev
   stops-told command (inr x) off = x.armed
 
   counted : (command : Command) → IsCommand command → StaysWithin (setup_of command) (setup_of command) r.before.devices r.after.devices →
-      ((trace : Trace) → Does command r.status (streams_of r) trace → promise.Does command r trace) → Runs command r.before.devices r.after.devices r.status r.flight r.net (streams_of r) r.story → RunsAs r command
+      ((trace : Trace) → Does command r.status (streams_of r) trace → promise.Does command r trace) →
+      (IsTrue r.before.devices.told → Runs command r.before.devices r.after.devices r.status r.flight r.net (streams_of r) r.story) → RunsAs r command
   counted command limits within does runs = record {
-    goes = goes reads r command (parts-of-command command limits) count within.shape does agrees runs;
+    goes = λ told. goes reads r command (parts-of-command command limits) count within.shape does agrees (runs told);
     source = reads-fail r.status r.before.source r.after.source read_fault no_read_fault reads_later;
     sink = writes-fail r.status r.before.sink r.after.sink write_fault no_write_fault writes_later;
     downs = downs-of r.status r.before.devices.faults r.story r.after.devices.faults downs;
-    stops = stops-told command runs;
+    stops = λ told. stops-told command (runs told);
     shape = within.shape;
     others = within.others;
   }
 
   pub script-runs : (shape : Shape) (early over_net : Bool) → r.command ≡ Some (Script shape early over_net) → IsCommand (Script shape early over_net) →
       StaysWithin (setup_in shape over_net) (setup_in shape over_net) r.before.devices r.after.devices → (r.status ≡ Done → IsAtEnd r.after.source.bytes) →
-      Runs (Script shape early over_net) r.before.devices r.after.devices r.status r.flight r.net (streams_of r) r.story → promised.Runs r
+      (IsTrue r.before.devices.told → Runs (Script shape early over_net) r.before.devices r.after.devices r.status r.flight r.net (streams_of r) r.story) → promised.Runs r
   script-runs shape early over_net is limits within end runs =
       runs_as is (counted (Script shape early over_net) limits within (λ trace. script-does r shape early over_net trace end) runs)
 
   pub load-runs : (calls : ℕ) → r.command ≡ Some (Load calls) → IsCommand (Load calls) → StaysWithin (setup_in (shape_of (Load calls)) false) (setup_in (shape_of (Load calls)) false) r.before.devices r.after.devices →
-      r.after.source ≡ r.before.source → Runs (Load calls) r.before.devices r.after.devices r.status r.flight r.net (streams_of r) r.story → promised.Runs r
+      r.after.source ≡ r.before.source → (IsTrue r.before.devices.told → Runs (Load calls) r.before.devices r.after.devices r.status r.flight r.net (streams_of r) r.story) → promised.Runs r
   load-runs calls is limits within unread runs = runs_as is (counted (Load calls) limits within (λ trace. load-does r calls trace unread) runs)

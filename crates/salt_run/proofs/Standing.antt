@@ -1,59 +1,20 @@
 -- What devices stand for, and how they open, by the reader that there is.
 use Rattle.law_definitions.specs.Texts.{definition_in}
-use Rattle.salt_commit.specs.Openings.{LeavesPages}
 use Rattle.salt_devices.proofs.Answered.{AreAlike, same_finds}
 use Rattle.salt_devices.specs.Leaving.{MayCome, StandsFor}
 use Rattle.salt_devices.specs.Refusing.{FindsKept, RefusedAs, RefusesDevices}
 use Rattle.salt_disk.specs.Disks.{View}
 use Rattle.salt_model.specs.Kept.{Kept}
-use Rattle.salt_model.specs.Words.{is_empty}
-use Rattle.salt_partition.specs.Openings.{are_some}
 use Rattle.salt_promise.proofs.Opens.{opens}
-use Rattle.salt_promise.specs.Standing.{AnswersTo, IsReader, NamesPages, OpenAs, StandFor}
+use Rattle.salt_promise.specs.Standing.{AnswersTo, IsReader, OpenAs, StandFor}
 use Rattle.salt_stands.specs.Stands as opening
 use Rattle.salt_stands.specs.Stands.{are_spent}
 use Rattle.salt_storage.specs.OpenErr.TheVariants as open_err
 use Rattle.salt_storage.specs.OpenErr.{OpenErr}
 use Rattle.salt_place.specs.Placement.{IsParts}
 use Rattle.salt_place.specs.declared.placement.Shape.{Shape}
-use Rattle.std.proofs.Common.{arith, inl, inr, sym, ◌∙◌}
-use Rattle.std.specs.Prelude.{IsTrue, List, [], false, refl, true, ℕ, ◌*◌, ◌+◌, ◌<◌, ◌∷◌, ◌≡◌, ◌≤◌}
-
--- PAGES are named alike
-
-some-not-empty : (sides : List ℕ) → are_some sides ≡ true → is_empty sides ≡ false
-some-not-empty [] h = absurd (cc h)
-some-not-empty (side ∷ sides) h = refl
-
-not-empty-some : (sides : List ℕ) → is_empty sides ≡ false → are_some sides ≡ true
-not-empty-some [] h = absurd (cc h)
-not-empty-some (side ∷ sides) h = refl
-
-pub pages-named : (shape : Shape) (bytes : ℕ → List ℕ) (dev : ℕ) → LeavesPages shape bytes dev → NamesPages definition_in shape bytes dev
-pages-named shape bytes dev l = record {
-  c = l.c;
-  found = l.found;
-  is_shape = l.is_shape;
-  p = l.p;
-  low = l.low;
-  before = l.before;
-  which = l.names.which;
-  log = l.names.log;
-  counts = l.names.counts;
-  names = some-not-empty l.names.log.header.sides l.names.names;
-  device = l.names.device;
-}
-
-pub pages-left : (shape : Shape) (bytes : ℕ → List ℕ) (dev : ℕ) → NamesPages definition_in shape bytes dev → LeavesPages shape bytes dev
-pages-left shape bytes dev n = record {
-  c = n.c;
-  found = n.found;
-  is_shape = n.is_shape;
-  p = n.p;
-  low = n.low;
-  before = n.before;
-  names = record { which = n.which; log = n.log; counts = n.counts; names = not-empty-some n.log.header.sides n.names; device = n.device };
-}
+use Rattle.std.proofs.Common.{arith, sym, ◌∙◌}
+use Rattle.std.specs.Prelude.{IsTrue, List, false, refl, true, ℕ, ◌*◌, ◌+◌, ◌<◌, ◌≡◌, ◌≤◌}
 
 -- WHAT IS COME UPON at first is what the devices hold
 
@@ -90,7 +51,6 @@ module _ (reads : IsReader definition_in) where
     is = s.is;
     has_shape = s.has_shape;
     newest = s.newest;
-    no_pages = λ dev n. s.no_pages dev (pages-left shape image dev n);
     keeps = s.keeps;
   }
 
@@ -99,10 +59,7 @@ module _ (reads : IsReader definition_in) where
 
   -- a refusal, as it is answered
   pub answers-salt : (shape : Shape) (bytes : ℕ → List ℕ) (dev : ℕ) → RefusedAs shape bytes (open_err.NotSalt dev) → AnswersTo shape bytes (opening.NotSalt dev)
-  answers-salt shape bytes dev (inl is) = record { read = definition_in; reads = reads; is = inl is }
-  answers-salt shape bytes dev (inr (inl pages)) = record { read = definition_in; reads = reads; is = inr (inl (pages-named shape bytes dev pages)) }
-  answers-salt shape bytes dev (inr (inr o)) =
-      record { read = definition_in; reads = reads; is = inr (inr (record { which = o.which; log = o.log; counts = o.counts; older = o.older; device = o.device })) }
+  answers-salt shape bytes dev is = record { read = definition_in; reads = reads; is = is }
 
   pub answers-shape : (shape : Shape) (bytes : ℕ → List ℕ) (kept asked : Shape) → RefusedAs shape bytes (open_err.OtherShape kept asked) → AnswersTo shape bytes (opening.OtherShape kept asked)
   answers-shape shape bytes kept asked is = record { read = definition_in; reads = reads; is = is }

@@ -1,7 +1,6 @@
 -- A run stays within what it was asked for.
 use Rattle.salt_disk.specs.Disks.{View}
-use Rattle.salt_stands.specs.LogDevices.{IsStoreLog}
-use Rattle.salt_storage.specs.Staying.{Setup, StaysWithin}
+use Rattle.salt_storage.specs.Staying.{IsBeyond, Setup, StaysWithin}
 use Rattle.std.proofs.Common.{subst, sym}
 use Rattle.std.specs.Prelude.{refl, ◌≡◌}
 
@@ -9,7 +8,7 @@ pub stays-as : (was is target : Setup) (d e : View) → was ≡ target → Stays
 stays-as was is target d e same h = record {
   asked = refl;
   shape = h.shape;
-  others = λ told dev low out. h.others told dev low (subst (λ (s : Setup). ¬ IsStoreLog s.shape.parts dev) (sym same) out);
+  others = λ told dev low out. h.others told dev low (subst (λ (s : Setup). IsBeyond s.shape dev) (sym same) out);
 }
 
 -- it begins by another name of that

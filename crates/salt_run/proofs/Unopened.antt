@@ -29,7 +29,7 @@ use Rattle.salt_promise.specs.Standing.{IsReader, OpenAs}
 use Rattle.salt_promise.specs.Status.{ends_between}
 use Rattle.salt_promise.specs.declared.status.Status.TheVariants.{DeviceFull, DiskFault, Memory, NumbersSpent, WriteFault}
 use Rattle.salt_promise.specs.declared.status.Status.{Status}
-use Rattle.salt_run.proofs.Full.{first-fills}
+use Rattle.salt_run.proofs.Full.{opening-fills}
 use Rattle.salt_run.proofs.Promised.{streams_of}
 use Rattle.salt_run.proofs.Standing.{stand-for}
 use Rattle.salt_run.proofs.Unwritten.{not-nil}
@@ -175,7 +175,7 @@ module _ (reads : IsReader definition_in) (r : Run) (command : Command)
   full : (dev : ℕ) → r.status ≡ DeviceFull dev → IsTrue r.after.devices.told → IsFullBehind r.after.devices (shape_of command) replays.trace dev
   full dev so told =
       subst (λ (ph : Phase). NextFills r.after.devices (shape_of command) replays.trace ph (next replays.trace) dev) (sym is-still.down)
-      (inl (first-fills r.after.devices (shape_of command) dev (x.full dev so told)))
+      (opening-fills r.after.devices (shape_of command) dev replays.trace (next replays.trace) (x.full dev so told))
 
   spent-behind : (boot decisions : ℕ) → r.status ≡ NumbersSpent boot decisions → AreSpentBehind replays.trace boot decisions
   spent-behind boot decisions is =

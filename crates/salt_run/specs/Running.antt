@@ -69,7 +69,8 @@ pub record RunsOver (command : Command) (old new : View) (status : Status) (flig
   pub ends : EndsBehind new (shape_of command) status flight replays.trace
 
 -- Or an opening did not find what they stood for: it was refused, failed, or memory ran out. Nothing is told but stops, so that it replays
--- from each start; what the devices stood for when it began, they stand for still; and where they were refused, nothing was written or told.
+-- from each start; what the devices stood for when it began, they stand for still; and where they were refused, nothing was written or told,
+-- and no device was full.
 pub record FindsNothing (command : Command) (old new : View) (status : Status) (flight : Option Flight) (net : Option (List NetEvent)) (s : Streams) (story : List Event) : Type 0 where
   pub reason : OpenErr
   pub none : net ≡ None
@@ -82,6 +83,7 @@ pub record FindsNothing (command : Command) (old new : View) (status : Status) (
   pub rests : (k : Kept) → FindsKept old true (shape_of command) k → IsTrue new.told → (image : ℕ → List ℕ) → IsImage new image → StandsFor (shape_of command) image k
   pub full : (dev : ℕ) → status ≡ DeviceFull dev → FillsIn new (shape_of command) OfOpening dev
   pub unwritten : (refusal : OpenErr) → IsRefusal refusal → RefusesDevices old true (shape_of command) refusal → IsTrue old.told → AreAsBefore (may_have_failed status) old new × (story ≡ [])
+  pub unfilled : (refusal : OpenErr) → IsRefusal refusal → RefusesDevices old true (shape_of command) refusal → IsTrue old.told → (dev : ℕ) → status ≡ DeviceFull dev → ⊥
 
 abbrev pub Runs : Command → (old new : View) → Status → Option Flight → Option (List NetEvent) → Streams → List Event → Type 0
 Runs command old new status flight net s story =

@@ -25,7 +25,7 @@ ghost use Rattle.salt_storage.specs.Staying.{StaysWithin};
 ghost use Rattle.salt_model.specs.Summary.{summary_of};
 ghost use Rattle.salt_place.specs.Placement.{GivesPlaceOf, IsParts, TakesEachKey};
 ghost use Rattle.salt_promise.specs.declared.command.Command.TheVariants.{Load, Script};
-ghost use Rattle.std.specs.Prelude.{List, None, Option, false, true, ℕ, ◌&&◌, ◌≡◌, ◌≢◌, ◌≤◌, ◌⊎◌};
+ghost use Rattle.std.specs.Prelude.{IsTrue, List, None, Option, false, true, ℕ, ◌&&◌, ◌≡◌, ◌≢◌, ◌≤◌, ◌⊎◌};
 
 use salt_database::{Database, Opening};
 use salt_devices::Devices;
@@ -67,7 +67,8 @@ struct Leaving {
 
 /// Gives a database up where its run ends.
 fn leave<E: Openable, D: Disks>(database: E, disks: &D, status: Status, over_net: bool) -> Leaving
-    requires stands { over_net ≡ true → ends_between status ≡ true → (s : State) × E.stands_for (D.view disks.now) database None s }
+    requires able { E.able (D.view disks.now) database }
+    requires stands { IsTrue (D.view disks.now).told → over_net ≡ true → ends_between status ≡ true → (s : State) × E.stands_for (D.view disks.now) database None s }
     ensures flight { result.flight ≡ flight_left (over_net && ends_between status) status (E.flight database) }
     ensures net { IsNetLeft (over_net && ends_between status) (E.stands_for (D.view disks.now) database None) (E.asked database) result.net }
 {
@@ -112,7 +113,7 @@ pub fn run_script<S: Source, K: Sink, D: Disks, F: Fn(PlaceKind, &Key, u32) -> u
     requires answers { GivesPlaceOf (F.post place.now.place) }
     requires promised { (trace : Trace) → IsPlayed trace → WellKept (start_of trace).kept → Promises trace }
     requires drained { (texts : List (List ℕ)) → DoTheirRests (AskInOrder texts) }
-    ensures runs { Runs (Script shape early over_net) (D.view disks.old) (D.view disks.new) result.status result.flight result.net
+    ensures runs { IsTrue (D.view disks.old).told → Runs (Script shape early over_net) (D.view disks.old) (D.view disks.new) result.status result.flight result.net
         (streams (S.left source.old) (S.left source.new) (K.held sink.old) (K.held sink.new)) result.story }
     ensures right { result.status ≢ Status.Usage }
     ensures done { result.status ≡ Status.Done → IsAtEnd (S.left source.new) }
@@ -190,7 +191,7 @@ pub fn run_load<K: Sink, D: Disks, F: Fn(PlaceKind, &Key, u32) -> u32>(
     requires answers { GivesPlaceOf (F.post place.now.place) }
     requires promised { (trace : Trace) → IsPlayed trace → WellKept (start_of trace).kept → Promises trace }
     requires drained { DoTheirRests (λ lines. IsFrontOf lines (asked_by_load calls)) }
-    ensures runs { (left : Option (List ℕ)) → Runs (Load calls) (D.view disks.old) (D.view disks.new) result.status result.flight result.net
+    ensures runs { (left : Option (List ℕ)) → IsTrue (D.view disks.old).told → Runs (Load calls) (D.view disks.old) (D.view disks.new) result.status result.flight result.net
         (streams left left (K.held sink.old) (K.held sink.new)) result.story }
     ensures right { result.status ≢ Status.Usage }
     ensures unread { result.status ≢ Status.ReadFault }

@@ -1,3 +1,4 @@
+use Rattle.salt_driver.proofs.Untold.{told-then}
 use Rattle.salt_database.proofs.FindDone.{found-finds}
 use Rattle.salt_database.specs.Halves.{database_flight}
 use Rattle.salt_devices.specs.Holding.{setup_in}
@@ -24,20 +25,21 @@ pub new-opening-requires : goal.new-opening-requires
 new-opening-requires g c = let f = c.in-Ok.ensures.found in record { unspent = f.unspent; sound = (f.kept, f.is, f.sound) }
 
 pub load-lines-requires-clause-settled : goal.load-lines-requires-clause-settled
-load-lines-requires-clause-settled g c = found-finds _ _ _ _ c.new-opening.ensures.found
+load-lines-requires-clause-settled g c = found-finds _ _ _ _ (c.new-opening.ensures.found _)
 
 pub load-lines-requires-clause-begins : goal.load-lines-requires-clause-begins
-load-lines-requires-clause-begins g c =
+load-lines-requires-clause-begins g c = λ now.
+    let told = told-then c.find.ensures.within.shape now in
     let f = c.in-Ok.ensures.found in
     let d = g.D.Disks.view c.args.disks.now in
     let mid = g.D.Disks.view c.find.new.disks in
     let b = begins-found f.kept false false c.new-opening.result c.find.new.storage d mid c.find.new.story c.new-opening.ensures.storage
-    (ap (λ (s : Setup). s.over_net) c.find.ensures.within.asked ∙ c.new-devices.ensures.over_net) c.in-Ok.ensures.net (c.new-opening.ensures.is_new f.kept f.is f.sound) f.holding f.sound c.find.ensures.unfound
+    (ap (λ (s : Setup). s.over_net) c.find.ensures.within.asked ∙ c.new-devices.ensures.over_net) c.in-Ok.ensures.net (c.new-opening.ensures.is_new f.kept f.is f.sound) (f.holding told) f.sound c.find.ensures.unfound
     c.in-Ok.ensures.counts in
     (start_over f.kept mid.can_stop false false, b.0, b.1, d.armed, b.2)
 
 pub returns-in-Ok-clause-runs : goal.returns-in-Ok-clause-runs
-returns-in-Ok-clause-runs g c left =
+returns-in-Ok-clause-runs g c = λ left told.
     let f = c.in-Ok.ensures.found in
     let d = g.D.Disks.view c.args.disks.now in
     let mid = g.D.Disks.view c.find.new.disks in
@@ -50,7 +52,7 @@ returns-in-Ok-clause-runs g c left =
     let s = streams left left (g.K.Sink.held c.args.sink.now) (g.K.Sink.held c.write_summary-status.new.sink) in
     let start = start_over f.kept mid.can_stop false false in
     let b = begins-found f.kept false false c.new-opening.result c.find.new.storage d mid c.find.new.story c.new-opening.ensures.storage
-    (ap (λ (s : Setup). s.over_net) c.find.ensures.within.asked ∙ c.new-devices.ensures.over_net) c.in-Ok.ensures.net (c.new-opening.ensures.is_new f.kept f.is f.sound) f.holding f.sound c.find.ensures.unfound
+    (ap (λ (s : Setup). s.over_net) c.find.ensures.within.asked ∙ c.new-devices.ensures.over_net) c.in-Ok.ensures.net (c.new-opening.ensures.is_new f.kept f.is f.sound) (f.holding told) f.sound c.find.ensures.unfound
     c.in-Ok.ensures.counts in
     let asked = c.new-devices.ensures.shape ∙ c.shape.ensures in
     as-told (Load c.args.calls) d e s c.load-lines.new.story status status flies c.flight_at.result None refl (c.flight_at.ensures ∙ ap (flight_at status) c.flight.ensures)
@@ -81,7 +83,7 @@ pub stop_opening-requires : goal.stop_opening-requires
 stop_opening-requires g c = λ is. c.find.ensures.unstopped (c.in-Err.is ∙ ap Err is)
 
 pub returns-in-Err-clause-runs : goal.returns-in-Err-clause-runs
-returns-in-Err-clause-runs g c left =
+returns-in-Err-clause-runs g c = λ left told.
     let d = g.D.Disks.view c.args.disks.now in
     let e = g.D.Disks.view c.find.new.disks in
     let y = c.find.new.storage in
@@ -93,7 +95,7 @@ returns-in-Err-clause-runs g c left =
     let run : (start : Start) → IsPlayedLoad start (load_run status None c.args.calls 0 c.find.new.story) = λ start. unfound-load c.args.calls old status how start c.find.new.story (unfound-loaded c.in-Err.reason c.args.calls c.find.new.story c.find.ensures.unfound c.in-Err.ensures.err.empty start) in
     as-told (Load c.args.calls) d e s c.find.new.story status status None None None refl (sym (flight-none status))
     (inr (nothing (Load c.args.calls) d z.started z.shape c.new-devices.ensures.started (c.new-devices.ensures.shape ∙ c.shape.ensures) e y.shape y.started (ap (λ (s : Setup). s.shape) c.find.ensures.within.asked) c.in-Err.ensures.rests
-    c.in-Err.reason c.find.new.story c.in-Err.ensures.err c.in-Err.ensures.unwritten status (flight_at status None) s (unfound-status c.in-Err.reason old status refl how) c.find.ensures.unfound
+    c.in-Err.reason c.find.new.story c.in-Err.ensures.err c.in-Err.ensures.unwritten c.in-Err.ensures.unfilled status (flight_at status None) s (unfound-status c.in-Err.reason old status refl how) c.find.ensures.unfound
     (λ start well. load-replays c.requires.promised c.args.calls 0 status None s c.find.new.story start well (run start) c.write_summary.ensures.summed)
     (unfound-stops d e c.in-Err.reason status c.find.new.story (λ is. c.find.ensures.unstopped (c.in-Err.is ∙ ap Err is)) c.in-Err.ensures.counts (unfound-status c.in-Err.reason old status refl how))))
 
@@ -110,3 +112,6 @@ pub returns-in-Err-clause-within : goal.returns-in-Err-clause-within
 returns-in-Err-clause-within g c =
     let view = g.D.Disks.view in
     stays-as (setup_in c.new-devices.result.shape c.new-devices.result.over_net) _ (setup_in (shape_of (Load c.args.calls)) false) (view c.args.disks.now) (view c.find.new.disks) (λ i. setup_in ((c.new-devices.ensures.shape ∙ c.shape.ensures) i) (c.new-devices.ensures.over_net i)) c.find.ensures.within
+
+pub load-lines-requires-clause-able : goal.load-lines-requires-clause-able
+load-lines-requires-clause-able g c = rw c.new-opening.ensures.storage c.find.ensures.able

@@ -1,3 +1,4 @@
+use Rattle.salt_driver.proofs.Untold.{told-then}
 use Rattle.salt_database.proofs.FindDone.{found-finds}
 use Rattle.salt_database.specs.Halves.{database_flight}
 use Rattle.salt_devices.specs.Holding.{setup_in}
@@ -22,31 +23,33 @@ pub new-opening-requires : goal.new-opening-requires
 new-opening-requires g c = let f = c.in-Ok.ensures.found in record { unspent = f.unspent; sound = (f.kept, f.is, f.sound) }
 
 pub serve-done-requires-clause-settled : goal.serve-done-requires-clause-settled
-serve-done-requires-clause-settled g c = found-finds _ _ _ _ c.new-opening.ensures.found
+serve-done-requires-clause-settled g c = found-finds _ _ _ _ (c.new-opening.ensures.found _)
 
 pub serve-done-requires-clause-begins : goal.serve-done-requires-clause-begins
-serve-done-requires-clause-begins g c =
+serve-done-requires-clause-begins g c = λ now.
+    let told = told-then c.find.ensures.within.shape now in
     let f = c.in-Ok.ensures.found in
     let d = g.D.Disks.view c.args.disks.now in
     let mid = g.D.Disks.view c.find.new.disks in
     let b = begins-found f.kept c.args.early c.args.over_net c.new-opening.result c.find.new.storage d mid c.find.new.story c.new-opening.ensures.storage
-    (ap (λ (s : Setup). s.over_net) c.find.ensures.within.asked ∙ c.new-devices.ensures.over_net) c.in-Ok.ensures.net (c.new-opening.ensures.is_new f.kept f.is f.sound) f.holding f.sound c.find.ensures.unfound
+    (ap (λ (s : Setup). s.over_net) c.find.ensures.within.asked ∙ c.new-devices.ensures.over_net) c.in-Ok.ensures.net (c.new-opening.ensures.is_new f.kept f.is f.sound) (f.holding told) f.sound c.find.ensures.unfound
     c.in-Ok.ensures.counts in
     (start_over f.kept mid.can_stop c.args.early c.args.over_net, b.0, b.1, d.armed, b.2)
 
-pub leave-flight-requires : goal.leave-flight-requires
-leave-flight-requires g c =
+pub leave-flight-requires-clause-stands : goal.leave-flight-requires-clause-stands
+leave-flight-requires-clause-stands g c = λ now.
+    let told = told-then (stays-behind c.find.ensures.within (stays-from (g.D.Disks.view c.find.new.disks) (g.D.Disks.view c.serve-done.new.disks) (λ i. setup_in (c.new-opening.ensures.storage i).shape (c.new-opening.ensures.storage i).over_net) c.serve-done.ensures.within)).shape now in
     let f = c.in-Ok.ensures.found in
     let d = g.D.Disks.view c.args.disks.now in
     let mid = g.D.Disks.view c.find.new.disks in
     let b = begins-found f.kept c.args.early c.args.over_net c.new-opening.result c.find.new.storage d mid c.find.new.story c.new-opening.ensures.storage
-    (ap (λ (s : Setup). s.over_net) c.find.ensures.within.asked ∙ c.new-devices.ensures.over_net) c.in-Ok.ensures.net (c.new-opening.ensures.is_new f.kept f.is f.sound) f.holding f.sound c.find.ensures.unfound
+    (ap (λ (s : Setup). s.over_net) c.find.ensures.within.asked ∙ c.new-devices.ensures.over_net) c.in-Ok.ensures.net (c.new-opening.ensures.is_new f.kept f.is f.sound) (f.holding told) f.sound c.find.ensures.unfound
     c.in-Ok.ensures.counts in
     let y = c.serve-done.ensures.ended (start_over f.kept mid.can_stop c.args.early c.args.over_net) b.0 b.1 d.armed b.2 in
-    record { stands = λ over between. let s = y.3 (sym (ap ends_between c.status_behind-status.ensures) ∙ between) in (s.point.state, s.stands.state) }
+    λ over between. let s = y.3 (sym (ap ends_between c.status_behind-status.ensures) ∙ between) in (s.point.state, s.stands.state)
 
 pub returns-in-Ok-clause-runs : goal.returns-in-Ok-clause-runs
-returns-in-Ok-clause-runs g c =
+returns-in-Ok-clause-runs g c = λ told.
     let f = c.in-Ok.ensures.found in
     let d = g.D.Disks.view c.args.disks.now in
     let mid = g.D.Disks.view c.find.new.disks in
@@ -59,7 +62,7 @@ returns-in-Ok-clause-runs g c =
     let s = streams (g.S.Source.left c.args.source.now) (g.S.Source.left c.serve-done.new.source) (g.K.Sink.held c.args.sink.now) (g.K.Sink.held c.serve-done.new.sink) in
     let start = start_over f.kept mid.can_stop c.args.early c.args.over_net in
     let b = begins-found f.kept c.args.early c.args.over_net c.new-opening.result c.find.new.storage d mid c.find.new.story c.new-opening.ensures.storage
-    (ap (λ (s : Setup). s.over_net) c.find.ensures.within.asked ∙ c.new-devices.ensures.over_net) c.in-Ok.ensures.net (c.new-opening.ensures.is_new f.kept f.is f.sound) f.holding f.sound c.find.ensures.unfound
+    (ap (λ (s : Setup). s.over_net) c.find.ensures.within.asked ∙ c.new-devices.ensures.over_net) c.in-Ok.ensures.net (c.new-opening.ensures.is_new f.kept f.is f.sound) (f.holding told) f.sound c.find.ensures.unfound
     c.in-Ok.ensures.counts in
     let y = c.serve-done.ensures.ended start b.0 b.1 d.armed b.2 in
     let trace = y.0.played.trace in
@@ -93,7 +96,7 @@ pub tell_unfound-requires-clause-empty : goal.tell_unfound-requires-clause-empty
 tell_unfound-requires-clause-empty g c = c.in-Err.ensures.err.empty
 
 pub returns-in-Err-clause-runs : goal.returns-in-Err-clause-runs
-returns-in-Err-clause-runs g c =
+returns-in-Err-clause-runs g c = λ told.
     let d = g.D.Disks.view c.args.disks.now in
     let e = g.D.Disks.view c.find.new.disks in
     let y = c.find.new.storage in
@@ -103,7 +106,7 @@ returns-in-Err-clause-runs g c =
     let now = outcome c.tell_unfound.result in
     as-told (Script c.args.shape c.args.early c.args.over_net) d e s c.find.new.story now status None None None c.status_behind.ensures (sym (flight-none status))
     (inr (nothing (Script c.args.shape c.args.early c.args.over_net) d z.started z.shape c.new-devices.ensures.started c.new-devices.ensures.shape e y.shape y.started (ap (λ (s : Setup). s.shape) c.find.ensures.within.asked) c.in-Err.ensures.rests
-    c.in-Err.reason c.find.new.story c.in-Err.ensures.err c.in-Err.ensures.unwritten now (flight_at now None) s c.tell_unfound.ensures.is c.find.ensures.unfound
+    c.in-Err.reason c.find.new.story c.in-Err.ensures.err c.in-Err.ensures.unwritten c.in-Err.ensures.unfilled now (flight_at now None) s c.tell_unfound.ensures.is c.find.ensures.unfound
     (λ start well. script-replays c.requires.promised c.args.shape c.args.early c.args.over_net now None s c.find.new.story start well (c.tell_unfound.ensures.run start (g.S.Source.left c.args.source.now) (g.S.Source.left c.args.source.now)))
     (unfound-stops d e c.in-Err.reason now c.find.new.story (λ is. c.find.ensures.unstopped (c.in-Err.is ∙ ap Err is)) c.in-Err.ensures.counts c.tell_unfound.ensures.is)))
 
@@ -118,3 +121,9 @@ pub returns-in-Err-clause-within : goal.returns-in-Err-clause-within
 returns-in-Err-clause-within g c =
     let view = g.D.Disks.view in
     stays-as (setup_in c.new-devices.result.shape c.new-devices.result.over_net) _ (setup_in c.args.shape c.args.over_net) (view c.args.disks.now) (view c.find.new.disks) (λ i. setup_in (c.new-devices.ensures.shape i) (c.new-devices.ensures.over_net i)) c.find.ensures.within
+
+pub serve-done-requires-clause-able : goal.serve-done-requires-clause-able
+serve-done-requires-clause-able g c = rw c.new-opening.ensures.storage c.find.ensures.able
+
+pub leave-flight-requires-clause-able : goal.leave-flight-requires-clause-able
+leave-flight-requires-clause-able g c = c.serve-done.ensures.able
