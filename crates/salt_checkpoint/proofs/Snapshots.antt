@@ -68,7 +68,7 @@ module _ {D : Type 0} (r : Reading D) (d : View) (which : WhichLog) (c : Coordin
   unsnapped_stands log asked = stood_stands r (logs_of image) image asked which c v (unsnapped_stood log)
 
   -- WITH IT: no partition has a prepared unit, and each has a format that goes under the header's
-  module _ (payload : List ℕ) (format : ℕ) (spells : header_in payload ≡ Some (next_header c format)) (none : (p : ℕ) → p < partition_count c → (v p).log.prepared ≡ [])
+  module _ (payload : List ℕ) (format : ℕ) (spells : header_in payload ≡ Some (next_header c.log c.conts format)) (none : (p : ℕ) → p < partition_count c → (v p).log.prepared ≡ [])
       (fits : (p : ℕ) → p < partition_count c → is_format_under format (v p).log.header.format ≡ true) (log : entries_in (image (device_of 0 (other_log which))) ≡ Some (payload ∷ [])) where
     pub snapped_stood : Stood r (logs_of image) image (other_log which) (with_snapshot c format) v
     snapped_stood = snapshot_stood r (logs_of d.bytes) (logs_of image) image which c v payload format here counting log spells (λ p low. (part_same p low, none p low, fits p low))
@@ -96,7 +96,7 @@ module _ {D : Type 0} (r : Reading D) (d e : View) (which : WhichLog) (c : Coord
       let dev = pages_device p in
       subst (λ k. NamedSame (v p).log.header.sides k b) (sym (kept dev (far dev (omega arith)))) (ready.pages p low b (left dev (far dev (omega arith)) b h))
 
-  pub snapshot_ready : (payload : List ℕ) (format : ℕ) → header_in payload ≡ Some (next_header c format) → ((p : ℕ) → p < partition_count c → (v p).log.prepared ≡ [])
+  pub snapshot_ready : (payload : List ℕ) (format : ℕ) → header_in payload ≡ Some (next_header c.log c.conts format) → ((p : ℕ) → p < partition_count c → (v p).log.prepared ≡ [])
       → ((p : ℕ) → p < partition_count c → is_format_under format (v p).log.header.format ≡ true) → entries_in (e.bytes (device_of 0 (other_log which))) ≡ Some (payload ∷ [])
       → IsReady r e (other_log which) (with_snapshot c format) v
   snapshot_ready payload format spells none fits log = record {

@@ -128,7 +128,7 @@ module _ {D : Type 0} (r : Reading D) where
   pub snapshot_stands : (old new : Logs) (which : WhichLog) (c : Coordinator D) (payload : List ℕ) (format : ℕ)
       → CoordinatorStands r old which c
       → new (device_of 0 (other_log which)) ≡ Some (payload ∷ []) → IsSameAt (device_of 0 which) old new
-      → header_in payload ≡ Some (next_header c format)
+      → header_in payload ≡ Some (next_header c.log c.conts format)
       → CoordinatorStands r new (other_log which) (with_snapshot c format)
   snapshot_stands old new which c payload format h is same spells =
       let sound = is_sound_cont r c.definitions c.log.told in

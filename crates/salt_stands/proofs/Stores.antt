@@ -106,7 +106,7 @@ module _ {D : Type 0} (r : Reading D) where
   -- A SNAPSHOT, where no partition has a prepared unit
   pub snapshot_stood : (old new : Logs) (devices : ℕ → List ℕ) (which : WhichLog) (c : Coordinator D) (v : ℕ → PartView) (payload : List ℕ) (format : ℕ)
       → Stood r old devices which c v → IsSameAt (device_of 0 which) old new → new (device_of 0 (other_log which)) ≡ Some (payload ∷ [])
-      → header_in payload ≡ Some (next_header c format)
+      → header_in payload ≡ Some (next_header c.log c.conts format)
       → ((p : ℕ) → p < partition_count c → PartSame old new p × ((v p).log.prepared ≡ []) × (is_format_under format (v p).log.header.format ≡ true))
       → Stood r new devices (other_log which) (with_snapshot c format) v
   snapshot_stood old new devices which c v payload format h counting other spells parts = record {

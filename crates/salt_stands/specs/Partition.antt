@@ -7,7 +7,7 @@ use Rattle.salt_values.specs.declared.change.Change.{Change}
 use Rattle.salt_values.specs.declared.value.Value.{Value}
 use Rattle.salt_bytes.specs.Formats.{has_nulls}
 use Rattle.salt_bytes.specs.Generations.{BothBlank, Counts, Faulty, LogB, Pair, pair_of, content_of}
-use Rattle.salt_bytes.specs.Page.{TableRow, page_place, take_page}
+use Rattle.salt_bytes.specs.Page.{TableRow, page_length, page_place, take_page}
 use Rattle.salt_bytes.specs.Partition.{Prepared}
 use Rattle.salt_stands.specs.Coordinator.{Coordinator, Logs, decided_for, device_of}
 use Rattle.salt_stands.specs.PartitionLog.{PartitionLog, partition_generation, partition_in}
@@ -19,7 +19,7 @@ use Rattle.salt_place.specs.declared.placement.Shape.{Shape}
 use Rattle.std.specs.List.{list_all}
 use Rattle.std.specs.Option.{ok_or}
 use Rattle.std.specs.Ordering.{is_eq}
-use Rattle.std.specs.Prelude.{Bool, Err, List, None, Option, Result, Some, [], drop, false, map, nat_le, nat_lt, not, option_map, suc, true, ℕ, ◌&&◌, ◌*◌, ◌+◌, ◌++◌, ◌==◌, ◌∷◌, ◌||◌}
+use Rattle.std.specs.Prelude.{Bool, Err, List, None, Option, Result, Some, [], drop, false, length, map, nat_le, nat_lt, not, option_map, suc, true, ℕ, ◌&&◌, ◌*◌, ◌+◌, ◌++◌, ◌==◌, ◌∷◌, ◌≤◌, ◌||◌}
 use Rattle.std.specs.Bool.{then_some}
 use Rattle.std.specs.Prelude.{option_and_then}
 
@@ -100,6 +100,10 @@ part_device p = 2 + 3 * p
 
 abbrev pub pages_device : ℕ → ℕ
 pages_device p = 4 + 3 * p
+
+-- so many pages stand on a device with these bytes, each on one of its sides at least
+abbrev pub HoldsPages : ℕ → List ℕ → Type 0
+HoldsPages n bytes = page_place n 0 ≤ length bytes + page_length
 
 abbrev pub part_pair : ℕ → Logs → Pair PartitionLog
 part_pair p logs = pair_of partition_generation (content_of (partition_in p) (logs (part_device p))) (content_of (partition_in p) (logs (part_device p + 1)))

@@ -9,7 +9,7 @@ use Rattle.salt_bytes.specs.Formats.{has_nulls}
 use Rattle.salt_bytes.specs.Generations.{Counts, LogA, LogB, WhichLog, next_generation}
 use Rattle.salt_bytes.specs.Partition.{PartitionHeader, Prepared}
 use Rattle.salt_stands.specs.Coordinator.{Coordinator, Logs, coordinator_pair, decided_for, definitions_read, is_sound_cont, is_sound_decision}
-use Rattle.salt_stands.specs.CoordinatorLog.{told_by_header}
+use Rattle.salt_stands.specs.CoordinatorLog.{CoordinatorLog, told_by_header}
 use Rattle.salt_stands.specs.OpenConts.{do_rise, moved}
 use Rattle.salt_stands.specs.Partition.{is_sound_log, part_pair, part_tables, pages_device, rows_from, rows_of_pages}
 use Rattle.salt_stands.specs.PartitionLog.{PartitionLog}
@@ -113,20 +113,20 @@ next_part_header v format sides = record { format = format; generation = next_ge
 abbrev pub checkpointed : PartView → PartitionHeader → List Change → PartView
 checkpointed v h rows = record { which = other_log v.which; log = record { header = h; prepared = [] }; rows = rows }
 
--- the coordinator's next header
-abbrev pub next_header : {D : Type 0} → Coordinator D → (format : ℕ) → CoordinatorHeader
-next_header c format = record {
+-- the coordinator's next header, with the continuations that are open
+abbrev pub next_header : CoordinatorLog → (conts : List Cont) → (format : ℕ) → CoordinatorHeader
+next_header log conts format = record {
   format = format;
-  generation = next_generation c.log.header.generation;
-  shape = c.log.header.shape;
-  boot = c.log.told.boot;
-  decisions = c.log.told.decisions;
-  definitions = c.log.told.definitions;
-  conts = c.conts;
+  generation = next_generation log.header.generation;
+  shape = log.header.shape;
+  boot = log.told.boot;
+  decisions = log.told.decisions;
+  definitions = log.told.definitions;
+  conts = conts;
 }
 
 abbrev pub with_snapshot : {D : Type 0} → Coordinator D → (format : ℕ) → Coordinator D
-with_snapshot c format = record { log = record { header = next_header c format; told = told_by_header (next_header c format) }; definitions = c.definitions; conts = c.conts }
+with_snapshot c format = record { log = record { header = next_header c.log c.conts format; told = told_by_header (next_header c.log c.conts format) }; definitions = c.definitions; conts = c.conts }
 
 -- the pages that a header names are read as before
 abbrev pub ReadsSamePages : PartView → (old new : List ℕ) → Type 0

@@ -81,7 +81,7 @@ pub fn checkpoints_change_nothing()
 pub fn snapshots_change_nothing()
     ensures store { (r : Reading Definition) (old new : Logs) (devices : ℕ → List ℕ) (which : WhichLog) (c : Coordinator Definition) (v : ℕ → PartView) (payload : List ℕ) (format : ℕ)
         → Stood r old devices which c v → IsSameAt (device_of 0 which) old new → new (device_of 0 (other_log which)) ≡ Some (payload ∷ [])
-        → header_in payload ≡ Some (next_header c format)
+        → header_in payload ≡ Some (next_header c.log c.conts format)
         → ((p : ℕ) → p < partition_count c → PartSame old new p × ((v p).log.prepared ≡ []) × (is_format_under format (v p).log.header.format ≡ true))
         → Stood r new devices (other_log which) (with_snapshot c format) v }
     ensures found { (r : Reading Definition) (c : Coordinator Definition) (v : ℕ → PartView) (format : ℕ) → ((p : ℕ) → p < partition_count c → (v p).log.prepared ≡ [])
