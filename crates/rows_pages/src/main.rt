@@ -13,11 +13,13 @@
 #![tactic(auto)]
 
 mod changes;
+mod frames;
 mod stands;
 mod steps;
 
 ghost use Rattle.std.specs.Prelude.{◌≤◌};
 
+use frames::ends_again;
 use salt_directory::AnyRow;
 use salt_disk::MemDisks;
 use salt_rows::{RowsErr, open_rows};
@@ -34,6 +36,9 @@ const READS: u64 = 5;
 
 /// How many long rows there are: on 70 pages, while 64 have a frame.
 const ROWS: i64 = 490;
+
+/// The read by which a page without a frame comes, and one that is never made.
+const LAST_READS: [u64; 2] = [133, 134];
 
 /// A letter for each call that a stop can fall on.
 fn stops_row(alloc: Global, pick: u8) -> Result<String, AllocError>
@@ -67,6 +72,15 @@ fn many_rows(alloc: Global) -> Result<(usize, u64, u64), RowsErr> {
     Ok((again.page_count(), found, ordered))
 }
 
+/// A letter for each of these reads, where it fails.
+fn frames_row(alloc: Global) -> Result<String, AllocError> {
+    let mut row = String::new(alloc);
+    for read in LAST_READS {
+        row.push(letter_of(ends_again(alloc, read)))?;
+    }
+    Ok(row)
+}
+
 fn main(rt: HostRuntime) -> io::Result<()> {
     let alloc = rt.alloc();
     for pick in 0..5u8 {
@@ -76,6 +90,8 @@ fn main(rt: HostRuntime) -> io::Result<()> {
     let (pages, found, ordered) = many_rows(alloc).unwrap_or((0, 0, 0));
     println!(rt; "{pages} pages, {found} rows by their keys, {ordered} in order")?;
     let row = reads_row(alloc)?;
+    println!(rt; "{row}")?;
+    let row = frames_row(alloc)?;
     println!(rt; "{row}")?;
     let row = limits_row(alloc)?;
     println!(rt; "{row}")?;

@@ -144,7 +144,7 @@ pub fn rows_are(alloc: Global, disks: &mut MemDisks, store: &mut RowStore) -> Re
 }
 
 /// 1 where it is a row of this key.
-fn one_of(row: &Option<Row>, key: i64) -> u64 {
+pub fn one_of(row: &Option<Row>, key: i64) -> u64 {
     match row {
         Some(row) if row.get(0) == Some(&Value::Int(key)) => 1,
         _ => 0,
