@@ -5,7 +5,7 @@ use Rattle.salt_checkpoint.specs.declared.writes.Write.{Write}
 use Rattle.salt_disk.specs.Disks.{FullExactly, FullOnly, NeverFull, SameShape, View}
 use Rattle.salt_disk.specs.declared.disks.DiskErr.TheVariants.{Failed, Full, Memory, Stopped}
 use Rattle.salt_disk.specs.declared.disks.DiskErr.{DiskErr}
-use Rattle.std.proofs.Common.{List, None, Option, Some, ap, arith, inl, inr, ℕ, ◌+◌, ◌≡◌, ◌≤◌, ◌∙◌}
+use Rattle.std.proofs.Common.{List, None, Option, Some, ap, arith, inl, inr, subst, ℕ, ◌+◌, ◌≡◌, ◌≤◌, ◌∙◌}
 
 pub full_within : (dev limit limit' end end' : ℕ) (answer : Option DiskErr) → limit' ≡ limit → end' ≤ end → FullOnly dev limit' end' answer → FullOnly dev limit end answer
 full_within dev limit limit' end end' None same low h = tt
@@ -19,6 +19,13 @@ full_only dev limit end end' Failed low h = tt
 full_only dev limit end end' Stopped low h = tt
 full_only dev limit end end' (Full n) low h = (h.0, omega (arith, low, h.1))
 full_only dev limit end end' Memory low h = tt
+
+-- which device it is
+pub full_at : (dev limit end n : ℕ) (e : DiskErr) → e ≡ Full n → FullOnly dev limit end (Some e) → n ≡ dev
+full_at dev limit end n e is h = (subst (λ k. FullOnly dev limit end (Some k)) is h).0
+
+pub not_full : (n : ℕ) (e : DiskErr) → e ≡ Full n → NeverFull (Some e) → ⊥
+not_full n e is h = subst (λ k. NeverFull (Some k)) is h
 
 module _ (d : View) (pages other : ℕ) (ws : List Write) (header : ℕ) where
   -- pages are written

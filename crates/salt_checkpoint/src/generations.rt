@@ -4,6 +4,7 @@ ghost use Rattle.salt_checkpoint.specs.Checkpoints.{FullAt, IsNext, IsReady, Sta
 ghost use Rattle.salt_checkpoint.specs.Sides.{LeaveNoGap, all_written};
 ghost use Rattle.salt_bytes.specs.Generations.{WhichLog};
 ghost use Rattle.salt_disk.specs.Disks.{HasCause, IsSettled, KeepsBut};
+ghost use Rattle.salt_disk.specs.declared.disks.DiskErr.TheVariants.{Full};
 ghost use Rattle.salt_gatelog.specs.Log as gates;
 ghost use Rattle.salt_gatelog.specs.Log.{IsLog};
 ghost use Rattle.salt_model.specs.Kept.{Definition};
@@ -13,7 +14,7 @@ ghost use Rattle.salt_stands.specs.Partition.{pages_device, part_device};
 ghost use Rattle.salt_stands.specs.Pieces.{PartView, checkpointed, next_part_header, other_log};
 ghost use Rattle.salt_stands.specs.Reading.{Reading};
 ghost use Rattle.salt_values.specs.declared.change.Change.{Change};
-ghost use Rattle.std.specs.Prelude.{IfOk, IsTrue, List, OnOk, [], length, ℕ, ◌+◌, ◌<◌, ◌∷◌, ◌≡◌, ◌⊎◌};
+ghost use Rattle.std.specs.Prelude.{Err, IfOk, IsTrue, List, OnOk, [], length, ℕ, ◌+◌, ◌<◌, ◌∷◌, ◌≡◌, ◌⊎◌};
 ghost use Rattle.std.specs.Result.{result_err};
 
 use crate::writes::{Write, write_all};
@@ -56,6 +57,8 @@ pub fn checkpoint<D: Disks>(
     ensures log { IfOk result (λ log. IsLog (D.view disks.new) log (header.now ∷ [])) }
     ensures device { IfOk result (λ log. gates.device_of log ≡ other) }
     ensures bytes { OnOk result (IsTrue (D.view disks.old).told → (D.view disks.new).bytes (pages_device part) ≡ all_written writes.now ((D.view disks.old).bytes (pages_device part))) }
+    ensures written { (dev : ℕ) → result ≡ Err (Full dev) → IsTrue (D.view disks.old).told
+        → (dev ≡ pages_device part) ⊎ ((D.view disks.new).bytes (pages_device part) ≡ all_written writes.now ((D.view disks.old).bytes (pages_device part))) }
     ensures stable { OnOk result (IsSettled (D.view disks.new) (pages_device part)) }
     ensures others { KeepsBut (λ dev. (dev ≡ pages_device part) ⊎ (dev ≡ other)) (D.view disks.old) (D.view disks.new) (result_err result) }
     ensures cause { HasCause (D.view disks.old) (D.view disks.new) (result_err result) }

@@ -30,13 +30,15 @@ use Rattle.salt_paged.specs.Checkpoints.{FullAtCheckpoint, IsCheckpointed, IsTou
 use Rattle.salt_paged.specs.Partitions.{IsPartition, IsTold, page_count, pages_of}
 use Rattle.salt_paged.specs.declared.partition.Partition.{Partition}
 use Rattle.salt_rows.specs.Stores as stores
-use Rattle.salt_rows.specs.Stores.{HaveRows, IsRowStore, IsSide, IsStanding}
+use Rattle.salt_rows.specs.Stores.{HaveRows, IsClean, IsRowStore, IsSide, IsStanding}
+use Rattle.salt_rows.specs.declared.store.RowStore.{RowStore}
+use Rattle.salt_pool.specs.Dirtied.{is_dirty}
 use Rattle.salt_stands.proofs.Generations.{pair_next}
 use Rattle.salt_stands.proofs.PlacedParts.{decided_sound, rows_sound}
 use Rattle.salt_stands.proofs.Generations.{alone}
 use Rattle.salt_stands.proofs.Prepared.{sound_units}
 use Rattle.salt_stands.specs.Coordinator.{Coordinator, decided_for, device_of}
-use Rattle.salt_stands.specs.Partition.{are_distinct, are_sound_rows, decided_changes, is_format_under, is_sound_change, pages_device, part_device, rows_from}
+use Rattle.salt_stands.specs.Partition.{HoldsPages, are_distinct, are_sound_rows, decided_changes, is_format_under, is_sound_change, pages_device, part_device, rows_from}
 use Rattle.salt_stands.specs.PartitionLog.{partition_generation, partition_in}
 use Rattle.salt_stands.specs.Pieces.{PartStands, PartView, checkpointed, next_part_header, other_log}
 use Rattle.salt_stands.specs.Reading.{Reading}
@@ -46,7 +48,7 @@ use Rattle.std.specs.Bool.{then_some}
 use Rattle.std.specs.Prelude.{option_and_then}
 use Rattle.salt_values.specs.declared.change.Change.{Change}
 use Rattle.salt_values.specs.declared.id.Id.{Id}
-use Rattle.std.proofs.Common.{Bool, IsTrue, List, None, Option, Some, [], ap, arith, false, inl, inr, length, refl, subst, sym, true, ℕ, ◌+◌, ◌++◌, ◌<◌, ◌^◌, ◌≡◌, ◌⊎◌, ◌∙◌, ◌∷◌}
+use Rattle.std.proofs.Common.{Bool, IsTrue, List, None, Option, Some, [], ap, arith, false, inl, inr, length, refl, subst, suc, sym, true, zero, ℕ, ◌+◌, ◌++◌, ◌<◌, ◌^◌, ◌≡◌, ◌⊎◌, ◌∙◌, ◌∷◌}
 use Rattle.std.proofs.lemmas.Bool.Decides.{nat_tests}
 use Rattle.std.proofs.lemmas.List.Folds.{list_all-append}
 use Rattle.std.proofs.lemmas.List.{append-nil}
@@ -283,23 +285,43 @@ module _ (d e f : View) (x : Partition) (at : stores.device_of x.rows ≡ pages_
       wider dev (inl same) = inl (same ∙ ap pages_device own)
       wider dev (inr same) = inr (same ∙ is)
 
--- WHERE IT IS FULL
+-- PAGES that are written stand on their device
 
-module _ (d : View) (x : Partition) where
-  pub full_pages : (dev : ℕ) (error : DiskErr) → dev ≡ pages_of x → FullOnly dev (d.limit dev) (page_place (page_count x) 0) (Some error) → FullAtCheckpoint d x (Some error)
+pub pages_stand : (d : View) (s : RowStore) (dev : ℕ) (named : List ℕ) (t : Tables) → IsStanding d s dev named t → IsClean s → IsTrue d.told → HoldsPages (stores.page_count s) (d.bytes dev)
+pages_stand d s dev named t is clean told = by (stores.page_count s) refl
+  where
+    by : (n : ℕ) → stores.page_count s ≡ n → HoldsPages n (d.bytes dev)
+    by zero none = omega arith
+    by (suc k) same =
+        let end = is.kept.side_end k (omega (arith, same)) (ap (λ ds. is_dirty ds k) clean) in
+        omega (arith, end, (is.told told).long)
+
+-- as they do while the other log is begun
+pub stand_behind : (d e : View) (x : Partition) (s : RowStore) (p : ℕ) (named : List ℕ) (t : Tables) → x.part ≡ p → IsStanding d s (pages_device p) named t → IsClean s → stores.page_count s ≡ page_count x
+    → IsTrue d.told → (dev : ℕ) → dev ≡ other_device x → (dev ≡ pages_device x.part) ⊎ (e.bytes (pages_device x.part) ≡ d.bytes (pages_device x.part)) → HoldsPages (page_count x) (e.bytes (pages_of x))
+stand_behind d e x s p named t part is clean count told dev at (inl pages) = absurd (no_page (other_log (which_of x.side)) x.part x.part (sym at ∙ pages))
+stand_behind d e x s p named t part is clean count told dev at (inr same) =
+    let here = subst (λ (k : ℕ). HoldsPages k (d.bytes (pages_device p))) count (pages_stand d s (pages_device p) named t is clean told) in
+    subst (λ (b : List ℕ). HoldsPages (page_count x) b) (sym same) (subst (λ (k : ℕ). HoldsPages (page_count x) (d.bytes (pages_device k))) (sym part) here)
+
+-- WHERE IT IS FULL, by devices e behind the call
+
+module _ (d e : View) (shape : SameShape d e) (x : Partition) where
+  pub full_pages : (dev : ℕ) (error : DiskErr) → dev ≡ pages_of x → FullOnly dev (d.limit dev) (page_place (page_count x) 0) (Some error) → FullAtCheckpoint e x (Some error)
   full_pages dev Failed at h = tt
   full_pages dev Stopped at h = tt
   full_pages dev Memory at h = tt
-  full_pages dev (Full n) at h = inl (h.0 ∙ at, omega (arith, h.1, ap d.limit h.0))
+  full_pages dev (Full n) at h = inl (h.0 ∙ at, omega (arith, h.1, ap d.limit h.0, shape.limit n))
 
   -- no page is written any more: the header passes the limit, unless the pages did
-  pub full_header : (e : View) (pages other header : ℕ) (error : DiskErr) → SameShape d e → pages ≡ pages_of x → other ≡ other_device x → header ≡ 19 + page_count x
-      → FullAt e pages other [] header (Some error) → FullAtCheckpoint d x (Some error)
-  full_header e pages other header Failed shape at is long h = tt
-  full_header e pages other header Stopped shape at is long h = tt
-  full_header e pages other header Memory shape at is long h = tt
-  full_header e pages other header (Full n) shape at is long (inl h) = absurd (omega (arith, h.1))
-  full_header e pages other header (Full n) shape at is long (inr h) = inr (h.0 ∙ is, omega (arith, h.1, shape.limit n, long))
+  pub full_header : (pages other header : ℕ) (error : DiskErr) → other ≡ other_device x → header ≡ 19 + page_count x
+      → ((dev : ℕ) → error ≡ Full dev → dev ≡ other → IsTrue e.told → HoldsPages (page_count x) (e.bytes (pages_of x)))
+      → FullAt d pages other [] header (Some error) → FullAtCheckpoint e x (Some error)
+  full_header pages other header Failed is long stand h = tt
+  full_header pages other header Stopped is long stand h = tt
+  full_header pages other header Memory is long stand h = tt
+  full_header pages other header (Full n) is long stand (inl h) = absurd (omega (arith, h.1))
+  full_header pages other header (Full n) is long stand (inr h) = inr (h.0 ∙ is, omega (arith, h.1, shape.limit n, long), stand n refl h.0)
 
 -- how long a header is
 pub header_length : (h : PartitionHeader) → length (spell_partition_header h) ≡ 19 + length h.sides

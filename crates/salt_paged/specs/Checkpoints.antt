@@ -10,11 +10,11 @@ use Rattle.salt_paged.specs.Partitions.{IsCheckpointOf, IsPartition, page_count,
 use Rattle.salt_paged.specs.declared.partition.Partition.{Partition}
 use Rattle.salt_stands.specs.Commits.{partition_count, with_view}
 use Rattle.salt_stands.specs.Coordinator.{Coordinator, decided_for, device_of}
-use Rattle.salt_stands.specs.Partition.{part_device}
+use Rattle.salt_stands.specs.Partition.{HoldsPages, part_device}
 use Rattle.salt_stands.specs.Pieces.{PartView, other_log}
 use Rattle.salt_stands.specs.Reading.{Reading}
 use Rattle.salt_values.specs.declared.id.Id.{Id}
-use Rattle.std.specs.Prelude.{List, None, Option, Some, ℕ, ⊤, ◌+◌, ◌<◌, ◌≡◌, ◌⊎◌}
+use Rattle.std.specs.Prelude.{IsTrue, List, None, Option, Some, ℕ, ⊤, ◌+◌, ◌<◌, ◌≡◌, ◌⊎◌}
 
 -- the device of the log that does not count
 abbrev pub other_device : Partition → ℕ
@@ -47,11 +47,13 @@ IsTouched x dev = (dev ≡ pages_of x) ⊎ (dev ≡ other_device x)
 abbrev pub header_end : ℕ → ℕ
 header_end pages = 29 + pages
 
--- `Full` comes only where the pages pass the limit of their device, or the header that of the other log's
+-- `Full` comes only where the pages pass the limit of their device, or the header that of the other log's: then all pages that it names
+-- stand on their device, where that tells. All is said of the devices behind the call.
 abbrev pub FullAtCheckpoint : View → Partition → Option DiskErr → Type 0
 FullAtCheckpoint d x None = ⊤
 FullAtCheckpoint d x (Some Failed) = ⊤
 FullAtCheckpoint d x (Some Stopped) = ⊤
 FullAtCheckpoint d x (Some Memory) = ⊤
 FullAtCheckpoint d x (Some (Full dev)) =
-    ((dev ≡ pages_of x) × (d.limit dev < page_place (page_count x) 0)) ⊎ ((dev ≡ other_device x) × (d.limit dev < header_end (page_count x)))
+    ((dev ≡ pages_of x) × (d.limit dev < page_place (page_count x) 0))
+    ⊎ ((dev ≡ other_device x) × (d.limit dev < header_end (page_count x)) × (IsTrue d.told → HoldsPages (page_count x) (d.bytes (pages_of x))))

@@ -8,7 +8,7 @@ ghost use Rattle.salt_disk.specs.Disks.{HasCause, KeepsBut};
 ghost use Rattle.salt_model.specs.Kept.{Definition};
 ghost use Rattle.salt_partition.specs.Choices.{which_of};
 ghost use Rattle.salt_paged.specs.Checkpoints.{FullAtCheckpoint, IsCheckpointed, IsTouched, StandsBehind, StandsUnder};
-ghost use Rattle.salt_paged.specs.Partitions.{IsPartition, StandsOnDevices, unit_count};
+ghost use Rattle.salt_paged.specs.Partitions.{IsPartition, StandsOnDevices, page_count, unit_count};
 ghost use Rattle.salt_stands.specs.Coordinator.{Coordinator};
 ghost use Rattle.salt_stands.specs.Pieces.{PartView, other_log};
 ghost use Rattle.salt_stands.specs.Reading.{Reading};
@@ -74,9 +74,10 @@ impl Partition {
         ensures ready { (r : Reading Definition) (which : WhichLog) (c : Coordinator Definition) (v : ℕ → PartView) → IsTrue (D.view disks.old).told → StandsUnder r (D.view disks.old) self.old which c v
             → OnOk result (StandsBehind r (D.view disks.new) self.new which c v) }
         ensures empty { OnOk result (unit_count self.new ≡ 0) }
+        ensures pages { OnOk result (page_count self.new ≡ page_count self.old) }
         ensures others { KeepsBut (IsTouched self.old) (D.view disks.old) (D.view disks.new) (result_err result) }
         ensures cause { HasCause (D.view disks.old) (D.view disks.new) (result_err result) }
-        ensures full { FullAtCheckpoint (D.view disks.old) self.old (result_err result) }
+        ensures full { FullAtCheckpoint (D.view disks.new) self.old (result_err result) }
     {
         let sides = self.rows.checkpoint(disks)?;
         let header = next_header(self.alloc, &self.header, sides.as_slice())?;

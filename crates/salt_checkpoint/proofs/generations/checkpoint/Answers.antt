@@ -1,14 +1,15 @@
 use Rattle.salt_checkpoint.proofs.Calls.{IsSynced, IsWriting, after_ready, beginning, beginning_stands, creating, other_no_page, syncing, syncs, writing, writing_stands}
-use Rattle.salt_checkpoint.proofs.Limits.{full_never, full_only, full_other, full_pages}
+use Rattle.salt_checkpoint.proofs.Limits.{full_at, full_never, full_only, full_other, full_pages, not_full}
 use Rattle.salt_checkpoint.proofs.generations.checkpoint.Goals as goal
-use Rattle.salt_checkpoint.specs.Sides.{all_written}
+use Rattle.salt_checkpoint.specs.Sides.{all_written, writes_end}
 use Rattle.salt_disk.proofs.CallAfterCall.{keeps_on, keeps_wider, shape_goes_on}
 use Rattle.salt_disk.specs.Disks.{EachImage, IsSettled, KeepsBut, KeepsOthers}
+use Rattle.salt_disk.specs.declared.disks.DiskErr.TheVariants.{Full}
 use Rattle.salt_bytes.specs.Log.{entries_in}
 use Rattle.salt_gatelog.specs.Log.{IsBeforeOrWith}
 use Rattle.salt_checkpoint.proofs.Calls.{log_bytes}
 use Rattle.salt_stands.specs.Partition.{pages_device}
-use Rattle.std.proofs.Common.{None, [], ap, arith, inl, inr, length, refl, subst, sym, ◌+◌, ◌≡◌, ◌≢◌, ◌⊎◌, ◌∙◌, ◌∷◌, ℕ}
+use Rattle.std.proofs.Common.{None, Some, [], ap, arith, inl, inr, length, refl, subst, sym, ◌+◌, ◌≡◌, ◌≢◌, ◌⊎◌, ◌∙◌, ◌∷◌, ℕ}
 use Rattle.std.proofs.lemmas.Result.{err_from_is_err_and}
 use Rattle.std.specs.Result.{result_err}
 
@@ -149,6 +150,49 @@ returns-clause-bytes g c told =
     let synced : d2.bytes pages ≡ all_written c.args.writes.now (d0.bytes pages) =
     subst (λ dev. d2.bytes dev ≡ all_written c.args.writes.now (d0.bytes dev)) c.pages_of-pages.ensures (c.in_ok-sync.ensures.bytes ∙ c.in_ok-write_all.ensures.bytes told) in
     (c.in_ok-append.ensures.others.kept pages (λ e. apart (e ∙ c.in_ok-log.ensures.log.0))).bytes ∙ (c.in_ok-log.ensures.others.kept pages apart).bytes ∙ synced
+
+pub returns-in_err-write_all-clause-written : goal.returns-in_err-write_all-clause-written
+returns-in_err-write_all-clause-written g c dev is told =
+    let p = err_from_is_err_and c.from_residual.result c.from_residual.ensures.1 in
+    let d0 = g.D.Disks.view c.args.disks.now in
+    let pages = c.pages_of-pages.result in
+    let full : c.in_err-write_all.field-0.0 ≡ Full dev = cc (is, p.1, p.2) in
+    inl (full_at pages (d0.limit pages) (writes_end c.args.writes.now) dev c.in_err-write_all.field-0.0 full c.in_err-write_all.ensures.full ∙ c.pages_of-pages.ensures)
+
+pub returns-in_err-sync-clause-written : goal.returns-in_err-sync-clause-written
+returns-in_err-sync-clause-written g c dev is told =
+    let p = err_from_is_err_and c.from_residual-in_err-sync.result c.from_residual-in_err-sync.ensures.1 in
+    let full : c.in_err-sync.field-0.0 ≡ Full dev = cc (is, p.1, p.2) in
+    absurd (not_full dev c.in_err-sync.field-0.0 full c.in_err-sync.ensures.answers)
+
+pub returns-in_err-log-clause-written : goal.returns-in_err-log-clause-written
+returns-in_err-log-clause-written g c dev is told =
+    let p = err_from_is_err_and c.from_residual-in_err-log.result c.from_residual-in_err-log.ensures.1 in
+    let full : c.in_err-log.field-0.0 ≡ Full dev = cc (is, p.1, p.2) in
+    let d2 = g.D.Disks.view c.sync.new.self in
+    let d3 = g.D.Disks.view c.create.new.disks in
+    let others : KeepsOthers c.args.other d2 d3 (Some (Full dev)) = subst (λ k. KeepsOthers c.args.other d2 d3 (Some k)) full c.in_err-log.ensures.others in
+    let d0 = g.D.Disks.view c.args.disks.now in
+    let pages = pages_device c.args.part in
+    let apart : pages ≢ c.args.other = λ e. other_no_page c.args.part c.args.other c.requires.other (sym e) in
+    let synced : d2.bytes pages ≡ all_written c.args.writes.now (d0.bytes pages) =
+    subst (λ dev. d2.bytes dev ≡ all_written c.args.writes.now (d0.bytes dev)) c.pages_of-pages.ensures (c.in_ok-sync.ensures.bytes ∙ c.in_ok-write_all.ensures.bytes told) in
+    inr ((others.kept pages apart).bytes ∙ synced)
+
+pub returns-in_err-append-clause-written : goal.returns-in_err-append-clause-written
+returns-in_err-append-clause-written g c dev is told =
+    let p = err_from_is_err_and c.from_residual-in_err-append.result c.from_residual-in_err-append.ensures.1 in
+    let full : c.in_err-append.field-0.0 ≡ Full dev = cc (is, p.1, p.2) in
+    let d2 = g.D.Disks.view c.sync.new.self in
+    let d3 = g.D.Disks.view c.create.new.disks in
+    let d4 = g.D.Disks.view c.append.new.disks in
+    let others : KeepsOthers c.in_ok-log.log.dev d3 d4 (Some (Full dev)) = subst (λ k. KeepsOthers c.in_ok-log.log.dev d3 d4 (Some k)) full c.in_err-append.ensures.others in
+    let d0 = g.D.Disks.view c.args.disks.now in
+    let pages = pages_device c.args.part in
+    let apart : pages ≢ c.args.other = λ e. other_no_page c.args.part c.args.other c.requires.other (sym e) in
+    let synced : d2.bytes pages ≡ all_written c.args.writes.now (d0.bytes pages) =
+    subst (λ dev. d2.bytes dev ≡ all_written c.args.writes.now (d0.bytes dev)) c.pages_of-pages.ensures (c.in_ok-sync.ensures.bytes ∙ c.in_ok-write_all.ensures.bytes told) in
+    inr ((others.kept pages (λ e. apart (e ∙ c.in_ok-log.ensures.log.0))).bytes ∙ (c.in_ok-log.ensures.others.kept pages apart).bytes ∙ synced)
 
 pub returns-clause-stable : goal.returns-clause-stable
 returns-clause-stable g c =

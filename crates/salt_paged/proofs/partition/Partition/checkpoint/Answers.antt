@@ -2,19 +2,21 @@ use Rattle.salt_codec.specs.Entries.{header_of}
 use Rattle.salt_bytes.specs.Partition.{PartitionHeader, partition_header_in}
 use Rattle.salt_bytes.specs.Spellable.{Every}
 use Rattle.salt_disk.specs.Disks.{IsSettled, KeepsBut, KeepsOthers}
-use Rattle.salt_paged.proofs.Checkpointed.{flushed_ready, flushed_stands, full_header, full_pages, header_length, header_reads, is_checkpointed, is_next, next_names, stands_told, tables_in, touched, touched_first, touched_gone}
+use Rattle.salt_disk.specs.declared.disks.DiskErr.TheVariants.{Full}
+use Rattle.salt_paged.proofs.Checkpointed.{flushed_ready, flushed_stands, full_header, full_pages, header_length, header_reads, is_checkpointed, is_next, next_names, stand_behind, stands_told, tables_in, touched, touched_first, touched_gone}
 use Rattle.salt_paged.proofs.partition.Partition.checkpoint.Goals as goal
-use Rattle.salt_paged.specs.Partitions.{page_count}
+use Rattle.salt_paged.specs.Checkpoints.{other_device}
+use Rattle.salt_paged.specs.Partitions.{page_count, pages_of}
 use Rattle.salt_paged.specs.declared.partition.Partition.{Partition}
 use Rattle.salt_rows.proofs.Written.{store_named}
 use Rattle.salt_rows.specs.declared.store.RowStore.{RowStore}
 use Rattle.salt_rows.specs.Stores as stores
 use Rattle.salt_rows.specs.Stores.{HaveRows, IsRowStore, IsSide}
 use Rattle.salt_stands.specs.Coordinator.{decided_for, device_of}
-use Rattle.salt_stands.specs.Partition.{pages_device, part_device}
+use Rattle.salt_stands.specs.Partition.{HoldsPages, pages_device, part_device}
 use Rattle.salt_stands.specs.Pieces.{checkpointed, next_part_header, other_log}
 use Rattle.salt_stands.specs.Tables.{change_of_row}
-use Rattle.std.proofs.Common.{List, None, Some, ap, arith, length, refl, subst, sym, true, ℕ, ◌+◌, ◌<◌, ◌^◌, ◌≡◌, ◌⊎◌, ◌∙◌}
+use Rattle.std.proofs.Common.{Err, List, None, Some, ap, arith, length, refl, subst, sym, true, ℕ, ◌+◌, ◌<◌, ◌^◌, ◌≡◌, ◌⊎◌, ◌∙◌}
 use Rattle.std.proofs.lemmas.Result.{err_from_is_err_and}
 use Rattle.std.specs.Prelude.{IsTrue, map}
 use Rattle.std.specs.Result.{result_err}
@@ -211,18 +213,27 @@ returns-clause-others g c =
 pub returns-in_err-sides-clause-full : goal.returns-in_err-sides-clause-full
 returns-in_err-sides-clause-full g c =
     let d0 = g.D.Disks.view c.args.disks.now in
+    let d1 = g.D.Disks.view c.checkpoint.new.disks in
     let p = err_from_is_err_and c.from_residual.result c.from_residual.ensures.1 in
     let at = c.requires.is.rows.is.device ∙ ap pages_device (sym c.requires.is.part) in
-    rw (p.1, p.2) (full_pages d0 c.args.self.now (stores.device_of c.args.self.now.rows) c.in_err-sides.field-0.0 at c.in_err-sides.ensures.full)
+    rw (p.1, p.2) (full_pages d0 d1 c.in_err-sides.ensures.others.shape c.args.self.now (stores.device_of c.args.self.now.rows) c.in_err-sides.field-0.0 at c.in_err-sides.ensures.full)
 
 pub returns-in_err-log-clause-full : goal.returns-in_err-log-clause-full
 returns-in_err-log-clause-full g c =
-    let d0 = g.D.Disks.view c.args.disks.now in
     let d1 = g.D.Disks.view c.checkpoint.new.disks in
+    let d2 = g.D.Disks.view c.checkpoint-2.new.disks in
     let x = c.args.self.now in
     let s = c.requires in
     let p = err_from_is_err_and c.from_residual-in_err-log.result c.from_residual-in_err-log.ensures.1 in
     let header = header_of c.in_ok-header.header in
+    let named = s.v.log.header.sides in
+    let t = tables_in s.applied s.v in
+    let shape = c.in_err-log.ensures.others.shape in
+    let is : c.log_of-other.result ≡ other_device x = c.log_of-other.ensures ∙ ap (device_of (part_device x.part)) c.other_of-side.ensures in
+    let stand : (dev : ℕ) → c.in_err-log.field-0.0 ≡ Full dev → dev ≡ c.log_of-other.result → IsTrue d2.told → HoldsPages (page_count x) (d2.bytes (pages_of x)) = λ dev full at told.
+    let told1 : IsTrue d1.told = sym shape.told ∙ told in
+    stand_behind d1 d2 x c.checkpoint.new.self s.p named t s.is.part (c.in_ok-sides.ensures.rows (pages_device s.p) named t s.is.rows.is).is c.in_ok-sides.ensures.clean (ap length c.in_ok-sides.ensures.same) told1 dev (at ∙ is)
+    (c.in_err-log.ensures.written dev (ap Err full) told1) in
     let long : length c.deref.result.now ≡ 19 + page_count x =
     ap length (c.deref.ensures.value ∙ c.in_ok-bytes.ensures.bytes) ∙ header_length header ∙ ap (λ (h : PartitionHeader). 19 + length h.sides) c.in_ok-header.ensures.made ∙ ap (λ (l : List ℕ). 19 + length l) (c.as_slice.ensures ∙ c.in_ok-sides.ensures.sides ∙ c.in_ok-sides.ensures.same) in
-    rw (p.1, p.2) (full_header d0 x d1 (pages_device x.part) c.log_of-other.result (length c.deref.result.now) c.in_err-log.field-0.0 c.in_ok-sides.ensures.others.shape refl (c.log_of-other.ensures ∙ ap (device_of (part_device x.part)) c.other_of-side.ensures) long c.in_err-log.ensures.full)
+    rw (p.1, p.2) (full_header d1 d2 shape x (pages_device x.part) c.log_of-other.result (length c.deref.result.now) c.in_err-log.field-0.0 is long stand c.in_err-log.ensures.full)
