@@ -1,7 +1,7 @@
 -- The other log, begun with all that is kept.
 use Rattle.salt_bytes.proofs.Logs.{reads_header}
 use Rattle.salt_bytes.specs.Coordinator.{CoordinatorHeader, header_in, spell_header}
-use Rattle.salt_bytes.specs.Generations.{Counts, IsRead, LogA, LogB, WhichLog, chosen, content_of, follows, next_generation, pair_of, read_or_outside}
+use Rattle.salt_bytes.specs.Generations.{Blank, Counts, IsRead, LogA, LogB, WhichLog, chosen, content_of, follows, next_generation, pair_of, read_or_outside}
 use Rattle.salt_bytes.specs.Log.{entries_in}
 use Rattle.salt_bytes.specs.Spellable.{IsSpellableHeader}
 use Rattle.salt_decisions.proofs.Appended.{other_dev}
@@ -15,13 +15,12 @@ use Rattle.salt_disk.specs.declared.disks.DiskErr.{DiskErr}
 use Rattle.salt_gatelog.specs.Log as gates
 use Rattle.salt_gatelog.specs.Log.{IsLog}
 use Rattle.salt_gatelog.specs.declared.log.GateLog.{GateLog}
-use Rattle.salt_stands.proofs.Pairs.{is_read_a, is_read_b}
-use Rattle.salt_stands.specs.Coordinator.{Logs, device_of}
+use Rattle.salt_stands.proofs.Pairs.{is_read_a, is_read_b, pair_same}
+use Rattle.salt_stands.specs.Coordinator.{Logs, coordinator_pair, device_of}
 use Rattle.salt_stands.specs.CoordinatorLog.{CoordinatorLog, coordinator_generation, coordinator_in, told_by_header, with_told}
 use Rattle.salt_stands.specs.Pieces.{IsSameAt, other_log}
 use Rattle.salt_stands.specs.Stands.{logs_of}
-use Rattle.salt_values.specs.declared.cont.Cont.{Cont}
-use Rattle.std.proofs.Common.{List, None, Option, Some, [], ap, arith, false, inl, inr, refl, subst, sym, true, ℕ, ◌<◌, ◌≡◌, ◌≤◌, ◌⊎◌, ◌∙◌, ◌∷◌}
+use Rattle.std.proofs.Common.{IsTrue, List, None, Option, Some, [], ap, arith, false, inl, inr, refl, subst, sym, true, ℕ, ◌<◌, ◌≡◌, ◌≤◌, ◌⊎◌, ◌∙◌, ◌∷◌}
 use Rattle.std.proofs.lemmas.Bool.Decides.{Decides-eqb, nat_tests}
 use Rattle.std.specs.Prelude.{nat_le, option_and_then}
 
@@ -59,6 +58,17 @@ module _ {L : Type 0} (generation : L → ℕ) (read : List (List ℕ) → Optio
       let now : content_of read (new 0) ≡ IsRead next = ap (content_of read) is ∙ ap read_or_outside reads in
       ap (λ x. pair_of generation x (content_of read (new 1))) now ∙ ap (λ x. pair_of generation (IsRead next) x) was ∙ next_a
 
+-- the other log is made blank
+module _ {L : Type 0} (generation : L → ℕ) (read : List (List ℕ) → Option L) (old new : Logs) (log : L) where
+  pair_alone : (which : WhichLog) → pair_of generation (content_of read (old 0)) (content_of read (old 1)) ≡ Counts which log → new (device_of 0 (other_log which)) ≡ Some [] → IsSameAt (device_of 0 which) old new
+      → pair_of generation (content_of read (new 0)) (content_of read (new 1)) ≡ Counts which log
+  pair_alone LogA counts is same =
+      let was : content_of read (new 0) ≡ IsRead log = ap (content_of read) same ∙ is_read_a generation (content_of read (old 0)) (content_of read (old 1)) log counts in
+      ap (λ x. pair_of generation x (content_of read (new 1))) was ∙ ap (λ o. pair_of generation (IsRead log) (content_of read o)) is
+  pair_alone LogB counts is same =
+      let was : content_of read (new 1) ≡ IsRead log = ap (content_of read) same ∙ is_read_b generation (content_of read (old 0)) (content_of read (old 1)) log counts in
+      ap (λ o. pair_of generation (content_of read o) (content_of read (new 1))) is ∙ ap (λ x. pair_of generation Blank x) was
+
 settled_kept : (d e : View) (dev : ℕ) → IsUnchanged d e dev → IsSettled d dev → IsSettled e dev
 settled_kept d e dev same settled c left = settled c (same.images c left) ∙ sym same.bytes
 
@@ -80,33 +90,49 @@ module _ (d0 : View) (x : Decisions) (which : WhichLog) (log : CoordinatorLog) (
   settled : IsSettled d0 (device_of 0 which)
   settled = subst (λ dev. IsSettled d0 dev) h.counting.device h.counting.is_log.settled
 
-  same_header : (conts : List Cont) → header_with (next_generation x.generation) x.shape x.boot x.decisions x.definitions conts ≡ next_header log conts
-  same_header conts = λ i. record {
+  same_header : header_with (next_generation x.generation) x.shape x.boot x.decisions x.definitions x.conts ≡ next_header log x.conts
+  same_header = λ i. record {
     format = 3;
     generation = next_generation (h.holds.generation i);
     shape = h.holds.shape i;
     boot = h.holds.boot i;
     decisions = h.holds.decisions i;
     definitions = h.holds.definitions i;
-    conts = conts;
+    conts = x.conts;
   }
+
+  -- the header that is spelled is the log's next one
+  pub payload_is : snapshot_payload x ≡ spell_header (next_header log x.conts)
+  payload_is = ap spell_header same_header
 
   -- what it leaves of the log that counted
   pub counting_images : (e : View) → Shrinks d0 e (device_of 0 which) → EachImage e (device_of 0 which) (HasSameEntries (d0.bytes (device_of 0 which)))
   counting_images e shrinks told c left = ap entries_in (settled c (shrinks c left))
 
-  pub header_reads : (conts : List Cont) → IsSpellableHeader (header_with (next_generation x.generation) x.shape x.boot x.decisions x.definitions conts) → header_in (snapshot_payload x conts) ≡ Some (next_header log conts)
-  header_reads conts good = reads_header (header_with (next_generation x.generation) x.shape x.boot x.decisions x.definitions conts) good ∙ ap (λ (k : CoordinatorHeader). Some k) (same_header conts)
+  pub header_reads : IsSpellableHeader (header_with (next_generation x.generation) x.shape x.boot x.decisions x.definitions x.conts) → header_in (snapshot_payload x) ≡ Some (next_header log x.conts)
+  header_reads good = reads_header (header_with (next_generation x.generation) x.shape x.boot x.decisions x.definitions x.conts) good ∙ ap (λ (k : CoordinatorHeader). Some k) same_header
 
-  module _ (d1 d2 : View) (gate gate' : GateLog) (payload : List ℕ) (conts : List Cont)
-      (is : payload ≡ spell_header (header_with (next_generation x.generation) x.shape x.boot x.decisions x.definitions conts))
-      (good : IsSpellableHeader (header_with (next_generation x.generation) x.shape x.boot x.decisions x.definitions conts))
+  -- WHERE IT IS FULL the log counts still: both logs are as they were, or the other one is blank
+  pub counts_still : (e : View) → e.bytes (device_of 0 which) ≡ d0.bytes (device_of 0 which) → e.bytes (device_of 0 (other_log which)) ≡ d0.bytes (device_of 0 (other_log which)) → IsTrue d0.told
+      → coordinator_pair (logs_of e.bytes) ≡ Counts which log
+  counts_still e own other told = same which own other ∙ h.counting.counts told
+    where
+      same : (w : WhichLog) → e.bytes (device_of 0 w) ≡ d0.bytes (device_of 0 w) → e.bytes (device_of 0 (other_log w)) ≡ d0.bytes (device_of 0 (other_log w)) → coordinator_pair (logs_of e.bytes) ≡ coordinator_pair (logs_of d0.bytes)
+      same LogA a b = pair_same coordinator_generation coordinator_in 0 (logs_of d0.bytes) (logs_of e.bytes) (ap entries_in a) (ap entries_in b)
+      same LogB b a = pair_same coordinator_generation coordinator_in 0 (logs_of d0.bytes) (logs_of e.bytes) (ap entries_in a) (ap entries_in b)
+
+  pub counts_alone : (e : View) → e.bytes (device_of 0 which) ≡ d0.bytes (device_of 0 which) → entries_in (e.bytes (device_of 0 (other_log which))) ≡ Some [] → IsTrue d0.told → coordinator_pair (logs_of e.bytes) ≡ Counts which log
+  counts_alone e own blank told = pair_alone coordinator_generation coordinator_in (logs_of d0.bytes) (logs_of e.bytes) log which (h.counting.counts told) blank (ap entries_in own)
+
+  module _ (d1 d2 : View) (gate gate' : GateLog) (payload : List ℕ)
+      (is : payload ≡ spell_header (header_with (next_generation x.generation) x.shape x.boot x.decisions x.definitions x.conts))
+      (good : IsSpellableHeader (header_with (next_generation x.generation) x.shape x.boot x.decisions x.definitions x.conts))
       (device : gates.device_of gate ≡ device_of 0 (other_log which)) (first : KeepsOthers (device_of 0 (other_log which)) d0 d1 None) (second : KeepsOthers (device_of 0 (other_log which)) d1 d2 None)
       (same : gates.device_of gate' ≡ gates.device_of gate) (is_log : IsLog d2 gate' (payload ∷ [])) where
-    reads : header_in payload ≡ Some (next_header log conts)
-    reads = ap header_in is ∙ header_reads conts good
+    reads : header_in payload ≡ Some (next_header log x.conts)
+    reads = ap header_in is ∙ header_reads good
 
-    pub snapshot_counts : IsCounting d2 gate' (other_log which) (snapshotted log conts)
+    pub snapshot_counts : IsCounting d2 gate' (other_log which) (snapshotted log x.conts)
     snapshot_counts = record {
       entries = payload ∷ [];
       is_log = is_log;
@@ -114,13 +140,13 @@ module _ (d0 : View) (x : Decisions) (which : WhichLog) (log : CoordinatorLog) (
       known = omega (arith, h.counting.known, first.shape.count, second.shape.count);
       other = twice d2 which (settled_kept d1 d2 (device_of 0 which) (second.kept (device_of 0 which) apart) (settled_kept d0 d1 (device_of 0 which) (first.kept (device_of 0 which) apart) settled));
       counts = λ told.
-          pair_next coordinator_generation coordinator_in log (snapshotted log conts) payload (ap (option_and_then (λ k. with_told k (Some (told_by_header k)))) reads) refl (logs_of d0.bytes) (logs_of d2.bytes) which
+          pair_next coordinator_generation coordinator_in log (snapshotted log x.conts) payload (ap (option_and_then (λ k. with_told k (Some (told_by_header k)))) reads) refl (logs_of d0.bytes) (logs_of d2.bytes) which
           (h.counting.counts (sym first.shape.told ∙ sym second.shape.told ∙ told))
           (ap (λ dev. entries_in (d2.bytes dev)) (sym device ∙ sym same) ∙ log_bytes d2 gate' (payload ∷ []) told is_log)
           (ap entries_in ((second.kept (device_of 0 which) apart).bytes ∙ (first.kept (device_of 0 which) apart).bytes));
     }
 
-    pub snapshot_begins : BeginsWith d2 (device_of 0 (other_log which)) (next_header log conts) payload
+    pub snapshot_begins : BeginsWith d2 (device_of 0 (other_log which)) (next_header log x.conts) payload
     snapshot_begins = record {
       entries = λ told. ap (λ dev. entries_in (d2.bytes dev)) (sym device ∙ sym same) ∙ log_bytes d2 gate' (payload ∷ []) told is_log;
       reads = reads;

@@ -14,6 +14,7 @@ use Rattle.salt_gatelog.specs.declared.log.GateLog.{GateLog}
 use Rattle.salt_stands.specs.Coordinator.{coordinator_pair, device_of}
 use Rattle.salt_stands.specs.CoordinatorLog.{CoordinatorLog, Told, told_by_header}
 use Rattle.salt_stands.specs.OpenConts.{do_rise, moved}
+use Rattle.salt_stands.specs.Pieces as pieces
 use Rattle.salt_stands.specs.Pieces.{other_log}
 use Rattle.salt_stands.specs.Stands.{logs_of}
 use Rattle.salt_values.specs.declared.cont.Cont.{Cont}
@@ -43,11 +44,14 @@ numbers_in x = (last_boot x, last_decision x)
 abbrev pub definitions_in : Decisions → List Definition
 definitions_in x = x.definitions
 
+abbrev pub conts_in : Decisions → List Cont
+conts_in x = x.conts
+
 -- these continuations are open, where the header's are in order and each move goes on from those before it
 abbrev pub AreOpen : List Cont → CoordinatorLog → Type 0
 AreOpen conts log = do_rise log.header.conts ≡ true → (cs : List Cont) → moved log.header.format (Some log.header.conts) log.told.decided ≡ Some cs → conts ≡ cs
 
--- what it says is what the log says; the continuations that are open its caller keeps
+-- what it says is what the log says, and it has the continuations that are open
 pub record HoldsLog (x : Decisions) (log : CoordinatorLog) : Type 0 where
   pub format : x.format ≡ log.header.format
   pub generation : x.generation ≡ log.header.generation
@@ -55,6 +59,7 @@ pub record HoldsLog (x : Decisions) (log : CoordinatorLog) : Type 0 where
   pub boot : last_boot x ≡ log.told.boot
   pub decisions : last_decision x ≡ log.told.decisions
   pub definitions : map numbered_of (definitions_in x) ≡ log.told.definitions
+  pub conts : AreOpen (conts_in x) log
   pub parts : is_number_of_parts x.shape.parts ≡ true
 
 -- The log counts of the coordinator's pair, and nothing is pending on either device. What it says is that of the device's
@@ -112,21 +117,13 @@ format_of x = x.format
 -- A SNAPSHOT: the header that the other log begins with, what is spelled of it, and the log that it begins
 
 abbrev pub next_header : CoordinatorLog → List Cont → CoordinatorHeader
-next_header log conts = record {
-  format = FORMAT;
-  generation = next_generation log.header.generation;
-  shape = log.header.shape;
-  boot = log.told.boot;
-  decisions = log.told.decisions;
-  definitions = log.told.definitions;
-  conts = conts;
-}
+next_header log conts = pieces.next_header log conts FORMAT
 
 abbrev pub snapshotted : CoordinatorLog → List Cont → CoordinatorLog
 snapshotted log conts = record { header = next_header log conts; told = told_by_header (next_header log conts) }
 
-abbrev pub snapshot_payload : Decisions → List Cont → List ℕ
-snapshot_payload x conts = spell_header (header_with (next_generation x.generation) x.shape x.boot x.decisions x.definitions conts)
+abbrev pub snapshot_payload : Decisions → List ℕ
+snapshot_payload x = spell_header (header_with (next_generation x.generation) x.shape x.boot x.decisions x.definitions x.conts)
 
 -- what it may leave of the other log's device: the bytes from before, nothing, or the header alone, which is read from there
 abbrev pub IsSnapshotImage : List ℕ → CoordinatorHeader → List ℕ → List ℕ → Type 0

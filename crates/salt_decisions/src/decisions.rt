@@ -1,19 +1,21 @@
 //! The coordinator's log that counts, and what is added to it.
 
 ghost use Rattle.salt_bytes.specs.Coordinator.{Boots, CoordinatorEntry, Decides, Defines, entry_in, spell_entry};
-ghost use Rattle.salt_bytes.specs.Generations.{WhichLog};
-ghost use Rattle.salt_decisions.specs.Decisions.{AreOpen, BeginsWith, HasSameEntries, IsBeforeOrWith, IsCounting, IsDecisions, IsSnapshotImage, booted, count_in, decided, defined, definitions_in, device_in, format_of, gate_in, last_boot, last_decision, log_with, next_decision, next_definition, next_header, numbers_in, shape_of, snapshot_payload, snapshotted};
+ghost use Rattle.salt_bytes.specs.Generations.{Counts, WhichLog};
+ghost use Rattle.salt_decisions.specs.Decisions.{BeginsWith, HasSameEntries, IsBeforeOrWith, IsCounting, IsDecisions, IsSnapshotImage, booted, conts_in, count_in, decided, defined, definitions_in, device_in, format_of, gate_in, last_boot, last_decision, log_with, next_decision, next_definition, next_header, numbers_in, shape_of, snapshot_payload, snapshotted};
 ghost use Rattle.salt_disk.specs.Disks.{EachImage, FullExactly, FullOnly, HasCause, IsUnchanged, KeepsOthers};
 ghost use Rattle.salt_disk.specs.declared.disks.DiskErr.TheVariants.{Full};
 ghost use Rattle.salt_gatelog.specs.Log as gates;
 ghost use Rattle.salt_gatelog.specs.Log.{gate_of, payload_in};
 ghost use Rattle.salt_place.specs.Placement.{IsParts};
-ghost use Rattle.salt_stands.specs.Coordinator.{device_of};
+ghost use Rattle.salt_stands.specs.Coordinator.{coordinator_pair, device_of};
 ghost use Rattle.salt_stands.specs.CoordinatorLog.{CoordinatorLog, Told, tell};
 ghost use Rattle.salt_stands.specs.Pieces.{other_log};
-ghost use Rattle.std.specs.Prelude.{Err, IfOk, OnErr, OnOk, Some, length, nat_lt, true, ℕ, ◌+◌, ◌-◌, ◌<◌, ◌≤◌, ◌^◌, ◌≡◌};
+ghost use Rattle.salt_stands.specs.Stands.{logs_of};
+ghost use Rattle.std.specs.Prelude.{Err, IfOk, IsTrue, OnErr, OnOk, Some, length, nat_lt, true, ℕ, ◌+◌, ◌-◌, ◌<◌, ◌≤◌, ◌^◌, ◌≡◌};
 ghost use Rattle.std.specs.Result.{result_err};
 
+use crate::going::go_on;
 use crate::header::{Definition, Definitions};
 use crate::header_payload::{FORMAT, header_payload};
 use crate::payload::{boot_frame, decision_frame, definition_frame};
@@ -21,7 +23,7 @@ use crate::which::Which;
 use salt_disk::{DiskErr, Disks};
 use salt_gatelog::{GateLog, create, next_generation};
 use salt_place::Shape;
-use salt_values::{Cont, Id};
+use salt_values::{Cont, Conts, Id};
 use sqlite_items::Items;
 use std::alloc::Global;
 use std::marker::Model;
@@ -38,6 +40,7 @@ pub struct Decisions {
     pub(crate) boot: u64,
     pub(crate) decisions: u64,
     pub(crate) definitions: Definitions,
+    pub(crate) conts: Conts,
 }
 
 impl Model for Decisions {
@@ -47,7 +50,7 @@ impl Model for Decisions {
 
     ghost Value = { Shown };
 
-    ghost view = { λ d. record { which = which_in d.which; gate = d.gate; format = d.format; generation = d.generation; shape = d.shape; boot = d.boot; decisions = d.decisions; definitions = d.definitions } };
+    ghost view = { λ d. record { which = which_in d.which; gate = d.gate; format = d.format; generation = d.generation; shape = d.shape; boot = d.boot; decisions = d.decisions; definitions = d.definitions; conts = d.conts } };
 
     ghost invariant = { λ d. IsParts d.shape.parts };
 }
@@ -89,6 +92,13 @@ impl Decisions {
         ensures { result.now ≡ definitions_in self.now }
     {
         self.definitions.as_slice()
+    }
+
+    /// The continuations that are open, in the order in which they were accepted.
+    pub fn conts(&self) -> &[Cont]
+        ensures { result.now ≡ conts_in self.now }
+    {
+        self.conts.as_slice()
     }
 
     /// How many partitions there are, and how rows are spread over them.
@@ -175,8 +185,8 @@ impl Decisions {
     }
 
     /// Appends the entry that decides a unit, under the next number of a decision, and gives that number: `parts` are the
-    /// bits of the partitions that have its changes, and `mv` is its move as it is spelled. Each image of the log's device has
-    /// the entry more, or not.
+    /// bits of the partitions that have its changes, and `mv` is its move as it is spelled, which is made of the open
+    /// continuations. Each image of the log's device has the entry more, or not.
     pub fn decide<D: Disks>(
         &mut self,
         alloc: Global,
@@ -203,6 +213,7 @@ impl Decisions {
         ensures untouched { (n : ℕ) → result ≡ Err (Full n) → IsUnchanged (D.view disks.old) (D.view disks.new) (device_in self.old) }
     {
         let number = self.decisions + 1;
+        go_on(alloc, self.format, &mut self.conts, mv)?;
         let frame = decision_frame(alloc, number, unit, parts, mv)?;
         append_entry(disks, &mut self.gate, frame)?;
         self.decisions = number;
@@ -210,34 +221,34 @@ impl Decisions {
     }
 
     /// Begins the pair's other log with the next generation's header: the boot, the number of the last decision, the
-    /// definitions, and the continuations that the log leaves open, which its caller keeps and lends. The header's format is 3.
-    /// From then on that log counts. Until the header stands there its device has what it had, or is blank.
-    pub fn snapshot<D: Disks>(
-        &mut self,
-        alloc: Global,
-        disks: &mut D,
-        conts: &[Cont],
-    ) -> Result<(), DiskErr>
-        requires log { (which : WhichLog) × ((log : CoordinatorLog) × IsDecisions (D.view disks.old) self.old which log × AreOpen conts.now log) }
+    /// definitions, and the continuations that are open. The header's format is 3. From then on that log counts. Until the header
+    /// stands there its device has what it had, or is blank; and where it is full, the log that counted counts.
+    pub fn snapshot<D: Disks>(&mut self, alloc: Global, disks: &mut D) -> Result<(), DiskErr>
+        requires log { (which : WhichLog) × ((log : CoordinatorLog) × IsDecisions (D.view disks.old) self.old which log) }
 
         ensures ok { (which : WhichLog) (log : CoordinatorLog) → IsDecisions (D.view disks.old) self.old which log
-            → OnOk result (IsDecisions (D.view disks.new) self.new (other_log which) (snapshotted log conts.now)) }
+            → OnOk result (IsDecisions (D.view disks.new) self.new (other_log which) (snapshotted log (conts_in self.old))) }
         ensures begins { (which : WhichLog) (log : CoordinatorLog) → IsDecisions (D.view disks.old) self.old which log
-            → OnOk result (BeginsWith (D.view disks.new) (device_of 0 (other_log which)) (next_header log conts.now) (snapshot_payload self.old conts.now)) }
+            → OnOk result (BeginsWith (D.view disks.new) (device_of 0 (other_log which)) (next_header log (conts_in self.old)) (snapshot_payload self.old)) }
+        ensures numbers { numbers_in self.new ≡ numbers_in self.old }
         ensures shape { shape_of self.new ≡ shape_of self.old }
+        ensures entries { OnOk result (count_in self.new ≡ 1) }
         ensures counting { (which : WhichLog) (log : CoordinatorLog) → IsDecisions (D.view disks.old) self.old which log
             → EachImage (D.view disks.new) (device_of 0 which) (HasSameEntries ((D.view disks.old).bytes (device_of 0 which))) }
         ensures images { (which : WhichLog) (log : CoordinatorLog) → IsDecisions (D.view disks.old) self.old which log
-            → EachImage (D.view disks.new) (device_of 0 (other_log which)) (IsSnapshotImage ((D.view disks.old).bytes (device_of 0 (other_log which))) (next_header log conts.now) (snapshot_payload self.old conts.now)) }
+            → EachImage (D.view disks.new) (device_of 0 (other_log which)) (IsSnapshotImage ((D.view disks.old).bytes (device_of 0 (other_log which))) (next_header log (conts_in self.old)) (snapshot_payload self.old)) }
 
         ensures others { (which : WhichLog) (log : CoordinatorLog) → IsDecisions (D.view disks.old) self.old which log
             → KeepsOthers (device_of 0 (other_log which)) (D.view disks.old) (D.view disks.new) (result_err result) }
         ensures cause { HasCause (D.view disks.old) (D.view disks.new) (result_err result) }
         ensures full { (which : WhichLog) (log : CoordinatorLog) → IsDecisions (D.view disks.old) self.old which log
-            → FullOnly (device_of 0 (other_log which)) ((D.view disks.old).limit (device_of 0 (other_log which))) (10 + length (snapshot_payload self.old conts.now)) (result_err result) }
+            → FullOnly (device_of 0 (other_log which)) ((D.view disks.old).limit (device_of 0 (other_log which))) (10 + length (snapshot_payload self.old)) (result_err result) }
+        ensures counts { (which : WhichLog) (log : CoordinatorLog) → IsDecisions (D.view disks.old) self.old which log
+            → (n : ℕ) → result ≡ Err (Full n) → IsTrue (D.view disks.old).told → coordinator_pair (logs_of (D.view disks.new).bytes) ≡ Counts which log }
     {
         let generation = next_generation(self.generation);
         let definitions = self.definitions.as_slice();
+        let conts = self.conts.as_slice();
         let payload = header_payload(
             alloc,
             generation,

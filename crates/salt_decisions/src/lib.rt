@@ -5,6 +5,7 @@
 mod conts;
 mod decisions;
 mod entry;
+mod going;
 mod header;
 mod header_payload;
 mod kept;

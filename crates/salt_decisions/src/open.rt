@@ -21,6 +21,7 @@ ghost use Rattle.std.specs.Prelude.{Err, IfErr, IfOk, IfSome, IsTrue, Some, [], 
 ghost use Rattle.std.specs.Result.{result_err};
 
 use crate::decisions::Decisions;
+use crate::going::going_behind;
 use crate::header_payload::{FORMAT, header_payload};
 use crate::kept::{Kept, texts_of};
 use crate::pair::{LogPair, read_pair};
@@ -89,7 +90,7 @@ pub fn peek<D: Disks>(alloc: Global, disks: &mut D) -> Result<Option<(Shape, Kep
     }
 }
 
-/// What a log that was read keeps, and the log itself.
+/// What a log that was read keeps, and the log itself, with the continuations that its moves leave open.
 fn opened(alloc: Global, which: Which, log: ReadLog) -> Result<(Decisions, Kept), AllocError>
     requires parts { IsParts log.shape.parts }
     ensures holds { (l : CoordinatorLog) → IsOf log l → IfOk result (λ made. HoldsLog made.0 l × IsKept made.1 l) }
@@ -113,6 +114,7 @@ fn opened(alloc: Global, which: Which, log: ReadLog) -> Result<(Decisions, Kept)
         moves,
     } = said;
     let texts = texts_of(alloc, definitions.as_slice())?;
+    let going = going_behind(alloc, format, conts.as_slice(), moves.as_slice())?;
     let counting = Decisions {
         which,
         gate,
@@ -122,6 +124,7 @@ fn opened(alloc: Global, which: Which, log: ReadLog) -> Result<(Decisions, Kept)
         boot,
         decisions,
         definitions,
+        conts: going,
     };
     let kept = Kept {
         boot,
@@ -183,6 +186,7 @@ fn begin<D: Disks>(alloc: Global, disks: &mut D, shape: Shape) -> Result<Decisio
         boot: 0,
         decisions: 0,
         definitions: Items::new(alloc),
+        conts: Items::new(alloc),
     })
 }
 

@@ -1,5 +1,6 @@
 use Rattle.salt_bytes.specs.Log.{entries_in}
 use Rattle.salt_decisions.proofs.Begun.{a_stays, are_parts, b_stays, begun_counts, begun_keeps, blank_a, blank_b, blank_image, blank_stays, blank_with_a, blank_with_b, first_blank, full_a, full_b, made_blank, one_zero, zero_one}
+use Rattle.salt_decisions.proofs.Moving.{some_same}
 use Rattle.salt_decisions.proofs.Snapshots.{full_appended}
 use Rattle.salt_decisions.proofs.open.begin.Goals as goal
 use Rattle.salt_decisions.specs.Header.{numbered_of}
@@ -84,6 +85,7 @@ returns-clause-ok g c =
         boot = refl;
         decisions = refl;
         definitions = ap (map numbered_of) c.new.ensures;
+        conts = λ rises cs is. c.new-2.ensures ∙ some_same [] cs is;
         parts = are_parts c.args.shape c.requires.parts;
       };
       counting = begun_counts c.args.shape d0 d1 d2 d3 c.in_ok-_other._other gate c.append.new.self c.deref.result.now c.requires.parts (c.deref.ensures.value ∙ c.in_ok-payload.ensures.put) c.requires.known

@@ -41,6 +41,7 @@ returns-clause-ok g c which log h =
         boot = ap (λ n. n + 1) was.holds.boot;
         decisions = was.holds.decisions;
         definitions = was.holds.definitions;
+        conts = was.holds.conts;
         parts = was.holds.parts;
       };
       counting = c.in_ok-append_entry.ensures.ok which log entry (booted log).told was.counting (read_so log.header.shape.parts entry (payload_in c.in_ok-frame.frame.items) (payload_in c.in_ok-frame.frame.items) refl c.in_ok-frame.ensures.payload good) tells;

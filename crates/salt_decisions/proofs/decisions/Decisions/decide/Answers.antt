@@ -1,12 +1,14 @@
 use Rattle.salt_bytes.specs.Coordinator.{Decides, Decision, spell_entry}
 use Rattle.salt_bytes.specs.Spellable.{IsSpellableEntry}
 use Rattle.salt_decisions.proofs.Appended.{next_told, read_so, spelled_so}
+use Rattle.salt_decisions.proofs.Moving.{open_on}
 use Rattle.salt_decisions.proofs.decisions.Decisions.decide.Goals as goal
 use Rattle.salt_decisions.specs.Decisions.{IsDecisions, decided, last_decision, next_decision}
+use Rattle.salt_decisions.specs.Moves.{then_moved}
 use Rattle.salt_decisions.specs.declared.decisions.Decisions.{Decisions}
 use Rattle.salt_gatelog.specs.Log.{payload_in}
 use Rattle.salt_stands.specs.Coordinator.{device_of}
-use Rattle.std.proofs.Common.{ap, arith, refl, subst, sym, true, ◌+◌, ◌^◌, ◌≡◌, ◌∙◌}
+use Rattle.std.proofs.Common.{Some, ap, arith, refl, subst, sym, true, ◌+◌, ◌^◌, ◌≡◌, ◌∙◌}
 use Rattle.std.specs.Prelude.{nat_lt}
 
 pub returns-in_err-append_entry-clause-images : goal.returns-in_err-append_entry-clause-images
@@ -40,6 +42,8 @@ returns-clause-ok g c which log h =
         boot = was.holds.boot;
         decisions = ap (λ (x : Decisions). last_decision x + 1) c.self.view_is;
         definitions = was.holds.definitions;
+        conts = open_on log d c.self.inside.conts c.go_on.new.conts was.holds.conts
+            (λ rises cs e. c.in_ok-go_on.ensures rises cs (ap (λ k. then_moved k c.args.mv.now (Some c.self.inside.conts)) was.holds.format ∙ e));
         parts = was.holds.parts;
       };
       counting = c.in_ok-append_entry.ensures.ok which log (Decides d) (decided log d).told was.counting (read_so log.header.shape.parts (Decides d) (payload_in c.in_ok-frame.frame.items) (payload_in c.in_ok-frame.frame.items) refl spelled good)

@@ -50,6 +50,7 @@ returns-clause-ok g c which log h =
         definitions = ap (map numbered_of) c.in_ok-push.ensures.ok ∙ map_push numbered_of c.self.inside.definitions made ∙ ap (λ l. l ++ numbered_of made ∷ []) was.holds.definitions
             ∙ ap (λ (text : List ℕ). log.told.definitions ++ numbered text ∷ []) c.in_ok-from_slice.ensures
             ∙ ap (λ (x : Decisions). log.told.definitions ++ next_definition x c.args.text.now ∷ []) c.self.view_is;
+        conts = was.holds.conts;
         parts = was.holds.parts;
       };
       counting = c.in_ok-append_entry.ensures.ok which log entry (defined log t).told was.counting (read_so log.header.shape.parts entry (payload_in c.in_ok-frame.frame.items) (payload_in c.in_ok-frame.frame.items) refl spelled good)
