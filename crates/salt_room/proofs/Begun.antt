@@ -1,6 +1,7 @@
 -- Partitions are checkpointed, one after another.
 use Rattle.law_generations.proofs.AsIf.{as_if_on, as_if_same, checkpoint_as_if}
 use Rattle.law_generations.specs.AsIf.{IsAsIf}
+use Rattle.salt_bytes.specs.Formats.{has_nulls}
 use Rattle.salt_bytes.specs.Generations.{LogA, LogB, WhichLog}
 use Rattle.salt_checkpoint.proofs.Snapshots.{unsnapped_stands}
 use Rattle.salt_checkpoint.specs.Checkpoints.{IsReady, StandsAlways}
@@ -10,14 +11,15 @@ use Rattle.salt_disk.specs.declared.disks.DiskErr.TheVariants.{Failed, Full, Mem
 use Rattle.salt_disk.specs.declared.disks.DiskErr.{DiskErr}
 use Rattle.salt_model.specs.Kept.{Definition}
 use Rattle.salt_paged.specs.Checkpoints.{FullAtCheckpoint, IsCheckpointed, IsTouched, StandsBehind, StandsUnder}
-use Rattle.salt_paged.specs.Partitions.{IsCheckpointOf, IsPartition}
+use Rattle.salt_paged.specs.Partitions.{IsCheckpointOf, IsPartition, page_count}
 use Rattle.salt_paged.specs.declared.partition.Partition.{Partition}
-use Rattle.salt_room.proofs.Apart.{high, other_kept}
+use Rattle.salt_room.proofs.Apart.{of_part, other_kept}
 use Rattle.salt_room.proofs.Lists.{if_each, if_some, set_other, set_same}
-use Rattle.salt_room.specs.Rooms.{ArePartsOf, EachStands, FullAtOne, GoOn, GoOnEmpty, IsOfPart, StandsAs}
-use Rattle.salt_stands.specs.Commits.{with_view}
+use Rattle.salt_room.specs.Rooms.{ArePartsOf, EachStands, FullAtOne, FullAtShare, GoOn, GoOnEmpty, HaveSamePages, HaveSameTables, IsOfPart, StandsAs}
+use Rattle.salt_stands.proofs.Generations.{checkpoint_tables}
+use Rattle.salt_stands.specs.Commits.{each_tables, partition_count, with_view}
 use Rattle.salt_stands.specs.Coordinator.{Coordinator, decided_for, device_of}
-use Rattle.salt_stands.specs.Pieces.{PartView, next_part_header, other_log}
+use Rattle.salt_stands.specs.Pieces.{PartView, next_part_header, other_log, tables_at_part}
 use Rattle.salt_stands.specs.Reading.{Reading}
 use Rattle.salt_stands.specs.Stands.{Found}
 use Rattle.salt_values.specs.declared.id.Id.{Id}
@@ -25,11 +27,22 @@ use Rattle.std.proofs.Common.{Bool, IsTrue, List, None, Ok, Option, Some, [], ap
 use Rattle.std.proofs.lemmas.Bool.{cases_eq, eq-eqb, ne_eqb}
 use Rattle.std.proofs.lemmas.List.{length-set}
 use Rattle.std.proofs.lemmas.Option.{slice_get_read}
+use Rattle.salt_values.specs.declared.change.Change.{Change}
 use Rattle.std.specs.Prelude.{IfSome, if◌then◌else◌, slice_get}
 
 -- what stands for the one stands for the other
 pub as_if_stands : (r : Reading Definition) (d : View) (c : Coordinator Definition) (v w : ℕ → PartView) → IsAsIf c v c w → StandsAlways r d c w → StandsAlways r d c v
 as_if_stands r d c v w same stands asked image is = stands asked image is ∙ ap (λ (f : Found Definition). Ok f) same.found
+
+-- EACH PARTITION'S TABLES, in one generation and then in another
+pub same_tables : (c : Coordinator Definition) (v : ℕ → PartView) → HaveSameTables c v c v
+same_tables c v = record { tables = λ p low. refl; nulls = λ p low spells. spells }
+
+pub same_on : (c c1 c2 : Coordinator Definition) (v v1 v2 : ℕ → PartView) → partition_count c1 ≡ partition_count c → HaveSameTables c v c1 v1 → HaveSameTables c1 v1 c2 v2 → HaveSameTables c v c2 v2
+same_on c c1 c2 v v1 v2 parts first second = record {
+  tables = λ p low. second.tables p (omega (arith, low, parts)) ∙ first.tables p low;
+  nulls = λ p low spells. second.nulls p (omega (arith, low, parts)) (first.nulls p low spells);
+}
 
 -- ONE PARTITION
 module _ (r : Reading Definition) (d e : View) (parts : List Partition) (n : ℕ) (x y : Partition) (which : WhichLog) (c : Coordinator Definition) (v : ℕ → PartView) (at : slice_get parts n ≡ Some x) (within : n < length parts)
@@ -89,6 +102,19 @@ module _ (r : Reading Definition) (d e : View) (parts : List Partition) (n : ℕ
     pub same_there : (q : ℕ) → q ≢ n → views q ≡ v q
     same_there = views_there
 
+    tables : (q : ℕ) → (q ≡ n) ⊎ (q ≢ n) → each_tables c views q ≡ each_tables c v q
+    tables q (inl same) =
+        subst (λ (k : ℕ). each_tables c views k ≡ each_tables c v k) (sym same)
+        (ap (tables_at_part c n) (view_here ∙ made.is) ∙ checkpoint_tables r c n (v n) (next_part_header (v n) 2 made.sides) made.rows made.same)
+    tables q (inr other) = ap (tables_at_part c q) (views_there q other)
+
+    nulls : (q : ℕ) → (q ≡ n) ⊎ (q ≢ n) → has_nulls (v q).log.header.format ≡ true → has_nulls (views q).log.header.format ≡ true
+    nulls q (inl same) spells = subst (λ (k : ℕ). has_nulls (views k).log.header.format ≡ true) (sym same) (ap has_nulls format_here)
+    nulls q (inr other) spells = ap (λ (u : PartView). has_nulls u.log.header.format) (views_there q other) ∙ spells
+
+    pub same_now : HaveSameTables c v c views
+    same_now = record { tables = λ q low. tables q (cases_eq q n); nulls = λ q low. nulls q (cases_eq q n) }
+
 -- THE VIEW BEHIND A CHECKPOINT, whether the disks tell or not
 pub record Next (r : Reading Definition) (d e : View) (y : Partition) (n : ℕ) (which : WhichLog) (c : Coordinator Definition) (v : ℕ → PartView) : Type 0 where
   pub view : PartView
@@ -131,15 +157,20 @@ pub record BegunSoFar (low : ℕ) (d0 d : View) (parts0 parts : List Partition) 
   pub on : (r : Reading Definition) (which : WhichLog) (c : Coordinator Definition) (v : ℕ → PartView) → ArePartsOf r d0 parts0 which c v → AreBegun low n r d parts which c v
   pub rest : (p : ℕ) → n ≤ p → slice_get parts p ≡ slice_get parts0 p
   pub stand : EachStands d parts
-  pub keeps : KeepsBut IsOfPart d0 d None
+  pub pages : HaveSamePages parts0 parts
+  pub keeps : KeepsBut (IsOfPart (length parts0)) d0 d None
   pub cause : HasCause d0 d None
+
+pub one_part : (x y : Partition) → Some x ≡ Some y → x ≡ y
+one_part x y e = cc
 
 pub none_begun : (low : ℕ) (d : View) (parts : List Partition) → EachStands d parts → BegunSoFar low d d parts parts 0
 none_begun low d parts stand = record {
   size = refl;
-  on = λ r which c v are. record { on = record { view = v; as_if = as_if_same c v; are = are }; none = λ p from below. absurd (omega (arith, below)); format = λ p from below. absurd (omega (arith, below)) };
+  on = λ r which c v are. record { on = record { view = v; as_if = as_if_same c v; same = same_tables c v; are = are }; none = λ p from below. absurd (omega (arith, below)); format = λ p from below. absurd (omega (arith, below)) };
   rest = λ p high. refl;
   stand = stand;
+  pages = record { each = λ p x y first second. ap page_count (one_part y x (sym second ∙ first)) };
   keeps = record { shape = same_shape d; kept = λ dev other. record { bytes = refl; images = λ image left. left }; images = λ dev other image left. left };
   cause = cause_none d;
 }
@@ -159,12 +190,15 @@ module _ (low : ℕ) (d0 d : View) (parts0 parts : List Partition) (n : ℕ) (so
       let now : IsTrue d.told = so_far.keeps.shape.told ∙ told in
       as_if_stands r e c v on.view on.as_if (images on.view now (under r d d parts n x x which c on.view here within on.are now))
 
-  pub others_behind : (e : View) (answer : Option DiskErr) → KeepsBut (IsTouched x) d e answer → KeepsBut IsOfPart d0 e answer
-  others_behind e answer others = keeps_on IsOfPart d0 d e answer so_far.keeps (keeps_wider (IsTouched x) IsOfPart d e answer (high x) others)
+  own_devices : (dev : ℕ) → IsTouched x dev → IsOfPart (length parts0) dev
+  own_devices = of_part x (length parts0) n stands_here.is.part (omega (arith, within, so_far.size))
+
+  pub others_behind : (e : View) (answer : Option DiskErr) → KeepsBut (IsTouched x) d e answer → KeepsBut (IsOfPart (length parts0)) d0 e answer
+  others_behind e answer others = keeps_on (IsOfPart (length parts0)) d0 d e answer so_far.keeps (keeps_wider (IsTouched x) (IsOfPart (length parts0)) d e answer own_devices others)
 
   module _ (e : View) (y : Partition) (others : KeepsBut (IsTouched x) d e None) (cause : HasCause d e None)
       (ok : (p : ℕ) (v : PartView) (applied : List Id) → IsPartition d x p v applied → IsCheckpointed d e y p v applied)
-      (ready : (r : Reading Definition) (which : WhichLog) (c : Coordinator Definition) (v : ℕ → PartView) → IsTrue d.told → StandsUnder r d x which c v → StandsBehind r e y which c v) where
+      (ready : (r : Reading Definition) (which : WhichLog) (c : Coordinator Definition) (v : ℕ → PartView) → IsTrue d.told → StandsUnder r d x which c v → StandsBehind r e y which c v) (as_many : page_count y ≡ page_count x) where
     module _ (r : Reading Definition) (which : WhichLog) (c : Coordinator Definition) (v : ℕ → PartView) (was : AreBegun low n r d parts which c v) where
       abbrev w : ℕ → PartView
       w = was.on.view
@@ -191,6 +225,7 @@ module _ (low : ℕ) (d0 d : View) (parts0 parts : List Partition) (n : ℕ) (so
         on = record {
           view = now;
           as_if = as_if_on c c c v w now was.on.as_if (as_if_now r d e parts n x y which c w here within was.on.are others one.view one.made one.is one.ready);
+          same = same_on c c c v w now refl was.on.same (same_now r d e parts n x y which c w here within was.on.are others one.view one.made one.is one.ready);
           are = parts_now r d e parts n x y which c w here within was.on.are others one.view one.made one.is one.ready;
         };
         none = λ p from below. none p from below (cases_eq p n);
@@ -206,32 +241,42 @@ module _ (low : ℕ) (d0 d : View) (parts0 parts : List Partition) (n : ℕ) (so
         subst (λ o. IfSome o (StandsAs e q)) (sym (set_other parts n q y other))
         (if_each (slice_get parts q) (StandsAs d q) (StandsAs e q) (λ z found s. record { v = s.v; applied = s.applied; is = other_kept x q (λ same. other (same ∙ stands_here.is.part)) d e z s.v s.applied others s.is }) (so_far.stand.each q))
 
+    pages : (p : ℕ) (x0 z : Partition) → slice_get parts0 p ≡ Some x0 → slice_get (slice_set parts n y) p ≡ Some z → (p ≡ n) ⊎ (p ≢ n) → page_count z ≡ page_count x0
+    pages p x0 z first second (inl same) =
+        let is : y ≡ z = one_part y z (sym (set_same parts n y within) ∙ ap (λ (k : ℕ). slice_get (slice_set parts n y) k) (sym same) ∙ second) in
+        ap page_count (sym is) ∙ as_many ∙ so_far.pages.each n x0 x (ap (λ (k : ℕ). slice_get parts0 k) (sym same) ∙ first) here
+    pages p x0 z first second (inr other) = so_far.pages.each p x0 z first (sym (set_other parts n p y other) ∙ second)
+
     pub one_begun : BegunSoFar low d0 e parts0 (slice_set parts n y) (n + 1)
     one_begun = record {
       size = length-set parts n y ∙ so_far.size;
       on = λ r which c v are. on_next r which c v (so_far.on r which c v are);
       rest = λ p high. set_other parts n p y (λ same. omega (arith, high, same)) ∙ so_far.rest p (omega (arith, high));
       stand = record { each = λ q. still_stands q (cases_eq q n) };
-      keeps = keeps_on IsOfPart d0 d e None so_far.keeps (keeps_wider (IsTouched x) IsOfPart d e None (high x) others);
+      pages = record { each = λ p x0 z first second. pages p x0 z first second (cases_eq p n) };
+      keeps = others_behind e None others;
       cause = cause_on d0 d e None so_far.cause cause;
     }
 
--- where one is too long
-pub full_behind : (low : ℕ) (d0 d : View) (parts0 parts : List Partition) (n : ℕ) → BegunSoFar low d0 d parts0 parts n → (x : Partition) (within : n < length parts) (read : x ≡ get_or parts n x) → (answer : Option DiskErr) → FullAtCheckpoint d x answer → FullAtOne d0 parts0 answer
-full_behind low d0 d parts0 parts n so_far x within read None full = tt
-full_behind low d0 d parts0 parts n so_far x within read (Some Failed) full = tt
-full_behind low d0 d parts0 parts n so_far x within read (Some Stopped) full = tt
-full_behind low d0 d parts0 parts n so_far x within read (Some Memory) full = tt
-full_behind low d0 d parts0 parts n so_far x within read (Some (Full dev)) full = record {
-  p = n;
-  part = x;
-  at = sym (so_far.rest n (omega arith)) ∙ here low d0 d parts0 parts n so_far x within read;
-  full = by full;
-}
-  where
-    by : FullAtCheckpoint d x (Some (Full dev)) → FullAtCheckpoint d0 x (Some (Full dev))
-    by (inl h) = inl (h.0, omega (arith, h.1, so_far.keeps.shape.limit dev))
-    by (inr h) = inr (h.0, omega (arith, h.1, so_far.keeps.shape.limit dev))
+-- WHERE ONE IS TOO LONG, by devices e behind its checkpoint
+module _ (low : ℕ) (d0 d e : View) (parts0 parts : List Partition) (n : ℕ) (so_far : BegunSoFar low d0 d parts0 parts n) (x : Partition) (within : n < length parts) (read : x ≡ get_or parts n x) where
+  first_there : slice_get parts0 n ≡ Some x
+  first_there = sym (so_far.rest n (omega arith)) ∙ here low d0 d parts0 parts n so_far x within read
+
+  pub full_behind : (answer : Option DiskErr) → FullAtCheckpoint e x answer → FullAtOne e parts0 answer
+  full_behind None full = tt
+  full_behind (Some Failed) full = tt
+  full_behind (Some Stopped) full = tt
+  full_behind (Some Memory) full = tt
+  full_behind (Some (Full dev)) full = record { p = n; part = x; at = first_there; full = full }
+
+  -- of one that has a share
+  pub full_of_share : (shares : List (List Change)) (share : List Change) → slice_get shares n ≡ Some share → 0 < length share → (answer : Option DiskErr) → FullAtCheckpoint e x answer → FullAtShare e parts0 shares answer
+  full_of_share shares share at some None full = tt
+  full_of_share shares share at some (Some Failed) full = tt
+  full_of_share shares share at some (Some Stopped) full = tt
+  full_of_share shares share at some (Some Memory) full = tt
+  full_of_share shares share at some (Some (Full dev)) full = record { long = record { p = n; part = x; at = first_there; full = full }; share = share; at = at; some = some }
 
 -- ALL OF THEM
 pub all_begun : (d0 d : View) (parts0 parts : List Partition) (n : ℕ) → BegunSoFar 0 d0 d parts0 parts n → length parts ≤ n → (r : Reading Definition) (which : WhichLog) (c : Coordinator Definition) (v : ℕ → PartView)
@@ -262,6 +307,7 @@ one_left low d0 d parts0 parts n so_far under = record {
       record { on = was.on; none = λ p from below. absurd (omega (arith, from, below, under)); format = λ p from below. absurd (omega (arith, from, below, under)) };
   rest = λ p high. so_far.rest p (omega (arith, high));
   stand = so_far.stand;
+  pages = so_far.pages;
   keeps = so_far.keeps;
   cause = so_far.cause;
 }

@@ -1,6 +1,8 @@
 pub mod Lists
 mod Apart
 mod Begun
+mod Long
+mod Made
 mod Rooms
 pub mod Ready
 mod Renewed

@@ -1,2 +1,3 @@
 pub mod Rooms
 pub mod Renewals
+pub mod Making

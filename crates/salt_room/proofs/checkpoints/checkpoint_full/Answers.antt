@@ -1,4 +1,4 @@
-use Rattle.salt_room.proofs.Begun.{full_behind, images_behind, images_now, none_begun, one_begun, one_left, others_behind, stands_here}
+use Rattle.salt_room.proofs.Begun.{full_of_share, images_behind, images_now, none_begun, one_begun, one_left, others_behind, stands_here}
 use Rattle.salt_room.proofs.Rooms.{FilledSoFar, no_room_yet, room_begun, room_left}
 use Rattle.salt_room.proofs.checkpoints.checkpoint_full.Goals as goal
 use Rattle.salt_room.proofs.checkpoints.checkpoint_full.Goals.{else-lacks_room, then-lacks_room+in_ok-checkpoint}
@@ -40,8 +40,10 @@ returns-in_err-checkpoint-clause-full g c =
     let l = c.loop-number in
     let within : l.number < length l.parts.items = omega (arith, l.invariant.begun.size) in
     let p = err_from_is_err_and c.from_residual.result c.from_residual.ensures.1 in
-    rw (p.1, p.2) (full_behind (length c.args.parts.now.items) (g.D.Disks.view c.args.disks.now) (g.D.Disks.view l.disks) c.args.parts.now.items l.parts.items l.number l.invariant.begun c.index_mut-part.result.now within c.index_mut-part.ensures.value
-    (Some c.in_err-checkpoint.field-0.0) c.in_err-checkpoint.ensures.full)
+    let own = c.index-shares-number.result in
+    let mine = slice_get_read c.args.shares.now (length c.args.shares.now) l.number own refl (omega (arith, within, l.invariant.begun.size, c.requires.size)) c.index-shares-number.is in
+    rw (p.1, p.2) (full_of_share (length c.args.parts.now.items) (g.D.Disks.view c.args.disks.now) (g.D.Disks.view l.disks) (g.D.Disks.view c.checkpoint.new.disks) c.args.parts.now.items l.parts.items l.number l.invariant.begun c.index_mut-part.result.now within c.index_mut-part.ensures.value
+    c.args.shares.now own mine (c.lacks_room.ensures.some c.if-lacks_room.true) (Some c.in_err-checkpoint.field-0.0) c.in_err-checkpoint.ensures.full)
 
 pub loop-number-preserved : goal.loop-number-preserved
 loop-number-preserved g c =
@@ -59,7 +61,7 @@ loop-number-preserved g c =
           let made : FilledSoFar d0 (g.D.Disks.view w.checkpoint.new.disks) parts0 (slice_set l.parts.items n y) shares (n + 1) =
           record {
             begun = one_begun low d0 d parts0 l.parts.items n l.invariant.begun w.index_mut-part.result.now within w.index_mut-part.ensures.value
-                (g.D.Disks.view w.checkpoint.new.disks) y w.in_ok-checkpoint.ensures.others w.in_ok-checkpoint.ensures.cause w.in_ok-checkpoint.ensures.ok w.in_ok-checkpoint.ensures.ready;
+                (g.D.Disks.view w.checkpoint.new.disks) y w.in_ok-checkpoint.ensures.others w.in_ok-checkpoint.ensures.cause w.in_ok-checkpoint.ensures.ok w.in_ok-checkpoint.ensures.ready w.in_ok-checkpoint.ensures.pages;
             room = room_begun n l.parts.items shares l.invariant.room y within w.in_ok-checkpoint.ensures.empty;
           } in
           rw (w.disks-is, w.parts-is) made
@@ -71,7 +73,7 @@ loop-number-preserved g c =
           let made : FilledSoFar d0 d parts0 l.parts.items shares (n + 1) =
           record {
             begun = one_left low d0 d parts0 l.parts.items n l.invariant.begun (omega (arith, within, l.invariant.begun.size));
-            room = room_left n l.parts.items shares l.invariant.room x own here mine (c.lacks_room.ensures w.if-lacks_room.false);
+            room = room_left n l.parts.items shares l.invariant.room x own here mine (c.lacks_room.ensures.room w.if-lacks_room.false);
           } in
           rw (w.disks-is, w.parts-is) made
     ]
