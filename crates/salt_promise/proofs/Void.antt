@@ -20,7 +20,7 @@ use Rattle.salt_promise.specs.Worked.{after, header_at, one_line, one_part, open
 use Rattle.salt_stands.specs.Coordinator.{coordinator_pair}
 use Rattle.salt_stands.specs.CoordinatorLog.{CoordinatorLog}
 use Rattle.salt_stands.specs.Stands.{logs_of}
-use Rattle.std.proofs.Common.{ap, arith, length-append, subst, sym}
+use Rattle.std.proofs.Common.{ap, arith, inl, length-append, subst, sym}
 use Rattle.std.specs.Prelude.{List, Some, [], codes, false, length, refl, suc, zero, ℕ, ◌+◌, ◌++◌, ◌<◌, ◌∷◌, ◌≡◌}
 
 many : ℕ → List ℕ
@@ -91,4 +91,4 @@ fills name h = record {
 
 -- so there is no room behind each trace that tells what `one_line` told, though nothing came in its way
 no-room : ((t : Trace) (dev : ℕ) → Tells start t one_line.story → IsFullBehind after.devices one_part t dev → ⊥) → ⊥
-no-room never = never (asked (many 67108865)) 0 (tells (many 67108865)) (subst (λ e. NextFills after.devices one_part (asked (many 67108865)) Serving e 0) (sym (comes (many 67108865))) (fills (many 67108865) (subst (λ n. 67108864 < n) (sym (many-length 67108865)) (omega arith))))
+no-room never = never (asked (many 67108865)) 0 (tells (many 67108865)) (subst (λ e. NextFills after.devices one_part (asked (many 67108865)) Serving e 0) (sym (comes (many 67108865))) (inl (fills (many 67108865) (subst (λ n. 67108864 < n) (sym (many-length 67108865)) (omega arith)))))

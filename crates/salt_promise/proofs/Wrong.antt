@@ -53,7 +53,7 @@ use Rattle.salt_stands.specs.Tables.{joined}
 use Rattle.salt_stands.specs.Unspent.{OpensUnspent}
 use Rattle.std.proofs.Common.{ap, arith, inl, inr, subst, sym, ◌∙◌}
 use Rattle.std.proofs.lemmas.List.{same_from_push}
-use Rattle.std.specs.Prelude.{Bool, IsTrue, List, None, Ok, Option, Result, Some, [], codes, false, if◌then◌else◌, pos, refl, suc, true, zero, ℕ, ◌&&◌, ◌+◌, ◌++◌, ◌-◌, ◌^◌, ◌<◌, ◌∷◌, ◌≡◌, ◌≤◌, ◌⊎◌}
+use Rattle.std.specs.Prelude.{Bool, IsTrue, List, None, Ok, Option, Result, Some, [], codes, false, if◌then◌else◌, length, pos, refl, suc, true, zero, ℕ, ◌&&◌, ◌+◌, ◌++◌, ◌-◌, ◌^◌, ◌<◌, ◌∷◌, ◌≡◌, ◌≤◌, ◌⊎◌}
 
 abbrev half : ℕ
 half = 2 ^ 63
@@ -209,6 +209,13 @@ stand-counts : coordinator_pair (logs_of stand) ≡ Counts LogA stood
 unfolding entries_in entries_up_to split_payload framed
 stand-counts = refl
 
+stand-entries : entries_in (stand 0) ≡ Some (spell_header (header_at 7) ∷ [])
+unfolding entries_in entries_up_to split_payload framed
+stand-entries = refl
+
+one-entry : (entries : List (List ℕ)) (entry : List ℕ) → Some entries ≡ Some (entry ∷ []) → 1024 < length entries → ⊥
+one-entry entries entry same many = let one : entries ≡ entry ∷ [] = cc same in let h = ap length one in omega (arith, h, many)
+
 full-of-standing : Runs (full_run stand) → ⊥
 full-of-standing = at-first stand never
   where
@@ -220,7 +227,13 @@ full-of-standing = at-first stand never
 
     never : NextFills (full_run stand).after.devices one_part from_nothing Fallen None 1 → ⊥
     never (inl f) = let both : BothBlank ≡ Counts LogA stood = sym f.blank ∙ stand-counts in cc
-    never (inr (inr pages)) = let e = pages.device in omega arith
+    never (inr (inr (inl pages))) = let e = pages.device in omega arith
+    never (inr (inr (inr room))) = few room.entries (which-log room.which room.log stood (sym room.counts ∙ stand-counts)) room.reads room.many
+      where
+        few : (entries : List (List ℕ)) → room.which ≡ LogA → entries_in (stand (device_of 0 room.which)) ≡ Some entries → 1024 < length entries → ⊥
+        few entries a reads many =
+            let one = sym (subst (λ w. entries_in (stand (device_of 0 w)) ≡ Some entries) a reads) ∙ stand-entries in
+            one-entry entries (spell_header (header_at 7)) one many
     never (inr (inl f)) =
         let a : f.which ≡ LogA = which-log f.which f.log stood (sym f.counts ∙ stand-counts) in
         apart (subst (λ w. 1 ≡ device_of 0 w) a f.device)
@@ -251,7 +264,8 @@ full-of-closed = at-first closed never
 
     never : NextFills (full_run closed).after.devices one_part from_nothing Fallen None 1 → ⊥
     never (inl f) = first f.fills
-    never (inr (inr pages)) = let e = pages.device in omega arith
+    never (inr (inr (inl pages))) = let e = pages.device in omega arith
+    never (inr (inr (inr room))) = let both : Counts room.which room.log ≡ BothBlank = sym room.counts ∙ closed-blank in cc
     never (inr (inl f)) = let both : Counts f.which f.log ≡ BothBlank = sym f.counts ∙ closed-blank in cc
 
 -- THE NUMBERS OF STATUS 10 are those of each image: here its boot is one more than the devices have

@@ -17,14 +17,17 @@ use Rattle.salt_model.specs.declared.events.Event.{Event}
 use Rattle.salt_stands.specs.Coordinator.{coordinator_pair, device_of}
 use Rattle.salt_stands.specs.CoordinatorLog.{CoordinatorLog}
 use Rattle.salt_stands.specs.FirstOpening.{IsCreated, first_header, first_part_header}
-use Rattle.salt_stands.specs.OpenConts.{make_move}
-use Rattle.salt_stands.specs.Partition.{pages_device, part_device, part_pair}
+use Rattle.salt_stands.specs.LogDevices.{IsPartitionLog}
+use Rattle.salt_stands.specs.OpenConts.{make_move, moved}
+use Rattle.salt_stands.specs.Partition.{HoldsPages, pages_device, part_device, part_pair}
 use Rattle.salt_stands.specs.PartitionLog.{PartitionLog}
+use Rattle.salt_stands.specs.Pieces.{next_header, other_log}
 use Rattle.salt_stands.specs.Placed.{changes_at}
 use Rattle.salt_stands.specs.Stands.{logs_of}
 use Rattle.salt_stands.specs.Turning.{changes_of}
 use Rattle.salt_stands.specs.Words.{has_bit}
 use Rattle.salt_values.specs.declared.change.Change.{Change}
+use Rattle.salt_values.specs.declared.cont.Cont.{Cont}
 use Rattle.salt_values.specs.declared.id.Id.{Id}
 use Rattle.salt_place.specs.declared.placement.Shape.{Shape}
 use Rattle.std.specs.Prelude.{List, Option, Some, [], false, length, not, ℕ, ◌+◌, ◌<◌, ◌≡◌, ◌⊎◌}
@@ -84,15 +87,43 @@ pub record DecisionFills (d : View) (shape : Shape) (trace : Trace) (e : Event) 
   pub moves : make_move (kept trace).conts move ≡ Some (kept (trace says e)).conts
   pub fills : EntryFills d (λ log. Decides (record { number = log.told.decisions + 1; unit = u; mask = mask; move = spell_move 3 move })) dev
 
+-- NEW GENERATIONS, which make room before anything is appended
+
+-- the coordinator's next header, with the continuations that are open, is too long for its other log
+pub record SnapshotFills (d : View) (which : WhichLog) (log : CoordinatorLog) (dev : ℕ) : Type 0 where
+  pub conts : List Cont
+  pub open_conts : moved log.header.format (Some log.header.conts) log.told.decided ≡ Some conts
+  pub device : dev ≡ device_of 0 (other_log which)
+  pub over : d.limit dev < 10 + length (spell_header (next_header log conts 3))
+
+-- a partition's pages fill their device, or its next header, with a byte for each page that stands there, is too long for one of its logs
+abbrev pub CheckpointFills : View → (p : ℕ) → (dev : ℕ) → Type 0
+CheckpointFills d p dev = (dev ≡ pages_device p) ⊎ (IsPartitionLog p dev × ((pages : ℕ) × HoldsPages pages (d.bytes (pages_device p)) × (d.limit dev < 29 + pages)))
+
+-- all logs begin anew, those of each partition and then the coordinator's, where that has more than 1,024 entries, its header among them
+pub record RenewalFills (d : View) (shape : Shape) (dev : ℕ) : Type 0 where
+  pub which : WhichLog
+  pub log : CoordinatorLog
+  pub counts : coordinator_pair (logs_of d.bytes) ≡ Counts which log
+  pub entries : List (List ℕ)
+  pub reads : entries_in (d.bytes (device_of 0 which)) ≡ Some entries
+  pub many : 1024 < length entries
+  pub fills : SnapshotFills d which log dev ⊎ ((p : ℕ) × (p < shape.parts) × CheckpointFills d p dev)
+
+-- or those of a partition that a unit changes
+abbrev pub ShareRoomFills : View → Shape → List Change → (dev : ℕ) → Type 0
+ShareRoomFills d shape changes dev = (p : ℕ) × (p < shape.parts) × (is_empty (changes_at shape p changes) ≡ false) × CheckpointFills d p dev
+
 -- WHAT COMES NEXT
 
 -- of a run that is down an opening; else the decision that comes next
 abbrev pub NextFills : View → Shape → Trace → Phase → Option Event → (dev : ℕ) → Type 0
-NextFills d shape trace Fallen e dev = FirstFills d shape dev ⊎ (EntryFills d (λ log. Boots (log.told.boot + 1)) dev ⊎ IsOfPages shape dev)
-NextFills d shape trace phase (Some (Defined n text)) dev = EntryFills d (λ log. Defines (record { number = log.told.decisions + 1; text = text })) dev
+NextFills d shape trace Fallen e dev = FirstFills d shape dev ⊎ (EntryFills d (λ log. Boots (log.told.boot + 1)) dev ⊎ (IsOfPages shape dev ⊎ RenewalFills d shape dev))
+NextFills d shape trace phase (Some (Defined n text)) dev = EntryFills d (λ log. Defines (record { number = log.told.decisions + 1; text = text })) dev ⊎ RenewalFills d shape dev
 NextFills d shape trace phase (Some (Ended u (Committed n))) dev =
-    ShareFills d shape u (changes_of u trace) dev ⊎ (DecisionFills d shape trace (Ended u (Committed n)) u (changes_of u trace) dev ⊎ IsOfPages shape dev)
-NextFills d shape trace phase (Some (Ended u (Branched n cause))) dev = DecisionFills d shape trace (Ended u (Branched n cause)) u [] dev ⊎ IsOfPages shape dev
+    ShareFills d shape u (changes_of u trace) dev
+    ⊎ (DecisionFills d shape trace (Ended u (Committed n)) u (changes_of u trace) dev ⊎ (IsOfPages shape dev ⊎ (RenewalFills d shape dev ⊎ ShareRoomFills d shape (changes_of u trace) dev)))
+NextFills d shape trace phase (Some (Ended u (Branched n cause))) dev = DecisionFills d shape trace (Ended u (Branched n cause)) u [] dev ⊎ (IsOfPages shape dev ⊎ RenewalFills d shape dev)
 NextFills d shape trace phase e dev = ⊥
 
 -- the device is full behind the trace
