@@ -11,9 +11,9 @@ use Rattle.salt_commit.proofs.Shared.{length-listed, mask_small}
 use Rattle.salt_commit.proofs.Spare.{spare_stand}
 use Rattle.salt_commit.proofs.Standing.{apart_from_part, partitions_stay}
 use Rattle.salt_commit.proofs.Undecided.{IsInHand, before_decision, may_commit, may_prepare, spelled}
-use Rattle.salt_commit.specs.Commits.{CommitPassesLimit, IsCommitDevice, IsCommitLog, MayCommitUnit, shares_in}
+use Rattle.salt_commit.specs.Commits.{IsCommitDevice, IsCommitLog, MayCommitUnit, UnitPassesLimit, shares_in}
 use Rattle.salt_commit.specs.Shares.{mask_of, next_decision, shares_of}
-use Rattle.salt_commit.specs.Stores.{Generation, IsSound, IsStore, StandForEither, decided_by, last_decision, shape_of_store}
+use Rattle.salt_commit.specs.Stores.{IsSound, IsStore, StandForEither, decided_by, last_decision, shape_of_store}
 use Rattle.salt_commit.specs.Telling.{HaveTold, IsBehind, MayTell}
 use Rattle.salt_commit.specs.Voting.{HaveVoted, IsVoteDevice, MayVote, MayVoteAs, VotesPassLimit}
 use Rattle.salt_commit.specs.declared.store.Store.{Store}
@@ -50,7 +50,7 @@ use Rattle.salt_values.specs.declared.cont.Cont.{Cont}
 use Rattle.salt_values.specs.declared.id.Id.{Id}
 use Rattle.salt_place.specs.declared.placement.Shape.{Shape}
 use Rattle.salt_paged.specs.declared.partition.Partition.{Partition}
-use Rattle.std.proofs.Common.{Err, IsTrue, List, None, Ok, Option, Result, Some, ap, arith, inl, inr, length, refl, subst, sym, true, ℕ, ◌*◌, ◌+◌, ◌<◌, ◌^◌, ◌≡◌, ◌≤◌, ◌∙◌}
+use Rattle.std.proofs.Common.{Err, IsTrue, List, None, Ok, Option, Result, Some, ap, arith, inl, inr, length, subst, sym, true, ℕ, ◌*◌, ◌+◌, ◌<◌, ◌^◌, ◌≡◌, ◌≤◌, ◌∙◌}
 use Rattle.std.proofs.lemmas.Bool.Decides.{nat_tests}
 use Rattle.std.proofs.lemmas.Option.{slice_get_within}
 use Rattle.std.specs.Prelude.{nat_lt, slice_get}
@@ -254,30 +254,19 @@ module _ (x : Store) (many : length x.parts ≡ (shape_of_store x).parts) (cs : 
       (keeps_wider (IsPagesOf n) (IsCommitDevice x cs) e f answer (λ dev t. inr (record { p = t.p; low = omega (arith, t.low, size, many); is = t.is })) keeps)
 
   -- AND WHERE ONE IS FULL
-  pub votes_full : (limit : ℕ → ℕ) (u : Id) (mv : List ℕ) (answer : Option DiskErr) → FullWhere (VotesPassLimit limit x.parts u ss) answer → FullWhere (CommitPassesLimit limit x u cs mv) answer
-  votes_full limit u mv answer full = full_maps (VotesPassLimit limit x.parts u ss) (CommitPassesLimit limit x u cs mv) answer by full
+  pub votes_full : (limit : ℕ → ℕ) (u : Id) (mv : List ℕ) (answer : Option DiskErr) → FullWhere (VotesPassLimit limit x.parts u ss) answer → FullWhere (UnitPassesLimit limit x u cs mv) answer
+  votes_full limit u mv answer full = full_maps (VotesPassLimit limit x.parts u ss) (UnitPassesLimit limit x u cs mv) answer by full
     where
-      by : (dev : ℕ) → VotesPassLimit limit x.parts u ss dev → CommitPassesLimit limit x u cs mv dev
+      by : (dev : ℕ) → VotesPassLimit limit x.parts u ss dev → UnitPassesLimit limit x u cs mv dev
       by dev (inl t) = inr (inl (subst (λ l. OnePassesLimit limit x.parts u l dev) shared t))
       by dev (inr t) = inr (inr (record { p = t.p; low = omega (arith, t.low, many); is = t.is }))
 
-  pub told_full : (limit : ℕ → ℕ) (u : Id) (mv : List ℕ) (n : ℕ) (answer : Option DiskErr) → n ≡ length x.parts → FullWhere (IsPagesOf n) answer → FullWhere (CommitPassesLimit limit x u cs mv) answer
-  told_full limit u mv n answer size full = full_maps (IsPagesOf n) (CommitPassesLimit limit x u cs mv) answer (λ dev t. inr (inr (record { p = t.p; low = omega (arith, t.low, size, many); is = t.is }))) full
-
--- THE SAME generation goes on
-abbrev pub same_generation : {D : Type 0} (which : WhichLog) (c : Coordinator D) (v : ℕ → PartView) → Generation c v
-same_generation which c v = record {
-  which = which;
-  coordinator = c;
-  views = v;
-  as_if = record { found = refl; parts = refl; names = λ u new. new };
-  tables = λ p low. refl;
-  nulls = λ p low spells. spells;
-}
+  pub told_full : (limit : ℕ → ℕ) (u : Id) (mv : List ℕ) (n : ℕ) (answer : Option DiskErr) → n ≡ length x.parts → FullWhere (IsPagesOf n) answer → FullWhere (UnitPassesLimit limit x u cs mv) answer
+  told_full limit u mv n answer size full = full_maps (IsPagesOf n) (UnitPassesLimit limit x u cs mv) answer (λ dev t. inr (inr (record { p = t.p; low = omega (arith, t.low, size, many); is = t.is }))) full
 
 -- the coordinator's log is full
 pub decision_full : (x : Store) (cs : List Change) (d b : View) → SameShape d b → (u : Id) (mv : List ℕ) (mask : ℕ) → mask ≡ mask_of (shares_in x cs) → (e : DiskErr)
-    → FullExactly (device_in x.decisions) (b.limit (device_in x.decisions)) (decisions.gate_in x.decisions + 10 + length (spell_entry (Decides (decisions.next_decision x.decisions u mask mv)))) (Some e) → FullWhere (CommitPassesLimit d.limit x u cs mv) (Some e)
+    → FullExactly (device_in x.decisions) (b.limit (device_in x.decisions)) (decisions.gate_in x.decisions + 10 + length (spell_entry (Decides (decisions.next_decision x.decisions u mask mv)))) (Some e) → FullWhere (UnitPassesLimit d.limit x u cs mv) (Some e)
 decision_full x cs d b limits u mv mask masked Failed full = tt
 decision_full x cs d b limits u mv mask masked Stopped full = tt
 decision_full x cs d b limits u mv mask masked (Full n) full = inl (record {

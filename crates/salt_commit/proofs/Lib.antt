@@ -3,6 +3,7 @@ mod Committed
 mod Decided
 mod Ended
 mod Fields
+pub mod Filled
 mod Entered
 mod Firsts
 pub mod Formats
@@ -23,6 +24,7 @@ mod Sound
 mod Reopened
 pub mod Limits
 mod Restarted
+mod Roomed
 mod Voters
 mod Voting
 mod Votes

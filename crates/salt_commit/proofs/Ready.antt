@@ -4,7 +4,7 @@ use Rattle.salt_checkpoint.specs.Checkpoints.{IsReady}
 use Rattle.salt_commit.proofs.Standing.{part_at}
 use Rattle.salt_commit.specs.Stores.{IsSound, IsStore, decided_by}
 use Rattle.salt_commit.specs.declared.store.Store.{Store}
-use Rattle.salt_decisions.specs.Decisions.{IsDecisions}
+use Rattle.salt_decisions.specs.Decisions.{IsDecisions, conts_in}
 use Rattle.salt_decisions.specs.declared.decisions.Decisions.{Decisions}
 use Rattle.salt_disk.specs.Disks.{IsSettled, View}
 use Rattle.salt_paged.proofs.Framed.{logs_settled, part_stands}
@@ -18,7 +18,7 @@ use Rattle.salt_stands.specs.Placed.{IsPlaced}
 use Rattle.salt_stands.specs.Reading.{Reading}
 use Rattle.salt_stands.specs.Stands.{logs_of}
 use Rattle.salt_values.specs.declared.id.Id.{Id}
-use Rattle.std.proofs.Common.{IsTrue, List, arith, length, subst, ℕ, ◌<◌, ◌≡◌}
+use Rattle.std.proofs.Common.{IsTrue, List, arith, length, subst, sym, ℕ, ◌<◌, ◌≡◌}
 
 -- each log of the coordinator's pair is settled
 pub coordinator_settled : {D : Type 0} (d : View) (x : Decisions) (which : WhichLog) (c : Coordinator D) → IsDecisions d x which c.log → (w : WhichLog) → IsSettled d (device_of 0 w)
@@ -57,3 +57,7 @@ module _ {D : Type 0} (r : Reading D) (d : View) (x : Store) (which : WhichLog) 
   -- each row stands in the partition of its key
   pub store_placed : (p : ℕ) → p < partition_count c → IsPlaced c.log.header.shape p (each_tables c v p)
   store_placed p low = placed_part r c (logs_of d.bytes) d.bytes p (v p) (store_ready.stood.part p low)
+
+  -- the continuations that the coordinator's log has open are the store's
+  pub store_conts : c.conts ≡ conts_in x.decisions
+  store_conts = let co = (is.sound told).coordinator in sym (is.decisions.holds.conts co.rise c.conts co.moves)

@@ -10,6 +10,7 @@ use Rattle.salt_commit.specs.Commits.{MayCommitUnit}
 use Rattle.salt_commit.specs.Openings.{IsSchemaWhere}
 use Rattle.salt_commit.specs.Stores.{StandsOnDevices, reading}
 use Rattle.salt_commit.specs.declared.store.Store.{Store}
+use Rattle.salt_decisions.proofs.Moving.{some_same}
 use Rattle.salt_decisions.proofs.Begun.{first_log}
 use Rattle.salt_decisions.proofs.Contents.{log_bytes}
 use Rattle.salt_decisions.specs.Decisions.{IsDecisions}
@@ -58,7 +59,7 @@ abbrev gate : GateLog
 gate = record { dev = 0; end = 57; count = 1; next = 0; place = 0; block = None }
 
 abbrev counting : Decisions
-counting = record { which = LogA; gate = gate; format = 3; generation = 1; shape = shape; boot = 0; decisions = 0; definitions = [] }
+counting = record { which = LogA; gate = gate; format = 3; generation = 1; shape = shape; boot = 0; decisions = 0; definitions = []; conts = [] }
 
 end_is : 57 ≡ length (spelled (first_payload shape ∷ []))
 unfolding framed
@@ -85,7 +86,7 @@ blank_behind = refl
 decisions_stand : IsDecisions view counting LogA (begun shape)
 decisions_stand = record {
   own = refl;
-  holds = record { format = refl; generation = refl; shape = refl; boot = refl; decisions = refl; definitions = refl; parts = refl };
+  holds = record { format = refl; generation = refl; shape = refl; boot = refl; decisions = refl; definitions = refl; conts = λ rises cs is. some_same [] cs is; parts = refl };
   counting = record {
     entries = first_payload shape ∷ [];
     is_log = is_log;

@@ -77,5 +77,5 @@ pub record DecisionPassesLimit (limit : ℕ → ℕ) (x : Store) (u : Id) (cs : 
   pub over : limit dev < coordinator_gate x + 10 + length (spell_entry (Decides (decisions.next_decision x.decisions u (mask_of (shares_in x cs)) mv)))
 
 -- where an entry would pass the limit of its log, or a device with pages is full
-abbrev pub CommitPassesLimit : (limit : ℕ → ℕ) → Store → Id → List Change → List ℕ → ℕ → Type 0
-CommitPassesLimit limit x u cs mv dev = DecisionPassesLimit limit x u cs mv dev ⊎ (OnePassesLimit limit x.parts u (shares_in x cs) dev ⊎ IsPagesOf (shape_of_store x).parts dev)
+abbrev pub UnitPassesLimit : (limit : ℕ → ℕ) → Store → Id → List Change → List ℕ → ℕ → Type 0
+UnitPassesLimit limit x u cs mv dev = DecisionPassesLimit limit x u cs mv dev ⊎ (OnePassesLimit limit x.parts u (shares_in x cs) dev ⊎ IsPagesOf (shape_of_store x).parts dev)

@@ -2,6 +2,8 @@ pub mod Shown
 pub mod Stores
 pub mod Shares
 pub mod Commits
+pub mod Rooms
+pub mod Full
 pub mod Openings
 pub mod Reads
 pub mod Loads

@@ -1,10 +1,12 @@
 //! A store over devices: the coordinator's log and the partitions, as one. A unit is prepared in each partition that it changes,
-//! then decided, and then applied; a stop at any moment leaves what stood before it, or what stands with it.
+//! then decided, and then applied; a stop at any moment leaves what stood before it, or what stands with it. Before anything is
+//! appended, logs that have too much behind their headers begin new generations.
 #![tactic(auto)]
 
 mod again;
 mod commit;
 mod each;
+mod entries;
 mod error;
 mod load;
 mod named;
@@ -12,6 +14,7 @@ mod nodes;
 mod open;
 mod parts;
 mod reads;
+mod room;
 mod shares;
 mod store;
 mod tell;

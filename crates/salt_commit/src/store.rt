@@ -1,21 +1,20 @@
 //! The store, and what is done in it.
 
-ghost use Rattle.salt_bytes.specs.Coordinator.{Boots, Defines, spell_entry};
 ghost use Rattle.salt_bytes.specs.Generations.{WhichLog};
+ghost use Rattle.salt_commit.specs.Full.{EntryOrRoomFills, next_boot, next_definition};
 ghost use Rattle.salt_commit.specs.Messages.{IsAtRest, IsNewIn, messages_of, net_of, nothing_sent, with_waiting};
-ghost use Rattle.salt_commit.specs.Stores.{Generation, IsStore, MayDefine, StandForEither, StandsOnDevices, coordinator_device, coordinator_gate, last_boot, last_decision, next_text, numbers_in, reading};
-ghost use Rattle.salt_decisions.specs.Decisions.{next_definition};
-ghost use Rattle.salt_disk.specs.Disks.{FullExactly, HasCause, IsUnchanged, KeepsOthers};
-ghost use Rattle.salt_disk.specs.declared.disks.DiskErr.TheVariants.{Full};
+ghost use Rattle.salt_commit.specs.Stores.{Generation, IsStore, IsStoreDevice, MayDefine, StandForEither, StandsOnDevices, last_boot, last_decision, next_text, numbers_in, reading, shape_of_store};
+ghost use Rattle.salt_disk.specs.Disks.{HasCause, KeepsBut};
 ghost use Rattle.salt_model.specs.Kept.{Definition};
 ghost use Rattle.salt_place.specs.Placement.{GivesPlaceOf, TakesEachKey};
+ghost use Rattle.salt_shares.specs.Prepares.{FullWhere};
 ghost use Rattle.salt_stands.specs.Commits.{found_of};
 ghost use Rattle.salt_stands.specs.Coordinator.{Coordinator};
 ghost use Rattle.salt_stands.specs.Pieces.{PartView, with_boot, with_definition};
 ghost use Rattle.salt_net.specs.declared.kinds.NodeStatus.TheVariants.{Unknown};
 ghost use Rattle.salt_turns.specs.Amid.{status_now};
 ghost use Rattle.salt_values.specs.declared.id.Id.{Id};
-ghost use Rattle.std.specs.Prelude.{Err, IfOk, IsTrue, OnErr, OnOk, Some, length, option_map, true, ℕ, ◌+◌, ◌-◌, ◌<◌, ◌^◌, ◌≡◌};
+ghost use Rattle.std.specs.Prelude.{IfOk, IsTrue, OnErr, OnOk, Some, option_map, true, ℕ, ◌+◌, ◌-◌, ◌<◌, ◌^◌, ◌≡◌};
 ghost use Rattle.std.specs.Result.{result_err};
 
 use crate::error::StoreErr;
@@ -24,7 +23,6 @@ use salt_disk::Disks;
 use salt_net::{Messages, Net, NodeStatus};
 use salt_paged::Partition;
 use salt_place::{PlaceKind, Placement};
-use salt_stands::what_fits_still_fits;
 use salt_values::{Id, Key};
 use std::alloc::{AllocError, Global};
 use std::marker::Model;
@@ -123,8 +121,8 @@ impl Store {
         Some(messages.into_net())
     }
 
-    /// Begins the next boot, and gives its number. After Ok it is kept. Whatever the call answers, each image of the devices
-    /// stands for what stood before, or for that with one boot more.
+    /// Begins the next boot, and gives its number: first room is made for its entry. After Ok it is kept. Whatever the call answers,
+    /// each image of the devices stands for what stood before, or for that with one boot more.
     pub fn boot<D: Disks>(&mut self, disks: &mut D) -> Result<u64, StoreErr>
         requires stands { StandsOnDevices (D.view disks.old) self.old }
         requires below { last_boot self.old < 2 ^ 64 - 1 }
@@ -137,18 +135,17 @@ impl Store {
             → StandForEither reading (D.view disks.new) (found_of c v) (found_of (with_boot c) v) }
 
         ensures messages { messages_of self.new ≡ messages_of self.old }
-        ensures others { KeepsOthers (coordinator_device self.old) (D.view disks.old) (D.view disks.new) (result_err result) }
+        ensures others { KeepsBut (IsStoreDevice (shape_of_store self.old).parts) (D.view disks.old) (D.view disks.new) (result_err result) }
         ensures cause { HasCause (D.view disks.old) (D.view disks.new) (result_err result) }
-        ensures full { FullExactly (coordinator_device self.old) ((D.view disks.old).limit (coordinator_device self.old)) (coordinator_gate self.old + 10 + length (spell_entry (Boots (last_boot self.old + 1)))) (result_err result) }
-        ensures untouched { (n : ℕ) → result ≡ Err (Full n) → IsUnchanged (D.view disks.old) (D.view disks.new) (coordinator_device self.old) }
+        ensures full { IsTrue (D.view disks.old).told → FullWhere (EntryOrRoomFills (D.view disks.new) (shape_of_store self.old) next_boot) (result_err result) }
     {
-        let boot = self.decisions.boot(self.alloc, disks)?;
-        Ok(boot)
+        self.renew_full(disks)?;
+        self.append_boot(disks)
     }
 
     /// Adds a definition by its canonical text, which the definitions before it do not refuse, and gives the number of its
-    /// decision. After Ok it is kept. Whatever the call answers, each image of the devices stands for what stood before, or
-    /// for that with the definition.
+    /// decision: first room is made for its entry. After Ok it is kept. Whatever the call answers, each image of the devices stands
+    /// for what stood before, or for that with the definition.
     pub fn define<D: Disks, F: Fn(PlaceKind, &Key, u32) -> u32>(
         &mut self,
         disks: &mut D,
@@ -168,13 +165,11 @@ impl Store {
             → StandForEither reading (D.view disks.new) (found_of c v) (found_of (with_definition c (next_text c text.now) def) v) }
 
         ensures messages { messages_of self.new ≡ messages_of self.old }
-        ensures others { KeepsOthers (coordinator_device self.old) (D.view disks.old) (D.view disks.new) (result_err result) }
+        ensures others { KeepsBut (IsStoreDevice (shape_of_store self.old).parts) (D.view disks.old) (D.view disks.new) (result_err result) }
         ensures cause { HasCause (D.view disks.old) (D.view disks.new) (result_err result) }
-        ensures full { FullExactly (coordinator_device self.old) ((D.view disks.old).limit (coordinator_device self.old)) (coordinator_gate self.old + 10 + length (spell_entry (Defines (next_definition self.old.decisions text.now)))) (result_err result) }
-        ensures untouched { (n : ℕ) → result ≡ Err (Full n) → IsUnchanged (D.view disks.old) (D.view disks.new) (coordinator_device self.old) }
+        ensures full { IsTrue (D.view disks.old).told → FullWhere (EntryOrRoomFills (D.view disks.new) (shape_of_store self.old) (next_definition text.now)) (result_err result) }
     {
-        what_fits_still_fits();
-        let number = self.decisions.define(self.alloc, disks, text)?;
-        Ok(number)
+        self.renew_full(disks)?;
+        self.append_definition(disks, text)
     }
 }

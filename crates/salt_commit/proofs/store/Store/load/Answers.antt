@@ -54,6 +54,11 @@ loop-after-preserved g c =
     c.in_ok-row.ensures.kept c.in_ok-row.ensures.cause c.in_ok-row.ensures.stands c.in_ok-judge.ensures.kept c.in_ok-judge.ensures.cause c.in_ok-judge.ensures.meets
     c.in_ok-put_row.ensures.key c.in_ok-put_row.ensures.entries c.in_ok-row.ensures.numbers c.in_ok-row.ensures.messages
 
+pub returns-in_err-row-clause-stands : goal.returns-in_err-row-clause-stands
+returns-in_err-row-clause-stands g c which co v is =
+    let p = err_from_is_err_and c.from_residual.result c.from_residual.ensures.1 in
+    rw (p.1, p.2) (c.in_err-row.ensures.stands which co v (c.loop-after.invariant.is which co v is))
+
 pub returns-in_err-judge-clause-stands : goal.returns-in_err-judge-clause-stands
 returns-in_err-judge-clause-stands g c which co v is =
     let d = g.D.Disks.view c.next_in.new.disks in
