@@ -2,8 +2,6 @@ pub mod Stores
 mod Kept
 mod Limits
 mod Filled
-mod Untouched
-mod Limited
 mod Started
 mod Remembered
 mod Loading

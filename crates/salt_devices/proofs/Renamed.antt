@@ -20,13 +20,15 @@ use Rattle.salt_partition.specs.Contents.{ArePut}
 use Rattle.salt_partition.specs.Partitions.{IsLastKept}
 use Rattle.salt_rows.specs.Stores.{IsRowStore}
 use Rattle.salt_stands.specs.Coordinator.{Coordinator, decided_for, unit_of}
+use Rattle.salt_stands.specs.OpenConts.{move_on, moved}
 use Rattle.salt_stands.specs.Partition.{changes_if, decided_changes, pages_device}
 use Rattle.salt_stands.specs.Pieces.{PartView, is_prepared_in}
 use Rattle.salt_stands.specs.Words.{has_bit}
 use Rattle.salt_values.specs.Id.{is_same_id}
+use Rattle.salt_values.specs.declared.cont.Cont.{Cont}
 use Rattle.salt_values.specs.declared.id.Id.{Id}
 use Rattle.salt_place.specs.declared.placement.Shape.{Shape}
-use Rattle.std.proofs.Common.{Bool, IsTrue, List, Option, [], ap, arith, false, refl, slice_get, subst, sym, true, ℕ, ◌+◌, ◌++◌, ◌≡◌, ◌∙◌, ◌∷◌}
+use Rattle.std.proofs.Common.{Bool, IsTrue, List, Option, Some, [], ap, arith, false, refl, slice_get, subst, sym, true, ℕ, ◌+◌, ◌++◌, ◌≡◌, ◌∙◌, ◌∷◌}
 use Rattle.std.proofs.lemmas.Bool.Decides.{Decides-eqb}
 use Rattle.std.specs.List.{filter}
 use Rattle.std.specs.Prelude.{if◌then◌else◌, map, ◌&&◌, ◌==◌, ◌||◌}
@@ -83,6 +85,11 @@ decided_for_renamed u p (d ∷ ds) = by (has_bit d.mask p) (decided_for_renamed 
         ≡ map (renamed u) (map unit_of (if b then d ∷ filter (λ d. has_bit d.mask p) ds else filter (λ d. has_bit d.mask p) ds))
     by true h = ap (λ us. renamed u d.unit ∷ us) h
     by false h = h
+
+-- a move is the same, whatever its unit is called
+moved_renamed : (u : Id) (format : ℕ) (conts : Option (List Cont)) (ds : List Decision) → moved format conts (map (decision_renamed u) ds) ≡ moved format conts ds
+moved_renamed u format conts [] = refl
+moved_renamed u format conts (d ∷ ds) = moved_renamed u format (move_on format d conts) ds
 
 -- ENTRIES
 
@@ -168,6 +175,7 @@ module _ (d : View) (mute : d.told ≡ false) (u : Id) where
           boot = is.decisions.holds.boot;
           decisions = is.decisions.holds.decisions;
           definitions = is.decisions.holds.definitions;
+          conts = λ rises cs e. is.decisions.holds.conts rises cs (sym (moved_renamed u c.log.header.format (Some c.log.header.conts) c.log.told.decided) ∙ e);
           parts = is.decisions.holds.parts;
         };
         counting = record {

@@ -1,26 +1,15 @@
 -- Where a call on the devices of a shape may write: on no other device.
-use Rattle.salt_bytes.specs.Generations.{LogA, LogB, WhichLog}
-use Rattle.salt_commit.specs.Commits.{IsCommitDevice, shares_in}
-use Rattle.salt_stands.specs.LogDevices.{IsCoordinatorLog, IsPartitionLog}
-use Rattle.salt_commit.specs.Stores.{IsStore, IsStoreDevice, coordinator_device, decided_by, reading}
+use Rattle.salt_commit.specs.Stores.{IsStoreDevice, shape_of_store}
 use Rattle.salt_commit.specs.declared.store.Store.{Store}
 use Rattle.salt_devices.proofs.Stores.{standing_shape}
 use Rattle.salt_devices.specs.Holding.{IsStanding}
-use Rattle.salt_disk.proofs.CallAfterCall.{keeps_wider, same_shape, shape_goes_on}
-use Rattle.salt_disk.specs.Disks.{AreUnchanged, IsRestarted, KeepsAll, KeepsBut, KeepsOthers, View}
+use Rattle.salt_disk.proofs.CallAfterCall.{same_shape, shape_goes_on}
+use Rattle.salt_disk.specs.Disks.{AreUnchanged, IsRestarted, KeepsAll, KeepsBut, View}
 use Rattle.salt_disk.specs.declared.disks.DiskErr.{DiskErr}
-use Rattle.salt_model.specs.Kept.{Definition}
-use Rattle.salt_paged.specs.Partitions.{IsPartition}
-use Rattle.salt_parts.proofs.Lists.{if_some}
-use Rattle.salt_parts.specs.Openings.{IsPagesOf}
-use Rattle.salt_shares.specs.Prepares.{IsLogOfShares}
-use Rattle.salt_stands.specs.Coordinator.{Coordinator, device_of}
-use Rattle.salt_stands.specs.Partition.{part_device}
-use Rattle.salt_stands.specs.Pieces.{PartView}
+use Rattle.salt_stands.specs.LogDevices.{IsPartitionLog}
 use Rattle.salt_storage.specs.Staying.{IsBeyond, Setup, StaysWithin}
-use Rattle.salt_values.specs.declared.change.Change.{Change}
 use Rattle.salt_place.specs.declared.placement.Shape.{Shape}
-use Rattle.std.proofs.Common.{List, Option, ap, arith, inl, inr, length, refl, slice_get, subst, sym, ℕ, ◌≡◌, ◌∙◌}
+use Rattle.std.proofs.Common.{Option, arith, inl, inr, refl, subst, sym, ℕ}
 
 pub nothing_within : (d : View) (setup : Setup) → StaysWithin setup setup d d
 nothing_within d setup = record { asked = refl; shape = same_shape d; others = λ told dev low past image left. left }
@@ -62,39 +51,6 @@ module _ (d e : View) (setup : Setup) where
     others = λ told dev low past image left. within.others told dev low past image (keeps.images dev (λ none. none) image left);
   }
 
--- A STORE that stands
-
--- the log of a partition that has a share
-pub share_device : (d : View) (x : Store) (which : WhichLog) (c : Coordinator Definition) (v : ℕ → PartView) → IsStore reading d x which c v → (cs : List Change) (dev : ℕ) (t : IsLogOfShares x.parts (shares_in x cs) (length x.parts) dev)
-    → dev ≡ device_of (part_device t.p) (v t.p).which
-share_device d x which c v is cs dev t = t.log.device ∙ (if_some (slice_get x.parts t.p) t.x (λ y. IsPartition d y t.p (v t.p) (decided_by c t.p)) t.at (is.parts.each t.p)).device
-
-of_coordinator : (w : WhichLog) → IsCoordinatorLog (device_of 0 w)
-of_coordinator LogA = inl refl
-of_coordinator LogB = inr refl
-
-of_part : (p : ℕ) (w : WhichLog) → IsPartitionLog p (device_of (part_device p) w)
-of_part p LogA = inl refl
-of_part p LogB = inr refl
-
-module _ (d e : View) (setup : Setup) (x : Store) (s : IsStanding d setup.shape x) where
-  coordinator_log : IsCoordinatorLog (coordinator_device x)
-  coordinator_log = subst IsCoordinatorLog (sym s.is.decisions.counting.device) (of_coordinator s.which)
-
-  -- a call that adds an entry to the coordinator's log
-  pub entry_within : (answer : Option DiskErr) → KeepsOthers (coordinator_device x) d e answer → StaysWithin setup setup d e
-  entry_within answer keeps =
-      store_within d e setup answer (keeps_wider (λ dev. dev ≡ coordinator_device x) (IsStoreDevice setup.shape.parts) d e answer (λ dev is. inl (inl (subst IsCoordinatorLog (sym is) coordinator_log))) keeps)
-
-  -- a unit's commit
-  pub commit_within : (cs : List Change) (answer : Option DiskErr) → KeepsBut (IsCommitDevice x cs) d e answer → StaysWithin setup setup d e
-  commit_within cs answer keeps = store_within d e setup answer (keeps_wider (IsCommitDevice x cs) (IsStoreDevice setup.shape.parts) d e answer wider keeps)
-    where
-      wider : (dev : ℕ) → IsCommitDevice x cs dev → IsStoreDevice setup.shape.parts dev
-      wider dev (inl (inl is)) = inl (inl (subst IsCoordinatorLog (sym is) coordinator_log))
-      wider dev (inl (inr t)) = inl (inr (record {
-        p = t.p;
-        low = omega (arith, t.low, s.is.size, ap (λ (z : Shape). z.parts) s.newest.has_shape);
-        is = subst (IsPartitionLog t.p) (sym (share_device d x s.which s.c s.v s.is cs dev t)) (of_part t.p (s.v t.p).which);
-      }))
-      wider dev (inr pages) = inr (subst (λ (z : Shape). IsPagesOf z.parts dev) (standing_shape d setup.shape x s) pages)
+-- A STORE that stands: a call that writes its devices alone
+pub stood_within : (d e : View) (setup : Setup) (x : Store) → IsStanding d setup.shape x → (answer : Option DiskErr) → KeepsBut (IsStoreDevice (shape_of_store x).parts) d e answer → StaysWithin setup setup d e
+stood_within d e setup x s answer keeps = store_within d e setup answer (subst (λ (z : Shape). KeepsBut (IsStoreDevice z.parts) d e answer) (standing_shape d setup.shape x s) keeps)

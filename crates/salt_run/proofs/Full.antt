@@ -1,11 +1,12 @@
 -- Where a device is full: what is written next, told by the trace.
+use Rattle.salt_bytes.specs.Conts.{spell_move}
 use Rattle.salt_bytes.specs.Coordinator.{spell_header}
 use Rattle.salt_bytes.specs.Partition.{spell_partition_header}
 use Rattle.salt_commit.proofs.Shared.{mask_bit, share_is}
 use Rattle.salt_commit.specs.Openings.{PartPassesLimit, StorePassesLimit}
 use Rattle.salt_commit.specs.Shares.{mask_of, shares_of}
 use Rattle.salt_decisions.specs.Opened.{FullAtFirst, first_payload}
-use Rattle.salt_devices.specs.Filling as filling
+use Rattle.salt_commit.specs.Full.{next_unit}
 use Rattle.salt_devices.specs.Filling.{FillsDevice}
 use Rattle.salt_disk.specs.Disks.{View}
 use Rattle.salt_disk.specs.declared.disks.DiskErr.TheVariants.{Full}
@@ -22,11 +23,12 @@ use Rattle.salt_model.specs.Phases.{Fallen, Phase, phase}
 use Rattle.salt_model.specs.Played.{IsPlayed}
 use Rattle.salt_model.specs.Trace.{Trace}
 use Rattle.salt_model.specs.Words.{is_empty}
+use Rattle.salt_model.specs.declared.events.Cause.{Cause}
 use Rattle.salt_model.specs.declared.events.End.TheVariants.{Branched, Committed}
 use Rattle.salt_model.specs.declared.events.End.{End}
 use Rattle.salt_model.specs.declared.events.Event.TheVariants.{Defined, Ended}
 use Rattle.salt_model.specs.declared.events.Event.{Event}
-use Rattle.salt_promise.specs.Filling.{DecisionFills, FirstFills, IsOfPages, NewPairFills, NextFills}
+use Rattle.salt_promise.specs.Filling.{DecisionFills, FirstFills, IsOfPages, NewPairFills, NextFills, RenewalFills, ShareFills, ShareRoomFills}
 use Rattle.salt_promise.specs.Filling as promise
 use Rattle.salt_run.specs.Ending.{IsFullBehind}
 use Rattle.salt_loop.specs.Ending.{MayBeWritten}
@@ -38,7 +40,7 @@ use Rattle.salt_stands.specs.Turning.{changes_of, change_at}
 use Rattle.salt_stands.specs.Words.{has_bit}
 use Rattle.salt_shares.specs.Shares.{has_changes}
 use Rattle.salt_driver.specs.Writing.{IsUnitWritten, IsWrittenBy, changes_decided}
-use Rattle.salt_storage.specs.Writing.{OfOpening, OfUnit, ToWrite}
+use Rattle.salt_storage.specs.Writing.{OfBoot, OfOpening, OfUnit, ToWrite}
 use Rattle.salt_values.specs.declared.change.Change.{Change}
 use Rattle.salt_values.specs.declared.id.Id.{Id}
 use Rattle.salt_place.specs.declared.placement.Shape.{Shape}
@@ -51,30 +53,18 @@ has-not-empty : (cs : List Change) → has_changes cs ≡ not (is_empty cs)
 has-not-empty [] = refl
 has-not-empty (c ∷ cs) = refl
 
-not-empty : (cs : List Change) → has_changes cs ≡ true → is_empty cs ≡ false
-not-empty [] h = absurd (cc h)
-not-empty (c ∷ cs) h = refl
-
 bits-of : (shape : Shape) (cs : List Change) (p : ℕ) → p < shape.parts → has_bit (mask_of (shares_of shape cs)) p ≡ not (is_empty (changes_at shape p cs))
 bits-of shape cs p low = mask_bit (shares_of shape cs) p ∙ ap has_changes (share_is shape cs p low) ∙ has-not-empty (changes_at shape p cs)
 
 -- WHAT WOULD PASS A LIMIT
 
 module _ (d : View) (shape : Shape) (dev : ℕ) where
-  share-fills : (u : Id) (cs : List Change) → filling.ShareFills d shape u cs dev → promise.ShareFills d shape u cs dev
-  share-fills u cs f = record {
-    p = f.p;
-    low = f.low;
-    which = f.which;
-    log = f.log;
-    counts = f.counts;
-    device = f.device;
-    changed = not-empty (changes_at shape f.p cs) f.changed;
-    over = f.over;
-  }
-
-  no-share : (u : Id) → promise.ShareFills d shape u [] dev → ⊥
+  -- nothing of a unit without changes is prepared
+  no-share : (u : Id) → ShareFills d shape u [] dev → ⊥
   no-share u f = let changed : true ≡ false = f.changed in cc changed
+
+  no-share-room : ShareRoomFills d shape [] dev → ⊥
+  no-share-room f = let changed : true ≡ false = f.2 in cc changed
 
   -- a first opening
   pub first-fills : StorePassesLimit d shape dev → FirstFills d shape dev
@@ -90,7 +80,11 @@ module _ (d : View) (shape : Shape) (dev : ℕ) where
   -- or one behind a fall
   pub opening-fills : (trace : Trace) (e : Option Event) → FillsDevice d shape OfOpening dev → NextFills d shape trace Fallen e dev
   opening-fills trace e (inl f) = inl (first-fills f)
-  opening-fills trace e (inr h) = inr (inr (record { p = h.p; low = h.low; device = h.is }))
+  opening-fills trace e (inr h) = inr (inr (inl (record { p = h.p; low = h.low; device = h.is })))
+
+  boot-fills : (trace : Trace) (e : Option Event) → FillsDevice d shape OfBoot dev → NextFills d shape trace Fallen e dev
+  boot-fills trace e (inl entry) = inr (inl entry)
+  boot-fills trace e (inr room) = inr (inr (inr room))
 
   -- WHAT COMES NEXT
 
@@ -108,10 +102,10 @@ module _ (d : View) (shape : Shape) (dev : ℕ) where
         ap (changes_decided (Committed n)) r.1 ∙ ap (map change_at) (sym r.3.changes) ∙ ap (λ (v : Id). changes_of v trace) r.2
 
     decision : (u : Id) (end : End) (cs : List Change) → Good trace (Ended u end) → (w : ToWrite) → FillsDevice d shape w dev → IsUnitWritten s u end w → changes_decided end (unit_named u s.units) ≡ cs →
-        promise.ShareFills d shape u cs dev ⊎ (DecisionFills d shape trace (Ended u end) u cs dev ⊎ IsOfPages shape dev)
+        ShareFills d shape u cs dev ⊎ (DecisionFills d shape trace (Ended u end) u cs dev ⊎ (IsOfPages shape dev ⊎ (RenewalFills d shape dev ⊎ ShareRoomFills d shape cs dev)))
     decision u end cs good w fills x same = by written
       where
-        decides : promise.EntryFills d (filling.decision_entry shape u cs x.made) dev → DecisionFills d shape trace (Ended u end) u cs dev
+        decides : promise.EntryFills d (next_unit shape u cs (spell_move 3 x.made)) dev → DecisionFills d shape trace (Ended u end) u cs dev
         decides f = record {
           mask = mask_of (shares_of shape cs);
           bits = bits-of shape cs;
@@ -123,19 +117,30 @@ module _ (d : View) (shape : Shape) (dev : ℕ) where
         }
 
         by : FillsDevice d shape (OfUnit u cs x.made) dev →
-            promise.ShareFills d shape u cs dev ⊎ (DecisionFills d shape trace (Ended u end) u cs dev ⊎ IsOfPages shape dev)
-        by (inl f) = inr (inl (decides f))
-        by (inr (inl f)) = inl (share-fills u cs f)
-        by (inr (inr h)) = inr (inr (record { p = h.p; low = h.low; device = h.is }))
+            ShareFills d shape u cs dev ⊎ (DecisionFills d shape trace (Ended u end) u cs dev ⊎ (IsOfPages shape dev ⊎ (RenewalFills d shape dev ⊎ ShareRoomFills d shape cs dev)))
+        by (inl (inl f)) = inr (inl (decides f))
+        by (inl (inr room)) = inr (inr (inr (inl room)))
+        by (inr (inl f)) = inl f
+        by (inr (inr (inl h))) = inr (inr (inl (record { p = h.p; low = h.low; device = h.is })))
+        by (inr (inr (inr room))) = inr (inr (inr (inr room)))
 
         written : FillsDevice d shape (OfUnit u cs x.made) dev
         written = subst (λ (l : List Change). FillsDevice d shape (OfUnit u l x.made) dev) same (subst (λ (v : ToWrite). FillsDevice d shape v dev) x.writes fills)
+
+    -- of a unit that decides without changes
+    branched : (u : Id) (n : ℕ) (cause : Cause) → ShareFills d shape u [] dev ⊎ (DecisionFills d shape trace (Ended u (Branched n cause)) u [] dev ⊎ (IsOfPages shape dev ⊎ (RenewalFills d shape dev ⊎ ShareRoomFills d shape [] dev)))
+        → DecisionFills d shape trace (Ended u (Branched n cause)) u [] dev ⊎ (IsOfPages shape dev ⊎ RenewalFills d shape dev)
+    branched u n cause (inl f) = absurd (no-share u f)
+    branched u n cause (inr (inl f)) = inl f
+    branched u n cause (inr (inr (inl pages))) = inr (inl pages)
+    branched u n cause (inr (inr (inr (inl room)))) = inr (inr room)
+    branched u n cause (inr (inr (inr (inr room)))) = absurd (no-share-room room)
 
     told-next : (ph : Phase) → phase trace ≡ ph → (o : Option Event) → next trace ≡ o → IfSome (Good trace) o → (w : ToWrite) → IsWrittenBy s o w → FillsDevice d shape w dev → NextFills d shape trace ph o dev
     told-next Fallen is None comes good w h fills = absurd h
     told-next Fallen is (Some e) comes good w h fills = let both : None ≡ Some e = sym (nothing-fallen trace played is) ∙ comes in absurd (cc both)
     told-next ph is (Some (Ended u (Committed n))) comes good w h fills = decision u (Committed n) (changes_of u trace) good w fills h (committed u n good)
-    told-next ph is (Some (Ended u (Branched n cause))) comes good w h fills = elim (decision u (Branched n cause) [] good w fills h refl) [ inl f ↦ absurd (no-share u f) | inr f ↦ f ]
+    told-next ph is (Some (Ended u (Branched n cause))) comes good w h fills = branched u n cause (decision u (Branched n cause) [] good w fills h refl)
     told-next ph is (Some (Defined n text)) comes good w h fills = subst (λ (v : ToWrite). FillsDevice d shape v dev) h fills
     told-next ph is o comes good w h fills = absurd h
 
@@ -151,4 +156,4 @@ full-behind d shape trace dev played f = by f.writes
         (opening-fills d shape dev trace (next trace) (subst (λ (v : ToWrite). FillsDevice d shape v dev) opening f.fills))
     by (inr (down, inr boot)) =
         subst (λ (ph : Phase). NextFills d shape trace ph (next trace) dev) (sym (f.keeps.state.units.phase ∙ down))
-        (inr (inl (subst (λ (v : ToWrite). FillsDevice d shape v dev) boot f.fills)))
+        (boot-fills d shape dev trace (next trace) (subst (λ (v : ToWrite). FillsDevice d shape v dev) boot f.fills))

@@ -1,17 +1,15 @@
 use Rattle.salt_devices.proofs.Booting.{boot_counted, boot_is, boot_new, not_spent}
 use Rattle.salt_devices.proofs.Entered.{boot_held, boot_leaves, boot_stands}
-use Rattle.salt_devices.proofs.Filled.{boot_fills}
+use Rattle.salt_devices.proofs.Filled.{filled}
 use Rattle.salt_storage.proofs.Halted.{answer_is, full_is}
 use Rattle.salt_devices.proofs.Stores.{standing_on}
 use Rattle.salt_devices.proofs.Either.{either}
-use Rattle.salt_devices.proofs.Within.{entry_within, kept_within}
+use Rattle.salt_devices.proofs.Within.{kept_within, stood_within}
 use Rattle.salt_devices.proofs.held.begin_boot.Goals as goal
-use Rattle.salt_commit.specs.Stores.{coordinator_device, coordinator_gate, last_boot}
-use Rattle.salt_bytes.specs.Coordinator.{Boots, spell_entry}
-use Rattle.salt_devices.proofs.Untouched.{all_bytes, boot_stays}
-use Rattle.salt_disk.specs.Disks.{FullExactly, KeepsOthers}
+use Rattle.salt_commit.specs.Full.{EntryOrRoomFills, next_boot}
+use Rattle.salt_commit.specs.Stores.{last_boot}
 use Rattle.salt_storage.specs.Answers.{disk_err_of}
-use Rattle.std.proofs.Common.{Err, None, Some, ap, arith, length, subst, sym, ◌+◌, ◌-◌, ◌<◌, ◌^◌, ◌∙◌}
+use Rattle.std.proofs.Common.{None, Some, arith, ◌-◌, ◌<◌, ◌^◌, ◌∙◌}
 use Rattle.std.proofs.lemmas.Result.{err_from_is_err_and}
 
 pub reject-requires : goal.reject-requires
@@ -64,17 +62,11 @@ returns-in_err-boot-clause-leaves g c =
     rw p.1 (λ shape k h. boot_leaves (g.D.Disks.view c.args.disks.now) (g.D.Disks.view c.boot.new.disks) shape c.args.store.now k h (c.in_err-boot.ensures.images h.which h.c h.v h.is h.told))
 
 pub returns-in_err-boot-clause-full : goal.returns-in_err-boot-clause-full
-returns-in_err-boot-clause-full g c dev is shape k h =
-    let x = c.args.store.now in
-    let d = g.D.Disks.view c.args.disks.now in
-    let end = coordinator_gate x + 10 + length (spell_entry (Boots (last_boot x + 1))) in
+returns-in_err-boot-clause-full g c dev is shape k h told =
+    let f = g.D.Disks.view c.boot.new.disks in
     let p = err_from_is_err_and c.from_residual.result c.from_residual.ensures.1 in
     let e = full_is p.0 c.in_err-boot.field-0.0 dev p.2 (cc (p.1, is)) in
-    let full = subst (λ z. FullExactly (coordinator_device x) (d.limit (coordinator_device x)) end (Some z)) e c.in_err-boot.ensures.full in
-    let f = g.D.Disks.view c.boot.new.disks in
-    let others = subst (λ z. KeepsOthers (coordinator_device x) d f (Some z)) e c.in_err-boot.ensures.others in
-    boot_stays d f c.in_err-boot.ensures.others.shape shape dev (all_bytes d f dev (coordinator_device x) others (c.in_err-boot.ensures.untouched dev (ap Err e)))
-    (boot_fills d shape x k h dev full.0 (subst (λ n. d.limit n < end) (sym full.0) full.1))
+    filled (g.D.Disks.view c.args.disks.now) shape c.args.store.now k h (λ s. EntryOrRoomFills f s next_boot) c.in_err-boot.field-0.0 dev e (c.in_err-boot.ensures.full h.told)
 
 pub returns-in_err-boot-clause-cause : goal.returns-in_err-boot-clause-cause
 returns-in_err-boot-clause-cause g c =
@@ -82,7 +74,7 @@ returns-in_err-boot-clause-cause g c =
     rw (answer_is c.from_residual.result p.0 c.in_err-boot.field-0.0 p.1 p.2) c.in_err-boot.ensures.cause
 
 pub returns-clause-within : goal.returns-clause-within
-returns-clause-within g c setup s = entry_within (g.D.Disks.view c.args.disks.now) (g.D.Disks.view c.boot.new.disks) setup c.args.store.now s None c.in_ok-boot.ensures.others
+returns-clause-within g c setup s = stood_within (g.D.Disks.view c.args.disks.now) (g.D.Disks.view c.boot.new.disks) setup c.args.store.now s None c.in_ok-boot.ensures.others
 
 pub returns-in_err-boot-clause-within : goal.returns-in_err-boot-clause-within
-returns-in_err-boot-clause-within g c setup s = entry_within (g.D.Disks.view c.args.disks.now) (g.D.Disks.view c.boot.new.disks) setup c.args.store.now s (Some c.in_err-boot.field-0.0) c.in_err-boot.ensures.others
+returns-in_err-boot-clause-within g c setup s = stood_within (g.D.Disks.view c.args.disks.now) (g.D.Disks.view c.boot.new.disks) setup c.args.store.now s (Some c.in_err-boot.field-0.0) c.in_err-boot.ensures.others

@@ -1,18 +1,15 @@
-use Rattle.salt_bytes.specs.Coordinator.{Defines, spell_entry}
-use Rattle.salt_commit.specs.Stores.{coordinator_device, coordinator_gate, last_boot}
-use Rattle.salt_decisions.specs.Decisions.{next_definition}
+use Rattle.salt_commit.specs.Full.{EntryOrRoomFills, next_definition}
+use Rattle.salt_commit.specs.Stores.{last_boot}
 use Rattle.salt_devices.proofs.Entered.{definition_counted, definition_held, definition_leaves, definition_stands, may_define, may_define_as, some_definition}
-use Rattle.salt_devices.proofs.Filled.{definition_fills}
+use Rattle.salt_devices.proofs.Filled.{filled}
 use Rattle.salt_storage.proofs.Halted.{answer_is, full_is}
 use Rattle.salt_devices.proofs.Stores.{entered_new, held_leaves, standing_on}
 use Rattle.salt_devices.proofs.Either.{either}
-use Rattle.salt_devices.proofs.Within.{entry_within, nothing_within}
+use Rattle.salt_devices.proofs.Within.{nothing_within, stood_within}
 use Rattle.salt_devices.proofs.held.decide_definition.Goals as goal
-use Rattle.salt_devices.proofs.Untouched.{all_bytes, definition_stays}
 use Rattle.salt_devices.specs.Holding.{IsStanding}
-use Rattle.salt_disk.specs.Disks.{FullExactly, KeepsOthers}
 use Rattle.salt_storage.specs.Storing.{defined}
-use Rattle.std.proofs.Common.{Err, None, Some, ap, length, subst, sym, ◌+◌, ◌<◌, ◌≡◌, ◌∙◌}
+use Rattle.std.proofs.Common.{None, Some, sym, ◌≡◌, ◌∙◌}
 use Rattle.std.proofs.lemmas.Result.{err_from_is_err_and}
 
 pub define-requires-clause-stands : goal.define-requires-clause-stands
@@ -77,17 +74,11 @@ returns-in_err-number-clause-leaves g c =
     rw p.1 (λ shape k def h reads may. definition_leaves d e shape c.args.store.now k h c.args.text.now def (c.in_err-number.ensures.images h.which h.c h.v def h.is (may_define d e shape c.args.store.now k h c.args.text.now def reads may) h.told))
 
 pub returns-in_err-number-clause-full : goal.returns-in_err-number-clause-full
-returns-in_err-number-clause-full g c dev is shape k h =
-    let x = c.args.store.now in
-    let d = g.D.Disks.view c.args.disks.now in
-    let end = coordinator_gate x + 10 + length (spell_entry (Defines (next_definition x.decisions c.args.text.now))) in
+returns-in_err-number-clause-full g c dev is shape k h told =
+    let f = g.D.Disks.view c.define.new.disks in
     let p = err_from_is_err_and c.from_residual.result c.from_residual.ensures.1 in
     let e = full_is p.0 c.in_err-number.field-0.0 dev p.2 (cc (p.1, is)) in
-    let full = subst (λ z. FullExactly (coordinator_device x) (d.limit (coordinator_device x)) end (Some z)) e c.in_err-number.ensures.full in
-    let f = g.D.Disks.view c.define.new.disks in
-    let others = subst (λ z. KeepsOthers (coordinator_device x) d f (Some z)) e c.in_err-number.ensures.others in
-    definition_stays d f c.in_err-number.ensures.others.shape shape c.args.text.now dev (all_bytes d f dev (coordinator_device x) others (c.in_err-number.ensures.untouched dev (ap Err e)))
-    (definition_fills d shape x k h c.args.text.now dev full.0 (subst (λ n. d.limit n < end) (sym full.0) full.1))
+    filled (g.D.Disks.view c.args.disks.now) shape c.args.store.now k h (λ s. EntryOrRoomFills f s (next_definition c.args.text.now)) c.in_err-number.field-0.0 dev e (c.in_err-number.ensures.full h.told)
 
 pub returns-in_err-number-clause-cause : goal.returns-in_err-number-clause-cause
 returns-in_err-number-clause-cause g c =
@@ -95,7 +86,7 @@ returns-in_err-number-clause-cause g c =
     rw (answer_is c.from_residual.result p.0 c.in_err-number.field-0.0 p.1 p.2) c.in_err-number.ensures.cause
 
 pub returns-clause-within : goal.returns-clause-within
-returns-clause-within g c setup s = entry_within (g.D.Disks.view c.args.disks.now) (g.D.Disks.view c.define.new.disks) setup c.args.store.now s None c.in_ok-number.ensures.others
+returns-clause-within g c setup s = stood_within (g.D.Disks.view c.args.disks.now) (g.D.Disks.view c.define.new.disks) setup c.args.store.now s None c.in_ok-number.ensures.others
 
 pub returns-in_err-number-clause-within : goal.returns-in_err-number-clause-within
-returns-in_err-number-clause-within g c setup s = entry_within (g.D.Disks.view c.args.disks.now) (g.D.Disks.view c.define.new.disks) setup c.args.store.now s (Some c.in_err-number.field-0.0) c.in_err-number.ensures.others
+returns-in_err-number-clause-within g c setup s = stood_within (g.D.Disks.view c.args.disks.now) (g.D.Disks.view c.define.new.disks) setup c.args.store.now s (Some c.in_err-number.field-0.0) c.in_err-number.ensures.others

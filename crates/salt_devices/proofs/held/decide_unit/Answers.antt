@@ -1,7 +1,8 @@
 use Rattle.salt_bytes.specs.Conts.{move_in, spell_move}
 use Rattle.law_definitions.specs.Texts.{definition_in}
 use Rattle.salt_codec.specs.Moves.{IsShortMove}
-use Rattle.salt_commit.specs.Commits.{CommitPassesLimit, IsCommitDevice, fits_its_part}
+use Rattle.salt_commit.specs.Commits.{fits_its_part}
+use Rattle.salt_commit.specs.Full.{CommitFills}
 use Rattle.salt_commit.specs.Stores.{last_boot, reading}
 use Rattle.salt_commit.specs.Messages.{IsNewIn}
 use Rattle.salt_stands.specs.Fitting.{tables_defined}
@@ -9,20 +10,18 @@ use Rattle.salt_devices.proofs.Booting.{boot_is}
 use Rattle.salt_devices.proofs.Committing.{short_move}
 use Rattle.salt_devices.proofs.Deciding.{MayBeCommitted, committed_stands, held_committed, mute_committed, others_stay_new, stands_to_commit, unit_holds, unit_leaves_either}
 use Rattle.salt_devices.proofs.InHand.{keys_are_values}
-use Rattle.salt_devices.proofs.Limited.{unit_full}
+use Rattle.salt_devices.proofs.Filled.{filled}
 use Rattle.salt_devices.proofs.Stores.{held_leaves}
 use Rattle.salt_devices.proofs.Either.{either}
-use Rattle.salt_devices.proofs.Within.{commit_within, kept_within, nothing_within}
+use Rattle.salt_devices.proofs.Within.{kept_within, nothing_within, stood_within}
 use Rattle.salt_devices.proofs.held.decide_unit.Goals as goal
-use Rattle.salt_disk.specs.Disks.{KeepsBut}
 use Rattle.salt_model.specs.Kept.{Definition}
-use Rattle.salt_shares.specs.Prepares.{FullWhere}
 use Rattle.salt_stands.specs.Coordinator.{Coordinator}
 use Rattle.salt_storage.proofs.Halted.{answer_is, full_is}
 use Rattle.salt_storage.specs.Answers.{disk_err_of}
 use Rattle.salt_storage.specs.Storing.{decided}
 use Rattle.law_types.specs.Typed.{AreChangesOf}
-use Rattle.std.proofs.Common.{Err, IsTrue, None, Some, ap, arith, subst, sym, true, ◌≡◌, ◌≤◌, ◌∙◌}
+use Rattle.std.proofs.Common.{IsTrue, None, Some, arith, subst, sym, true, ◌≡◌, ◌≤◌, ◌∙◌}
 use Rattle.std.proofs.lemmas.Result.{err_from_is_err_and}
 use Rattle.std.specs.List.{list_all}
 
@@ -129,19 +128,15 @@ returns-in_err-number-clause-leaves g c =
     (g.D.Disks.view c.commit.new.disks) c.commit.new.self c.in_err-number.ensures.others.shape keys c.in_err-number.ensures.images)
 
 pub returns-in_err-number-clause-full : goal.returns-in_err-number-clause-full
-returns-in_err-number-clause-full g c dev is shape k h =
-    let d = g.D.Disks.view c.args.disks.now in
+returns-in_err-number-clause-full g c dev is shape k h told =
     let f = g.D.Disks.view c.commit.new.disks in
-    let x = c.args.store.now in
+    let u = c.args.unit in
     let cs = c.args.changes.now in
-    let made = c.args.made.now in
-    let spells : c.deref.result.now ≡ spell_move 3 made = c.deref.ensures.value ∙ c.in_ok-spelled.ensures in
+    let spells : c.deref.result.now ≡ spell_move 3 c.args.made.now = c.deref.ensures.value ∙ c.in_ok-spelled.ensures in
     let p = err_from_is_err_and c.from_residual-in_err-number.result c.from_residual-in_err-number.ensures.1 in
     let e = full_is p.0 c.in_err-number.field-0.0 dev p.2 (cc (p.1, is)) in
-    let full : CommitPassesLimit d.limit x c.args.unit cs c.deref.result.now dev =
-    subst (λ z. FullWhere (CommitPassesLimit d.limit x c.args.unit cs c.deref.result.now) (Some z)) e (c.in_err-number.ensures.full h.told) in
-    let others = subst (λ z. KeepsBut (IsCommitDevice x cs) d f (Some z)) e c.in_err-number.ensures.others in
-    unit_full d f shape x k h cs dev others (c.in_err-number.ensures.untouched h.told dev (ap Err e)) c.args.unit made (subst (λ b. CommitPassesLimit d.limit x c.args.unit cs b dev) spells full)
+    subst (λ mv. CommitFills f shape u cs mv dev) spells
+    (filled (g.D.Disks.view c.args.disks.now) shape c.args.store.now k h (λ s. CommitFills f s u cs c.deref.result.now) c.in_err-number.field-0.0 dev e (c.in_err-number.ensures.full h.told))
 
 pub returns-in_err-number-clause-cause : goal.returns-in_err-number-clause-cause
 returns-in_err-number-clause-cause g c =
@@ -149,8 +144,8 @@ returns-in_err-number-clause-cause g c =
     rw (answer_is c.from_residual-in_err-number.result p.0 c.in_err-number.field-0.0 p.1 p.2) c.in_err-number.ensures.cause
 
 pub returns-clause-within : goal.returns-clause-within
-returns-clause-within g c setup s = commit_within (g.D.Disks.view c.args.disks.now) (g.D.Disks.view c.commit.new.disks) setup c.args.store.now s c.args.changes.now None c.in_ok-number.ensures.others
+returns-clause-within g c setup s = stood_within (g.D.Disks.view c.args.disks.now) (g.D.Disks.view c.commit.new.disks) setup c.args.store.now s None c.in_ok-number.ensures.others
 
 pub returns-in_err-number-clause-within : goal.returns-in_err-number-clause-within
 returns-in_err-number-clause-within g c setup s =
-    commit_within (g.D.Disks.view c.args.disks.now) (g.D.Disks.view c.commit.new.disks) setup c.args.store.now s c.args.changes.now (Some c.in_err-number.field-0.0) c.in_err-number.ensures.others
+    stood_within (g.D.Disks.view c.args.disks.now) (g.D.Disks.view c.commit.new.disks) setup c.args.store.now s (Some c.in_err-number.field-0.0) c.in_err-number.ensures.others

@@ -52,11 +52,12 @@ returns-in-Err-clause-leaves g c k def h reads may =
     (c.in-Err.ensures.leaves c.args.self.now.shape k def (the_store _ _ _ _ _ c.in-Some.store c.in-Some.is k h) reads may) c.numbers_of-before.ensures (refl, refl))
 
 pub returns-in-Err-clause-full : goal.returns-in-Err-clause-full
-returns-in-Err-clause-full g c dev is now =
+returns-in-Err-clause-full g c dev is =
     let going = the_going _ _ _ _ _ c.in-Some.store c.in-Some.is c.requires.able in
     let same = (c.in-Err.ensures.within (setup_in c.args.self.now.shape c.args.self.now.over_net) going.stands).shape in
+    rw c.forget.ensures (λ now.
     let r = c.requires.may (sym same.told ∙ now) in
-    c.in-Err.ensures.full dev is c.args.self.now.shape r.0 (the_store _ _ _ _ _ c.in-Some.store c.in-Some.is r.0 r.1) now
+    c.in-Err.ensures.full dev is c.args.self.now.shape r.0 (the_store _ _ _ _ _ c.in-Some.store c.in-Some.is r.0 r.1) now)
 
 pub returns-in-Ok-clause-within : goal.returns-in-Ok-clause-within
 returns-in-Ok-clause-within g c =
