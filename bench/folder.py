@@ -2,18 +2,18 @@
 """Times the lines of the workload over a folder, beside sqlite3 over a file with a log that is synced at each commit; and openings.
 
 The lines of `load N` are run as a script over devices in memory and over a folder. Prints units per second of both and of sqlite3, how many
-writes and syncs of devices a unit takes (by strace: 4 for its decision, and 4 for each partition that it changes), and how long an opening
-takes behind 10,000 to 100,000 decisions, over a folder in memory. Ends with 1 where a unit takes more calls, or an opening grows by more than
-its decisions.
+writes and syncs of devices a unit takes (by strace: 4 for its decision, and 4 for each partition that it changes), and how large the files are, and
+how long an opening takes, behind 1,000 to 100,000 decisions, over a folder in memory. Ends with 1 where a unit takes more calls, or files or an
+opening grow with the decisions.
 """
-import re, shutil, subprocess, sys, tempfile, time
+import os, re, shutil, subprocess, sys, tempfile, time
 from pathlib import Path
 
 from load import sqlite_script
-from timing import made, processor_seconds
+from timing import made, processor_seconds, seconds
 
 SIZES = [2_000, 20_000]
-DECISIONS = [10_000, 30_000, 100_000]
+DECISIONS = [1_000, 10_000, 100_000]
 PROGRAM = (
     "program transfer(a int, b int, amt int) base part { update acct set bal = bal - :amt where key = :a }"
     " part { update acct set bal = bal + :amt where key = :b } then end on failure go 3"
@@ -79,7 +79,7 @@ def decided(program, text):
 
 
 def openings(program):
-    """Seconds of an opening behind so many decisions, each an update of one of 100 rows."""
+    """Bytes of the files, and seconds of an opening, behind so many decisions, each an update of one of 100 rows."""
     found = []
     with tempfile.TemporaryDirectory(dir="/dev/shm") as top:
         for count in DECISIONS:
@@ -87,9 +87,8 @@ def openings(program):
             rows = ["create table t (id int key, v int)"] + [f"@1 insert into t values ({k}, 0)" for k in range(100)]
             rows += [f"@1 update t set v = v + 1 where key = {k % 100}" for k in range(count - 100)]
             over(folder, program, ("\n".join(rows) + "\n").encode())
-            start = time.monotonic()
-            subprocess.run([program, "run", "--dir", folder], input=b"", stdout=subprocess.DEVNULL, check=True)
-            found.append((count, time.monotonic() - start))
+            size = sum(file.stat().st_size for file in os.scandir(folder))
+            found.append((count, size, seconds([program, "run", "--dir", folder], b"")))
     return found
 
 
@@ -110,10 +109,10 @@ def main():
         print(f"{writes} writes and {syncs} syncs for an opening of {first} calls and {units} decisions: {(writes + syncs - first) / units:.2f} a decision", flush=True)
         failed |= not 0 < writes + syncs - first <= 12 * units
     found = openings(program)
-    for count, took in found:
-        print(f"opened behind {count:6} decisions in {took:.3f} s", flush=True)
-    (few, least), (many, most) = found[0], found[-1]
-    return 1 if failed or most / least > 1.5 * many / few else 0
+    for count, size, took in found:
+        print(f"behind {count:6} decisions {size:7} bytes, opened in {took:.4f} s", flush=True)
+    (_, small, least), (_, large, most) = found[0], found[-1]
+    return 1 if failed or large > 2 * small or most > 3 * least else 0
 
 
 if __name__ == "__main__":
