@@ -1,6 +1,6 @@
 //! The laws, each on a function that does nothing. They hold whatever reads the definitions.
 
-ghost use Rattle.law_generations.specs.AsIf.{IsAsIf};
+ghost use Rattle.law_generations.specs.AsIf.{IsAsIf, IsAsIfIn};
 ghost use Rattle.salt_bytes.specs.Partition.{PartitionHeader};
 ghost use Rattle.salt_model.specs.Kept.{Definition};
 ghost use Rattle.salt_model.specs.Tables.{no_rows, with_changes};
@@ -22,8 +22,10 @@ pub fn checkpoints_make_generations()
         → with_changes rows no_rows ≡ tables_at_part c p (v p) → IsAsIf c v c (with_view p (checkpointed (v p) h rows) v) }
 {}
 
-/// So does a snapshot in the same format, where no partition has a prepared unit.
+/// So does a snapshot in the same format, where no partition has a prepared unit; in another one what stands is the same but for that.
 pub fn snapshots_make_generations()
-    ensures { (c : Coordinator Definition) (v : ℕ → PartView) → ((p : ℕ) → p < partition_count c → (v p).log.prepared ≡ [])
+    ensures same { (c : Coordinator Definition) (v : ℕ → PartView) → ((p : ℕ) → p < partition_count c → (v p).log.prepared ≡ [])
         → IsAsIf c v (with_snapshot c c.log.header.format) v }
+    ensures other { (c : Coordinator Definition) (v : ℕ → PartView) (format : ℕ) → ((p : ℕ) → p < partition_count c → (v p).log.prepared ≡ [])
+        → IsAsIfIn format c v (with_snapshot c format) v }
 {}
