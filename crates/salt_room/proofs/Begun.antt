@@ -145,11 +145,12 @@ next r d e x y n which c v ok under behind = by d.told refl
 
 -- ONE AFTER ANOTHER
 
--- of the first n those from number `low` on have no prepared unit
+-- of the first n those from number `low` on have no prepared unit, and spell NULL
 pub record AreBegun (low n : ℕ) (r : Reading Definition) (d : View) (parts : List Partition) (which : WhichLog) (c : Coordinator Definition) (v : ℕ → PartView) : Type 0 where
   pub on : GoOn r d parts which c v
   pub none : (p : ℕ) → low ≤ p → p < n → (on.view p).log.prepared ≡ []
-  pub format : (p : ℕ) → low ≤ p → p < n → (on.view p).log.header.format ≡ 2
+  pub nulls : (p : ℕ) → low ≤ p → p < n → has_nulls (on.view p).log.header.format ≡ true
+  pub format : IsTrue d.told → (p : ℕ) → low ≤ p → p < n → (on.view p).log.header.format ≡ 2
 
 -- the others are as they were
 pub record BegunSoFar (low : ℕ) (d0 d : View) (parts0 parts : List Partition) (n : ℕ) : Type 0 where
@@ -167,7 +168,12 @@ one_part x y e = cc
 pub none_begun : (low : ℕ) (d : View) (parts : List Partition) → EachStands d parts → BegunSoFar low d d parts parts 0
 none_begun low d parts stand = record {
   size = refl;
-  on = λ r which c v are. record { on = record { view = v; as_if = as_if_same c v; same = same_tables c v; are = are }; none = λ p from below. absurd (omega (arith, below)); format = λ p from below. absurd (omega (arith, below)) };
+  on = λ r which c v are. record {
+    on = record { view = v; as_if = as_if_same c v; same = same_tables c v; are = are };
+    none = λ p from below. absurd (omega (arith, below));
+    nulls = λ p from below. absurd (omega (arith, below));
+    format = λ told p from below. absurd (omega (arith, below));
+  };
   rest = λ p high. refl;
   stand = stand;
   pages = record { each = λ p x y first second. ap page_count (one_part y x (sym second ∙ first)) };
@@ -216,9 +222,16 @@ module _ (low : ℕ) (d0 d : View) (parts0 parts : List Partition) (n : ℕ) (so
       none p from below (inl same) = subst (λ (k : ℕ). (now k).log.prepared ≡ []) (sym same) (none_here r d e parts n x y which c w here within was.on.are others one.view one.made one.is one.ready)
       none p from below (inr other) = ap (λ (u : PartView). u.log.prepared) (there p other) ∙ was.none p from (omega (arith, below, other))
 
-      format : (p : ℕ) → low ≤ p → p < n + 1 → (p ≡ n) ⊎ (p ≢ n) → (now p).log.header.format ≡ 2
-      format p from below (inl same) = subst (λ (k : ℕ). (now k).log.header.format ≡ 2) (sym same) (format_here r d e parts n x y which c w here within was.on.are others one.view one.made one.is one.ready)
-      format p from below (inr other) = ap (λ (u : PartView). u.log.header.format) (there p other) ∙ was.format p from (omega (arith, below, other))
+      format-now : (now n).log.header.format ≡ 2
+      format-now = format_here r d e parts n x y which c w here within was.on.are others one.view one.made one.is one.ready
+
+      spelled : (p : ℕ) → low ≤ p → p < n + 1 → (p ≡ n) ⊎ (p ≢ n) → has_nulls (now p).log.header.format ≡ true
+      spelled p from below (inl same) = subst (λ (k : ℕ). has_nulls (now k).log.header.format ≡ true) (sym same) (ap has_nulls format-now)
+      spelled p from below (inr other) = ap (λ (u : PartView). has_nulls u.log.header.format) (there p other) ∙ was.nulls p from (omega (arith, below, other))
+
+      format : IsTrue d.told → (p : ℕ) → low ≤ p → p < n + 1 → (p ≡ n) ⊎ (p ≢ n) → (now p).log.header.format ≡ 2
+      format told p from below (inl same) = subst (λ (k : ℕ). (now k).log.header.format ≡ 2) (sym same) format-now
+      format told p from below (inr other) = ap (λ (u : PartView). u.log.header.format) (there p other) ∙ was.format told p from (omega (arith, below, other))
 
       on_next : AreBegun low (n + 1) r e (slice_set parts n y) which c v
       on_next = record {
@@ -229,7 +242,8 @@ module _ (low : ℕ) (d0 d : View) (parts0 parts : List Partition) (n : ℕ) (so
           are = parts_now r d e parts n x y which c w here within was.on.are others one.view one.made one.is one.ready;
         };
         none = λ p from below. none p from below (cases_eq p n);
-        format = λ p from below. format p from below (cases_eq p n);
+        nulls = λ p from below. spelled p from below (cases_eq p n);
+        format = λ told p from below. format (sym others.shape.told ∙ told) p from below (cases_eq p n);
       }
 
     stands : StandsAs e n y
@@ -283,7 +297,12 @@ pub all_begun : (d0 d : View) (parts0 parts : List Partition) (n : ℕ) → Begu
     → ArePartsOf r d0 parts0 which c v → GoOnEmpty (length parts0) r d parts which c v
 all_begun d0 d parts0 parts n so_far all r which c v are =
     let was = so_far.on r which c v are in
-    record { on = was.on; none = λ p low. was.none p (omega arith) (omega (arith, low, all, so_far.size)); format = λ p low. was.format p (omega arith) (omega (arith, low, all, so_far.size)) }
+    record {
+      on = was.on;
+      none = λ p low. was.none p (omega arith) (omega (arith, low, all, so_far.size));
+      nulls = λ p low. was.nulls p (omega arith) (omega (arith, low, all, so_far.size));
+      format = λ told p low. was.format told p (omega arith) (omega (arith, low, all, so_far.size));
+    }
 
 -- a store that is ready stands in each image
 pub ready_stands : (r : Reading Definition) (d : View) (which : WhichLog) (c : Coordinator Definition) (v : ℕ → PartView) → IsReady r d which c v → StandsAlways r d c v
@@ -304,7 +323,12 @@ one_left low d0 d parts0 parts n so_far under = record {
   size = so_far.size;
   on = λ r which c v are.
       let was = so_far.on r which c v are in
-      record { on = was.on; none = λ p from below. absurd (omega (arith, from, below, under)); format = λ p from below. absurd (omega (arith, from, below, under)) };
+      record {
+        on = was.on;
+        none = λ p from below. absurd (omega (arith, from, below, under));
+        nulls = λ p from below. absurd (omega (arith, from, below, under));
+        format = λ told p from below. absurd (omega (arith, from, below, under));
+      };
   rest = λ p high. so_far.rest p (omega (arith, high));
   stand = so_far.stand;
   pages = so_far.pages;

@@ -1,11 +1,11 @@
 -- The coordinator's log begins a new generation, where no partition has an entry.
-use Rattle.law_generations.proofs.AsIf.{as_if_on, snapshot_as_if}
-use Rattle.law_generations.specs.AsIf.{IsAsIf}
+use Rattle.law_generations.proofs.AsIf.{as_if_in_on, as_if_in_own, snapshot_as_if_in}
+use Rattle.law_generations.specs.AsIf.{IsAsIfIn, in_format}
 use Rattle.salt_bytes.specs.Coordinator.{spell_header}
 use Rattle.salt_bytes.specs.Generations.{Counts, LogA, LogB, WhichLog}
 use Rattle.salt_bytes.specs.Log.{entries_in}
 use Rattle.salt_bytes.specs.Partition.{Prepared}
-use Rattle.salt_checkpoint.proofs.Snapshots.{in_format, snapped_stands, snapshot_ready, unsnapped_stands}
+use Rattle.salt_checkpoint.proofs.Snapshots.{snapped_stands, snapshot_ready, unsnapped_stands}
 use Rattle.salt_checkpoint.specs.Checkpoints.{IsReady, StandsAlways}
 use Rattle.salt_decisions.proofs.Contents.{log_bytes}
 use Rattle.salt_decisions.proofs.Framed.{decisions_kept}
@@ -25,6 +25,7 @@ use Rattle.salt_paged.specs.declared.partition.Partition.{Partition}
 use Rattle.salt_room.proofs.Apart.{no_part}
 use Rattle.salt_room.proofs.Lists.{if_each}
 use Rattle.salt_room.specs.Making.{CountsAsBefore, IsFullAtRenewal, SnapshotPassesLimit}
+use Rattle.salt_room.specs.Migrations.{GoesOnNewest, MigrationPassesLimit, StandsInEither}
 use Rattle.salt_room.specs.Renewals.{FullAtRenewal, IsOfStore, IsRenewed, IsStoreOf, renewed}
 use Rattle.salt_room.specs.Rooms.{ArePartsOf, EachStands, FullAtOne, GoOnEmpty, HaveSameTables, IsOfPart, StandsAs}
 use Rattle.salt_rows.specs.Stores.{IsRowStore}
@@ -102,25 +103,22 @@ whatever_applied d x p v applied others none is = record {
 
 -- A SNAPSHOT behind checkpoints of all partitions
 module _ (r : Reading Definition) (d : View) (x : Decisions) (parts : List Partition) (which : WhichLog) (c : Coordinator Definition) (v : ℕ → PartView)
-    (on : GoOnEmpty (partition_count c) r d parts which c v) (format : c.log.header.format ≡ 3) (same : IsTrue d.told → c.conts ≡ conts_in x) where
+    (on : GoOnEmpty (partition_count c) r d parts which c v) (same : IsTrue d.told → c.conts ≡ conts_in x) where
   abbrev dev : ℕ
   dev = device_of 0 (other_log which)
 
   abbrev w : ℕ → PartView
   w = on.on.view
 
-  fits : (p : ℕ) → p < partition_count c → is_format_under 3 (w p).log.header.format ≡ true
-  fits p below = ap (λ (k : ℕ). is_format_under 3 k) (on.format p below)
+  fits : IsTrue d.told → (p : ℕ) → p < partition_count c → is_format_under 3 (w p).log.header.format ≡ true
+  fits told p below = ap (λ (k : ℕ). is_format_under 3 k) (on.format told p below)
 
   header_same : IsTrue d.told → decisions.next_header c.log (conts_in x) ≡ next_header c.log c.conts 3
   header_same told = ap (λ (cs : List Cont). decisions.next_header c.log cs) (sym (same told))
 
-  found_same : in_format 3 (found_of c w) ≡ found_of c v
-  found_same = ap (λ (k : ℕ). in_format k (found_of c w)) (sym format) ∙ on.on.as_if.found
-
-  -- whatever it answers, each image stands for what stood before
-  pub snapshot_stands : (e : View) (answer : Option DiskErr) → KeepsOthers dev d e answer → EachImage e dev (IsSnapshotImage (d.bytes dev) (decisions.next_header c.log (conts_in x)) (snapshot_payload x)) → IsTrue d.told → StandsAlways r e c v
-  snapshot_stands e answer others images told asked image left = by (images (others.shape.told ∙ told) (image dev) (left dev (omega (arith, ready.two, others.shape.count, low (other_log which)))))
+  -- whatever it answers, each image stands for what stood before, in the format that it had or in the newest
+  pub snapshot_stands_in : (e : View) (answer : Option DiskErr) → KeepsOthers dev d e answer → EachImage e dev (IsSnapshotImage (d.bytes dev) (decisions.next_header c.log (conts_in x)) (snapshot_payload x)) → IsTrue d.told → StandsInEither r e c v
+  snapshot_stands_in e answer others images told asked image left = by (images (others.shape.told ∙ told) (image dev) (left dev (omega (arith, ready.two, others.shape.count, low (other_log which)))))
     where
       ready : IsReady r d which c w
       ready = on.on.are.ready told
@@ -131,12 +129,13 @@ module _ (r : Reading Definition) (d : View) (x : Decisions) (parts : List Parti
       as_before : stands_on r image asked ≡ Ok (found_of c w) → stands_on r image asked ≡ Ok (found_of c v)
       as_before stands = stands ∙ ap (λ (f : Found Definition). Ok f) on.on.as_if.found
 
-      by : IsSnapshotImage (d.bytes dev) (decisions.next_header c.log (conts_in x)) (snapshot_payload x) (image dev) → stands_on r image asked ≡ Ok (found_of c v)
-      by (inl was) = as_before (unsnapped_stands r d which c w ready image at (inr was) asked)
-      by (inr (inl blank)) = as_before (unsnapped_stands r d which c w ready image at (inl blank) asked)
-      by (inr (inr begun)) =
-          snapped_stands r d which c w ready image at (snapshot_payload x) 3 (begun.1 ∙ ap (λ h. Some h) (header_same told)) on.none fits begun.0 asked
-          ∙ ap (λ (f : Found Definition). Ok f) found_same
+      in_newest : stands_on r image asked ≡ Ok (in_format 3 (found_of c w)) → stands_on r image asked ≡ Ok (in_format 3 (found_of c v))
+      in_newest stands = stands ∙ ap (λ (f : Found Definition). Ok (in_format 3 f)) on.on.as_if.found
+
+      by : IsSnapshotImage (d.bytes dev) (decisions.next_header c.log (conts_in x)) (snapshot_payload x) (image dev) → (stands_on r image asked ≡ Ok (found_of c v)) ⊎ (stands_on r image asked ≡ Ok (in_format 3 (found_of c v)))
+      by (inl was) = inl (as_before (unsnapped_stands r d which c w ready image at (inr was) asked))
+      by (inr (inl blank)) = inl (as_before (unsnapped_stands r d which c w ready image at (inl blank) asked))
+      by (inr (inr begun)) = inr (in_newest (snapped_stands r d which c w ready image at (snapshot_payload x) 3 (begun.1 ∙ ap (λ h. Some h) (header_same told)) on.none (fits told) begun.0 asked))
 
   -- behind Ok the store goes on in it
   module _ (e : View) (y : Decisions) (others : KeepsOthers dev d e None) (is : IsDecisions e y (other_log which) (snapshotted c.log (conts_in x))) (begins : BeginsWith e dev (decisions.next_header c.log (conts_in x)) (snapshot_payload x)) where
@@ -151,7 +150,7 @@ module _ (r : Reading Definition) (d : View) (x : Decisions) (parts : List Parti
         let before : IsTrue d.told = sym others.shape.told ∙ told in
         subst (λ (cs : List Cont). IsReady r e (other_log which) (renewed c cs) w) (same before)
         (snapshot_ready r d e which c w (on.on.are.ready before) others.shape (λ k apart. others.images k apart) (λ k apart. (others.kept k apart).bytes) settled
-        (snapshot_payload x) 3 (begins.reads ∙ ap (λ h. Some h) (header_same before)) on.none fits (begins.entries told))
+        (snapshot_payload x) 3 (begins.reads ∙ ap (λ h. Some h) (header_same before)) on.none (fits before) (begins.entries told))
 
     each_now : (p : ℕ) → IfSome (slice_get parts p) (λ q. IsPartition e q p (w p) (decided_for p next.log.told.decided))
     each_now p = if_each (slice_get parts p) (λ q. IsPartition d q p (w p) (decided_for p c.log.told.decided)) (λ q. IsPartition e q p (w p) (decided_for p next.log.told.decided))
@@ -166,29 +165,44 @@ module _ (r : Reading Definition) (d : View) (x : Decisions) (parts : List Parti
         (on.on.are.each p)
 
     -- which continuations the header has changes nothing of what is found
-    as_if_now : IsAsIf c v next w
+    as_if_now : IsAsIfIn 3 c v next w
     as_if_now =
-        let a = as_if_on c c (with_snapshot c 3) v w w on.on.as_if (subst (λ (k : ℕ). IsAsIf c w (with_snapshot c k) w) format (snapshot_as_if r c w on.none)) in
+        let a = as_if_in_on 3 c c (with_snapshot c 3) v w w on.on.as_if (snapshot_as_if_in r c w 3 on.none) in
         record { found = a.found; parts = a.parts; names = λ u new. let named = a.names u new in record { fresh = named.fresh; new = named.new } }
 
     same_now : HaveSameTables c v next w
     same_now = record { tables = λ p below. snapshot_tables r c p (w p) 3 (on.none p below) ∙ on.on.same.tables p below; nulls = on.on.same.nulls }
 
-    pub is_renewed : IsRenewed r e y parts (conts_in x) which c v
-    is_renewed = record {
-      view = w;
-      as_if = as_if_now;
-      same = same_now;
-      is = record { decisions = is; are = record { size = on.on.are.size; each = each_now; ready = ready_now } };
-      none = on.none;
-    }
+    store_now : IsStoreOf r e y parts (other_log which) next w
+    store_now = record { decisions = is; are = record { size = on.on.are.size; each = each_now; ready = ready_now } }
 
-module _ {T : Type 0} (r : Reading Definition) (d : View) (x : Decisions) (parts : List Partition) (which : WhichLog) (c : Coordinator Definition) (v : ℕ → PartView)
-    (on : GoOnEmpty (partition_count c) r d parts which c v) (format : c.log.header.format ≡ 3) (same : IsTrue d.told → c.conts ≡ conts_in x) where
-  pub renewed_then : (answer : Result T DiskErr) (e : View) (y : Decisions) → KeepsOthers (device_of 0 (other_log which)) d e (result_err answer) → OnOk answer (IsDecisions e y (other_log which) (snapshotted c.log (conts_in x)))
-      → OnOk answer (BeginsWith e (device_of 0 (other_log which)) (decisions.next_header c.log (conts_in x)) (snapshot_payload x)) → OnOk answer (IsRenewed r e y parts (conts_in x) which c v)
-  renewed_then (Ok t) e y others is begins = is_renewed r d x parts which c v on format same e y others is begins
-  renewed_then (Err k) e y others is begins = tt
+    pub is_newest : GoesOnNewest r e y parts c v
+    is_newest = record { which = other_log which; coordinator = next; views = w; as_if = as_if_now; nulls = on.nulls; is = store_now }
+
+    -- where it had that format it is another generation
+    pub is_renewed : c.log.header.format ≡ 3 → IsRenewed r e y parts (conts_in x) which c v
+    is_renewed format = record { view = w; as_if = as_if_in_own 3 c next v w format as_if_now; same = same_now; is = store_now; none = on.none }
+
+module _ (r : Reading Definition) (d : View) (x : Decisions) (parts : List Partition) (which : WhichLog) (c : Coordinator Definition) (v : ℕ → PartView)
+    (on : GoOnEmpty (partition_count c) r d parts which c v) (same : IsTrue d.told → c.conts ≡ conts_in x) where
+  pub newest_then : {T : Type 0} (answer : Result T DiskErr) (e : View) (y : Decisions) → KeepsOthers (device_of 0 (other_log which)) d e (result_err answer) → OnOk answer (IsDecisions e y (other_log which) (snapshotted c.log (conts_in x)))
+      → OnOk answer (BeginsWith e (device_of 0 (other_log which)) (decisions.next_header c.log (conts_in x)) (snapshot_payload x)) → OnOk answer (GoesOnNewest r e y parts c v)
+  newest_then (Ok t) e y others is begins = is_newest r d x parts which c v on same e y others is begins
+  newest_then (Err k) e y others is begins = tt
+
+  module _ (format : c.log.header.format ≡ 3) where
+    pub snapshot_stands : (e : View) (answer : Option DiskErr) → KeepsOthers (device_of 0 (other_log which)) d e answer
+        → EachImage e (device_of 0 (other_log which)) (IsSnapshotImage (d.bytes (device_of 0 (other_log which))) (decisions.next_header c.log (conts_in x)) (snapshot_payload x)) → IsTrue d.told → StandsAlways r e c v
+    snapshot_stands e answer others images told asked image left = by (snapshot_stands_in r d x parts which c v on same e answer others images told asked image left)
+      where
+        by : (stands_on r image asked ≡ Ok (found_of c v)) ⊎ (stands_on r image asked ≡ Ok (in_format 3 (found_of c v))) → stands_on r image asked ≡ Ok (found_of c v)
+        by (inl stands) = stands
+        by (inr stands) = stands ∙ ap (λ (k : ℕ). Ok (in_format k (found_of c v))) (sym format)
+
+    pub renewed_then : {T : Type 0} (answer : Result T DiskErr) (e : View) (y : Decisions) → KeepsOthers (device_of 0 (other_log which)) d e (result_err answer) → OnOk answer (IsDecisions e y (other_log which) (snapshotted c.log (conts_in x)))
+        → OnOk answer (BeginsWith e (device_of 0 (other_log which)) (decisions.next_header c.log (conts_in x)) (snapshot_payload x)) → OnOk answer (IsRenewed r e y parts (conts_in x) which c v)
+    renewed_then (Ok t) e y others is begins = is_renewed r d x parts which c v on same e y others is begins format
+    renewed_then (Err k) e y others is begins = tt
 
 pub ok_always : {T E P : Type 0} (r : Result T E) → P → OnOk r P
 ok_always (Ok x) h = h
@@ -248,3 +262,6 @@ module _ (e f : View) (x : Decisions) (which : WhichLog) (c : Coordinator Defini
 
   pub full_renewal : (parts : List Partition) → IsFullAtRenewal f x parts dev
   full_renewal parts = record { which = which; log = c.log; counting = counts_behind; passes = inl snapshot_passes }
+
+  pub full_migration : (parts : List Partition) → c.log.header.format ≢ 3 → MigrationPassesLimit f x parts dev
+  full_migration parts older = record { renewal = record { which = which; log = c.log; counting = counts_behind; passes = inl snapshot_passes }; older = older }

@@ -1,3 +1,4 @@
 pub mod Rooms
 pub mod Renewals
 pub mod Making
+pub mod Migrations

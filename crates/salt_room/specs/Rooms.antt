@@ -47,11 +47,12 @@ pub record GoOn {D : Type 0} (r : Reading D) (d : View) (parts : List Partition)
   pub same : HaveSameTables c v c view
   pub are : ArePartsOf r d parts which c view
 
--- in which the first n have no prepared unit, and NULL spelled
+-- in which the first n have no prepared unit, and NULL spelled: where the devices tell, they are of format 2
 pub record GoOnEmpty {D : Type 0} (n : ℕ) (r : Reading D) (d : View) (parts : List Partition) (which : WhichLog) (c : Coordinator D) (v : ℕ → PartView) : Type 0 where
   pub on : GoOn r d parts which c v
   pub none : (p : ℕ) → p < n → (on.view p).log.prepared ≡ []
-  pub format : (p : ℕ) → p < n → (on.view p).log.header.format ≡ 2
+  pub nulls : (p : ℕ) → p < n → has_nulls (on.view p).log.header.format ≡ true
+  pub format : IsTrue d.told → (p : ℕ) → p < n → (on.view p).log.header.format ≡ 2
 
 -- the device is a log of one of the first n partitions, or has its pages
 pub record IsOfPart (n dev : ℕ) : Type 0 where

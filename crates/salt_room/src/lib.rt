@@ -3,8 +3,10 @@
 
 mod checkpoints;
 mod making;
+mod migration;
 mod renewal;
 
-pub use checkpoints::{MOST_UNITS, checkpoint_all, checkpoint_full};
+pub use checkpoints::{MOST_UNITS, checkpoint_all, checkpoint_full, checkpoint_older};
 pub use making::{MOST_ENTRIES, make_room, renew_full};
+pub use migration::migrate;
 pub use renewal::renew;

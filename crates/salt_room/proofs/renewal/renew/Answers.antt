@@ -62,7 +62,7 @@ returns-clause-ok g c r which co v is =
     let log = decisions_on n d e c.args.decisions.now which co c.in_ok-checkpoint_all.ensures.others is.decisions in
     let format = sym is.decisions.holds.format ∙ c.requires.newest in
     let same : IsTrue e.told → co.conts ≡ conts_in c.args.decisions.now = λ told. conts_open r d c.args.decisions.now c.args.parts.now.items which co v is (sym c.in_ok-checkpoint_all.ensures.others.shape.told ∙ told) in
-    renewed_then r e c.args.decisions.now parts which co v on format same c.snapshot.result (g.D.Disks.view c.snapshot.new.disks) c.snapshot.new.self
+    renewed_then r e c.args.decisions.now parts which co v on same format c.snapshot.result (g.D.Disks.view c.snapshot.new.disks) c.snapshot.new.self
     (c.snapshot.ensures.others which co.log log) (c.snapshot.ensures.ok which co.log log) (c.snapshot.ensures.begins which co.log log)
 
 pub returns-clause-empty : goal.returns-clause-empty
@@ -78,7 +78,7 @@ returns-clause-images g c r which co v told is =
     let log = decisions_on n d e c.args.decisions.now which co c.in_ok-checkpoint_all.ensures.others is.decisions in
     let format = sym is.decisions.holds.format ∙ c.requires.newest in
     let same : IsTrue e.told → co.conts ≡ conts_in c.args.decisions.now = λ now. conts_open r d c.args.decisions.now c.args.parts.now.items which co v is told in
-    snapshot_stands r e c.args.decisions.now parts which co v on format same (g.D.Disks.view c.snapshot.new.disks) (result_err c.snapshot.result)
+    snapshot_stands r e c.args.decisions.now parts which co v on same format (g.D.Disks.view c.snapshot.new.disks) (result_err c.snapshot.result)
     (c.snapshot.ensures.others which co.log log) (c.snapshot.ensures.images which co.log log) (c.in_ok-checkpoint_all.ensures.others.shape.told ∙ told)
 
 pub returns-clause-others : goal.returns-clause-others
