@@ -86,7 +86,7 @@ module _ (read : List ℕ → Option Definition) (reads : IsReader read) (bytes 
 
   -- an image of them stands for what the coordinator's log tells
   pub new-stands : StandFor one_part image (kept_told told definitions)
-  new-stands = record { read = read; reads = reads; found = found; is = stands; has_shape = refl; newest = refl; keeps = refl }
+  new-stands = record { read = read; reads = reads; found = found; is = stands; has_shape = refl; keeps = refl }
 
 -- after a first opening
 

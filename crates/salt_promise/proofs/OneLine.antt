@@ -36,7 +36,7 @@ trace = served asks Rejected Byte says Refused Byte
 
 pub opens : (read : List ℕ → Option Definition) → IsReader read → OpenAs one_part blank nothing_kept
 unfolding entries_in
-opens read is = record { found = nothing_found one_part; answers = record { read = read; reads = is; is = (refl, refl) }; keeps = refl }
+opens read is = record { found = nothing_found one_part; answers = record { read = read; reads = is; is = refl }; keeps = refl }
 
 pub served-complete : IsComplete served
 unfolding computing

@@ -68,10 +68,7 @@ opens shape bytes k s unspent = record {
   answers = record {
     read = s.read;
     reads = s.reads;
-    is = (
-      coordinator s.read bytes shape s.found s.has_shape (ap (λ x. are_spent x.boot x.decisions) s.keeps ∙ unspent) (coordinator_at (definitions_reading s.read) (logs_of bytes)) s.is,
-      s.newest,
-    );
+    is = coordinator s.read bytes shape s.found s.has_shape (ap (λ x. are_spent x.boot x.decisions) s.keeps ∙ unspent) (coordinator_at (definitions_reading s.read) (logs_of bytes)) s.is;
   };
   keeps = s.keeps;
 }

@@ -64,7 +64,7 @@ first-fills = record { blank = refl; fills = inl (0, omega arith, inr (refl, ome
 module _ (read : List ℕ → Option Definition) (reads : IsReader read) where
   opens : OpenAs one_part blank nothing_kept
   unfolding entries_in
-  opens = record { found = nothing_found one_part; answers = record { read = read; reads = reads; is = (refl, refl) }; keeps = refl }
+  opens = record { found = nothing_found one_part; answers = record { read = read; reads = reads; is = refl }; keeps = refl }
 
   blank-stands : coordinator_at (definitions_reading read) (logs_of created) ≡ Ok None
   unfolding entries_in
@@ -85,7 +85,6 @@ module _ (read : List ℕ → Option Definition) (reads : IsReader read) where
       found = nothing_found one_part;
       is = ap (λ r. and_then r (with_parts (definitions_reading read) (logs_of image) image one_part)) (image-blank image is);
       has_shape = refl;
-      newest = refl;
       keeps = refl;
     };
     is = record { boots = 0; most = omega arith; is = inl refl };

@@ -106,7 +106,7 @@ served (t says e) n s p = subst (λ a. IsServed (t says a)) (sym (last-is (story
 module _ (read : List ℕ → Option Definition) (reads : IsReader read) where
   opens : OpenAs one_part blank nothing_kept
   unfolding entries_in
-  opens = record { found = nothing_found one_part; answers = record { read = read; reads = reads; is = (refl, refl) }; keeps = refl }
+  opens = record { found = nothing_found one_part; answers = record { read = read; reads = reads; is = refl }; keeps = refl }
 
   behind : (t : Trace) → MayTell empty (Script one_part false false) t → IsServed t
   behind t m = served t (no-lines t m) m.tells.told m.tells.played

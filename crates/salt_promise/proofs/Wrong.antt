@@ -88,7 +88,7 @@ unfolding entries_in entries_up_to split_payload framed
 spent-answer read = refl
 
 spent-closed : (k : Kept) → OpenAs one_part (begun (header_at half) []) k → ⊥
-spent-closed k o = let both : opening.NumbersSpent half 0 ≡ Stands o.found = sym (spent-answer o.answers.read) ∙ o.answers.is.0 in cc
+spent-closed k o = let both : opening.NumbersSpent half 0 ≡ Stands o.found = sym (spent-answer o.answers.read) ∙ o.answers.is in cc
 
 spent-at-first : Runs spent_run → ⊥
 spent-at-first = of-script spent_run refl (λ x. by (x.goes refl))
@@ -222,13 +222,17 @@ full-of-standing = at-first stand never
     which-log : (w : WhichLog) (log told : CoordinatorLog) → Counts w log ≡ Counts LogA told → w ≡ LogA
     which-log w log told e = cc
 
+    form-log : (w : WhichLog) (log told : CoordinatorLog) → Counts w log ≡ Counts LogA told → log.header.format ≡ told.header.format
+    form-log w log told e = let same : log ≡ told = cc e in ap (λ (l : CoordinatorLog). l.header.format) same
+
     apart : ◌≡◌ {A = ℕ} 1 0 → ⊥
     apart e = omega arith
 
     never : NextFills (full_run stand).after.devices one_part from_nothing Fallen None 1 → ⊥
     never (inl f) = let both : BothBlank ≡ Counts LogA stood = sym f.blank ∙ stand-counts in cc
     never (inr (inr (inl pages))) = let e = pages.device in omega arith
-    never (inr (inr (inr room))) = few room.entries (which-log room.which room.log stood (sym room.counts ∙ stand-counts)) room.reads room.many
+    never (inr (inr (inr (inr older)))) = older.older (form-log older.which older.log stood (sym older.counts ∙ stand-counts))
+    never (inr (inr (inr (inl room)))) = few room.entries (which-log room.which room.log stood (sym room.counts ∙ stand-counts)) room.reads room.many
       where
         few : (entries : List (List ℕ)) → room.which ≡ LogA → entries_in (stand (device_of 0 room.which)) ≡ Some entries → 1024 < length entries → ⊥
         few entries a reads many =
@@ -265,7 +269,8 @@ full-of-closed = at-first closed never
     never : NextFills (full_run closed).after.devices one_part from_nothing Fallen None 1 → ⊥
     never (inl f) = first f.fills
     never (inr (inr (inl pages))) = let e = pages.device in omega arith
-    never (inr (inr (inr room))) = let both : Counts room.which room.log ≡ BothBlank = sym room.counts ∙ closed-blank in cc
+    never (inr (inr (inr (inr older)))) = let both : Counts older.which older.log ≡ BothBlank = sym older.counts ∙ closed-blank in cc
+    never (inr (inr (inr (inl room)))) = let both : Counts room.which room.log ≡ BothBlank = sym room.counts ∙ closed-blank in cc
     never (inr (inl f)) = let both : Counts f.which f.log ≡ BothBlank = sym f.counts ∙ closed-blank in cc
 
 -- THE NUMBERS OF STATUS 10 are those of each image: here its boot is one more than the devices have
@@ -363,7 +368,7 @@ in-flight-untold = of-script untold_run refl (λ x. by (x.goes refl))
     ok h = cc
 
     started : (k : Kept) → OpenAs one_part blank k → k.decisions ≡ 0
-    started k o = sym (ap (λ f. (kept_in f).decisions) (ok (sym (nothing-stands o.answers.read) ∙ o.answers.is.0)) ∙ ap (λ x. x.decisions) o.keeps)
+    started k o = sym (ap (λ f. (kept_in f).decisions) (ok (sym (nothing-stands o.answers.read) ∙ o.answers.is)) ∙ ap (λ x. x.decisions) o.keeps)
 
     left : (t : Trace) (k : Kept) → k.decisions ≡ 1 → (kept t).decisions ≡ 0 → IsLeftBehind ⊥ t k → ⊥
     left t k one none b = by b.is
@@ -495,7 +500,7 @@ statements-in-opening = of-script undrained_run refl (λ x. by (x.goes refl))
     ok h = cc
 
     started : (k : Kept) → OpenAs one_part blank k → k.conts ≡ []
-    started k o = sym (ap (λ f. (kept_in f).conts) (ok (sym (nothing-stands o.answers.read) ∙ o.answers.is.0)) ∙ ap (λ x. x.conts) o.keeps)
+    started k o = sym (ap (λ f. (kept_in f).conts) (ok (sym (nothing-stands o.answers.read) ∙ o.answers.is)) ∙ ap (λ x. x.conts) o.keeps)
 
     by : FindsNothing undrained_run (Script one_part false false) ⊎ RunsOver undrained_run (Script one_part false false) → ⊥
     by (inl f) = let both : undrained_story ≡ [] = f.story in cc

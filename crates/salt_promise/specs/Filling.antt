@@ -30,7 +30,7 @@ use Rattle.salt_values.specs.declared.change.Change.{Change}
 use Rattle.salt_values.specs.declared.cont.Cont.{Cont}
 use Rattle.salt_values.specs.declared.id.Id.{Id}
 use Rattle.salt_place.specs.declared.placement.Shape.{Shape}
-use Rattle.std.specs.Prelude.{List, Option, Some, [], false, length, not, ℕ, ◌+◌, ◌<◌, ◌≡◌, ◌⊎◌}
+use Rattle.std.specs.Prelude.{List, Option, Some, [], false, length, not, ℕ, ◌+◌, ◌<◌, ◌≡◌, ◌≢◌, ◌⊎◌}
 
 -- WRITES THAT WOULD PASS A LIMIT
 
@@ -100,7 +100,11 @@ pub record SnapshotFills (d : View) (which : WhichLog) (log : CoordinatorLog) (d
 abbrev pub CheckpointFills : View → (p : ℕ) → (dev : ℕ) → Type 0
 CheckpointFills d p dev = (dev ≡ pages_device p) ⊎ (IsPartitionLog p dev × ((pages : ℕ) × HoldsPages pages (d.bytes (pages_device p)) × (d.limit dev < 29 + pages)))
 
--- all logs begin anew, those of each partition and then the coordinator's, where that has more than 1,024 entries, its header among them
+-- the next header of one of these, or of the coordinator, where all logs begin anew
+abbrev pub NewLogsFill : View → Shape → WhichLog → CoordinatorLog → (dev : ℕ) → Type 0
+NewLogsFill d shape which log dev = SnapshotFills d which log dev ⊎ ((p : ℕ) × (p < shape.parts) × CheckpointFills d p dev)
+
+-- which they do where the coordinator's has more than 1,024 entries, its header among them
 pub record RenewalFills (d : View) (shape : Shape) (dev : ℕ) : Type 0 where
   pub which : WhichLog
   pub log : CoordinatorLog
@@ -108,7 +112,15 @@ pub record RenewalFills (d : View) (shape : Shape) (dev : ℕ) : Type 0 where
   pub entries : List (List ℕ)
   pub reads : entries_in (d.bytes (device_of 0 which)) ≡ Some entries
   pub many : 1024 < length entries
-  pub fills : SnapshotFills d which log dev ⊎ ((p : ℕ) × (p < shape.parts) × CheckpointFills d p dev)
+  pub fills : NewLogsFill d shape which log dev
+
+-- and, in an opening, where it is of an older format
+pub record MigrationFills (d : View) (shape : Shape) (dev : ℕ) : Type 0 where
+  pub which : WhichLog
+  pub log : CoordinatorLog
+  pub counts : coordinator_pair (logs_of d.bytes) ≡ Counts which log
+  pub older : log.header.format ≢ 3
+  pub fills : NewLogsFill d shape which log dev
 
 -- or those of a partition that a unit changes
 abbrev pub ShareRoomFills : View → Shape → List Change → (dev : ℕ) → Type 0
@@ -118,7 +130,7 @@ ShareRoomFills d shape changes dev = (p : ℕ) × (p < shape.parts) × (is_empty
 
 -- of a run that is down an opening; else the decision that comes next
 abbrev pub NextFills : View → Shape → Trace → Phase → Option Event → (dev : ℕ) → Type 0
-NextFills d shape trace Fallen e dev = FirstFills d shape dev ⊎ (EntryFills d (λ log. Boots (log.told.boot + 1)) dev ⊎ (IsOfPages shape dev ⊎ RenewalFills d shape dev))
+NextFills d shape trace Fallen e dev = FirstFills d shape dev ⊎ (EntryFills d (λ log. Boots (log.told.boot + 1)) dev ⊎ (IsOfPages shape dev ⊎ (RenewalFills d shape dev ⊎ MigrationFills d shape dev)))
 NextFills d shape trace phase (Some (Defined n text)) dev = EntryFills d (λ log. Defines (record { number = log.told.decisions + 1; text = text })) dev ⊎ RenewalFills d shape dev
 NextFills d shape trace phase (Some (Ended u (Committed n))) dev =
     ShareFills d shape u (changes_of u trace) dev
