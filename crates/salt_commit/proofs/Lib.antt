@@ -6,8 +6,8 @@ mod Fields
 pub mod Filled
 mod Entered
 mod Firsts
-pub mod Formats
 mod Making
+mod Migrated
 pub mod Opened
 pub mod Opening
 mod Ordered

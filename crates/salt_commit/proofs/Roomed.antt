@@ -27,7 +27,7 @@ use Rattle.salt_paged.specs.Checkpoints.{header_end}
 use Rattle.salt_paged.specs.Partitions.{page_count}
 use Rattle.salt_paged.specs.declared.partition.Partition.{Partition}
 use Rattle.salt_parts.specs.Openings.{IsPagesOf}
-use Rattle.salt_promise.specs.Filling.{CheckpointFills, RenewalFills, SnapshotFills}
+use Rattle.salt_promise.specs.Filling.{CheckpointFills, NewLogsFill, RenewalFills}
 use Rattle.salt_room.specs.Making as room
 use Rattle.salt_room.specs.Making.{CheckpointPassesLimit, FullAtRoom, RenewalPassesLimit, RoomPassesLimit, SnapshotPassesLimit}
 use Rattle.salt_room.specs.Renewals.{IsOfStore, IsStoreOf, StandAsStore}
@@ -66,7 +66,7 @@ store_of d x which c v is = record { decisions = is.decisions; are = record { si
 pub as_store : (d : View) (x : Store) → StandsOnDevices d x → StandAsStore d x.decisions x.parts
 as_store d x s = record { r = reading; which = s.which; c = s.c; v = s.v; is = store_of d x s.which s.c s.v s.is }
 
-from_store : (e : View) (y : Store) (which : WhichLog) (c : Coordinator Definition) (v : ℕ → PartView) → IsStoreOf reading e y.decisions y.parts which c v → IsStore reading e y which c v
+pub from_store : (e : View) (y : Store) (which : WhichLog) (c : Coordinator Definition) (v : ℕ → PartView) → IsStoreOf reading e y.decisions y.parts which c v → IsStore reading e y which c v
 from_store e y which c v is = record {
   decisions = is.decisions;
   size = is.are.size;
@@ -76,7 +76,7 @@ from_store e y which c v is = record {
       record { coordinator = s.coordinator.is; part = λ p low. (s.part p low).sound; rows = λ p low. rows_sound reading c p (v p).log (e.bytes (pages_device p)) (v p).rows (s.part p low).rows };
 }
 
-store_device : (n k dev : ℕ) → n ≡ k → IsOfStore n dev → IsStoreDevice k dev
+pub store_device : (n k dev : ℕ) → n ≡ k → IsOfStore n dev → IsStoreDevice k dev
 store_device n k dev same (inl co) = inl (inl co)
 store_device n k dev same (inr h) = by h.is
   where
@@ -96,15 +96,23 @@ checkpoint_fills e parts dev told long = by long.passes
     by (inr h) = inr (h.0, (page_count long.part, h.2 told, h.1))
 
 -- all logs
+pub new_logs_fill : (e : View) (x : Store) (dev : ℕ) → length x.parts ≡ (shape_of_store x).parts → IsTrue e.told → (which : WhichLog) (log : CoordinatorLog)
+    → SnapshotPassesLimit e x.decisions which log dev ⊎ CheckpointPassesLimit e x.parts dev → NewLogsFill e (shape_of_store x) which log dev
+new_logs_fill e x dev size told which log (inl s) = inl (record { conts = conts_in x.decisions; open_conts = s.open_conts; device = s.device; over = s.over })
+new_logs_fill e x dev size told which log (inr long) = inr (long.p, omega (arith, slice_get_within x.parts long.p long.part long.at, size), checkpoint_fills e x.parts dev told long)
+
 renewal_fills : (e : View) (x : Store) (dev : ℕ) → length x.parts ≡ (shape_of_store x).parts → IsTrue e.told → RenewalPassesLimit e x.decisions x.parts dev → RenewalFills e (shape_of_store x) dev
 renewal_fills e x dev size told full =
     let r = full.1 in
-    record { which = r.which; log = r.log; counts = r.counting.counts; entries = r.counting.entries; reads = r.counting.reads; many = omega (arith, full.0, r.counting.count); fills = by r.passes }
-  where
-    by : SnapshotPassesLimit e x.decisions full.1.which full.1.log dev ⊎ CheckpointPassesLimit e x.parts dev
-        → SnapshotFills e full.1.which full.1.log dev ⊎ ((p : ℕ) × (p < (shape_of_store x).parts) × CheckpointFills e p dev)
-    by (inl s) = inl (record { conts = conts_in x.decisions; open_conts = s.open_conts; device = s.device; over = s.over })
-    by (inr long) = inr (long.p, omega (arith, slice_get_within x.parts long.p long.part long.at, size), checkpoint_fills e x.parts dev told long)
+    record {
+      which = r.which;
+      log = r.log;
+      counts = r.counting.counts;
+      entries = r.counting.entries;
+      reads = r.counting.reads;
+      many = omega (arith, full.0, r.counting.count);
+      fills = new_logs_fill e x dev size told r.which r.log r.passes;
+    }
 
 full_where : (e : View) (x : Store) (shares : List (List Change)) (answer : Option DiskErr) → length x.parts ≡ (shape_of_store x).parts → IsTrue e.told → FullAtRoom e x.decisions x.parts shares answer
     → FullWhere (λ dev. RenewalFills e (shape_of_store x) dev ⊎ ShareRoomFills e (shape_of_store x).parts shares dev) answer

@@ -3,6 +3,7 @@ pub mod Stores
 pub mod Shares
 pub mod Commits
 pub mod Rooms
+pub mod Migrations
 pub mod Full
 pub mod Openings
 pub mod Reads

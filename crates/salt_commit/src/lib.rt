@@ -9,6 +9,7 @@ mod each;
 mod entries;
 mod error;
 mod load;
+mod migration;
 mod named;
 mod nodes;
 mod open;
