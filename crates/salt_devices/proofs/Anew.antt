@@ -1,6 +1,6 @@
 -- Devices are opened anew: what was left there is found, or is left as it was.
+use Rattle.law_generations.specs.AsIf.{in_format}
 use Rattle.salt_bytes.specs.Generations.{BothBlank}
-use Rattle.salt_commit.specs.Openings.{LeavesStanding, StillStands}
 use Rattle.salt_commit.specs.Stores.{last_boot, last_decision, reading}
 use Rattle.salt_commit.specs.declared.store.Store.{Store}
 use Rattle.salt_stands.specs.Fitting.{kept_in}
@@ -8,10 +8,10 @@ use Rattle.salt_devices.proofs.Answered.{like_stands, opened_stands}
 use Rattle.salt_devices.proofs.Known.{stands_fails}
 use Rattle.salt_devices.proofs.Opening.{like_unwritten}
 use Rattle.salt_devices.proofs.Remembered.{numbers_found}
-use Rattle.salt_devices.proofs.Stores.{is_begun}
+use Rattle.salt_devices.proofs.Stores.{IsJudged, is_begun}
 use Rattle.salt_devices.specs.Leaving.{IsEither, LeavesEither, LeavesAs, StandsFor}
 use Rattle.salt_devices.specs.Holding.{IsHeld}
-use Rattle.salt_devices.specs.Opened.{OpensAs}
+use Rattle.salt_devices.specs.Opened.{LeavesKept, OpensAs, StandsYet}
 use Rattle.salt_devices.specs.Refusing.{RefusedAs}
 use Rattle.salt_devices.specs.Remembering.{AreNumbersOf, Follow, MayTell, Remembers, numbers_of}
 use Rattle.salt_devices.specs.Standing.{RestsAs}
@@ -50,8 +50,8 @@ still_left d e shape n answer room keeps a b h told image left =
     h (sym keeps.shape.told ∙ told) image
     (λ dev low. room.settled dev low (image dev) (keeps.images dev (λ none. none) (image dev) (left dev (omega (arith, low, keeps.shape.count)))))
 
--- where pages were written, each image stands for what was found
-module _ (d e : View) (shape : Shape) (a b : Kept) (s : StillStands d e shape) (told : IsTrue d.told) (h : LeavesAs true d shape a b) where
+-- where something was written, each image stands for what was found
+module _ (d e : View) (shape : Shape) (a b : Kept) (s : StandsYet d e shape) (told : IsTrue d.told) (h : LeavesAs true d shape a b) where
   stood : stands_on reading d.bytes shape ≡ Ok s.found
   stood = opened_stands d.bytes shape s.found s.opens
 
@@ -67,21 +67,32 @@ module _ (d e : View) (shape : Shape) (a b : Kept) (s : StillStands d e shape) (
 
   written_left : LeavesEither e shape a b
   written_left now image left = record {
-    begun = is_begun shape image (λ asked. record { found = s.found; has_shape = has_shape; is = s.images asked image left });
+    begun = is_begun shape image (λ asked. judged asked (s.images asked image left));
     stands = by (left_bytes d shape a b h told).stands;
   }
     where
+      judged : (asked : Shape) → (stands_on reading image asked ≡ Ok s.found) ⊎ (stands_on reading image asked ≡ Ok (in_format 3 s.found)) → IsJudged shape image asked
+      judged asked (inl is) = record { found = s.found; has_shape = has_shape; is = is }
+      judged asked (inr is) = record { found = in_format 3 s.found; has_shape = has_shape; is = is }
+
       one : (k : Kept) → StandsFor shape d.bytes k → StandsFor shape image k
-      one k t = record { found = t.found; is = s.images shape image left ∙ ap Ok (one_found k t); has_shape = t.has_shape; newest = t.newest; keeps = t.keeps }
+      one k t = in_some (s.images shape image left)
+        where
+          same : kept_in s.found ≡ k
+          same = ap kept_in (one_found k t) ∙ t.keeps
+
+          in_some : (stands_on reading image shape ≡ Ok s.found) ⊎ (stands_on reading image shape ≡ Ok (in_format 3 s.found)) → StandsFor shape image k
+          in_some (inl is) = record { found = s.found; is = is; has_shape = has_shape; keeps = same }
+          in_some (inr is) = record { found = in_format 3 s.found; is = is; has_shape = has_shape; keeps = same }
 
       by : StandsFor shape d.bytes a ⊎ StandsFor shape d.bytes b → StandsFor shape image a ⊎ StandsFor shape image b
       by (inl t) = inl (one a t)
       by (inr t) = inr (one b t)
 
-pub opening_left : (d e : View) (shape : Shape) (n : ℕ) (answer : Option DiskErr) → HasRoom d n → IsTrue d.told → (¬ (coordinator_pair (logs_of d.bytes) ≡ BothBlank) → LeavesStanding d e shape answer) → (a b : Kept) → LeavesAs true d shape a b → LeavesEither e shape a b
+pub opening_left : (d e : View) (shape : Shape) (n : ℕ) (answer : Option DiskErr) → HasRoom d n → IsTrue d.told → (¬ (coordinator_pair (logs_of d.bytes) ≡ BothBlank) → LeavesKept d e shape answer) → (a b : Kept) → LeavesAs true d shape a b → LeavesEither e shape a b
 opening_left d e shape n answer room told leaves a b h = by (leaves (left_bytes d shape a b h told).begun)
   where
-    by : LeavesStanding d e shape answer → LeavesEither e shape a b
+    by : LeavesKept d e shape answer → LeavesEither e shape a b
     by (inl keeps) = still_left d e shape n answer room keeps a b h
     by (inr stands) = written_left d e shape a b stands told h
 

@@ -1,12 +1,12 @@
 -- What an opening answers of bytes.
+use Rattle.law_generations.specs.AsIf.{in_format}
 use Rattle.salt_bytes.specs.Generations.{BothBlank, Counts, Faulty, Pair, WhichLog}
 use Rattle.salt_bytes.specs.Log.{entries_in}
-use Rattle.salt_commit.proofs.Opening.{of_log, same_shape_is}
+use Rattle.salt_commit.proofs.Opening.{same_shape_is}
 use Rattle.salt_commit.specs.Stores.{reading}
 use Rattle.salt_model.specs.Words.{and_then}
 use Rattle.salt_stands.specs.Fitting.{kept_in}
 use Rattle.salt_devices.specs.Leaving.{StandsFor, StandsForSomething, StandsStill}
-use Rattle.salt_promise.specs.Standing.{IsOlder}
 use Rattle.salt_devices.specs.Refusing.{RefusedAs}
 use Rattle.salt_model.specs.Kept.{Definition}
 use Rattle.salt_model.specs.Tables.{Tables}
@@ -126,25 +126,6 @@ opened_stands bytes asked found e = by (opened_as bytes asked found e)
         ap (λ p. and_then (judge_coordinator reading p) (with_parts reading (logs_of bytes) bytes asked)) k.counts
         ∙ ap (λ c. and_then (ok_or (option_map Some c) (device_of 0 k.which)) (with_parts reading (logs_of bytes) bytes asked)) k.reads
         ∙ ap (λ r. and_then r (λ parts. Ok (found_with k.c parts))) k.stand ∙ ap Ok k.is
-
--- its format is that of the log
-pub counted_log : (bytes : ℕ → List ℕ) (found : opening.Found Definition) (k : IsCounted bytes found) → found.format ≡ k.log.header.format
-counted_log bytes found k =
-    ap (λ (f : opening.Found Definition). f.format) (sym k.is) ∙ ap (λ (l : CoordinatorLog). l.header.format) (of_log k.log k.c k.reads).log_is
-
--- what stands in the newest format is not older
-pub not_older : (bytes : ℕ → List ℕ) (asked : Shape) (found : opening.Found Definition) → stands_on reading bytes asked ≡ Ok found → found.format ≡ 3 → (dev : ℕ) → IsOlder bytes dev → ⊥
-not_older bytes asked found is newest dev o = by (judged_as bytes asked found is)
-  where
-    by : IsNothing bytes asked found ⊎ IsCounted bytes found → ⊥
-    by (inl none) = let both : BothBlank ≡ Counts o.which o.log = sym none.blank ∙ o.counts in absurd (cc both)
-    by (inr k) =
-        let both : Counts k.which k.log ≡ Counts o.which o.log = sym k.counts ∙ o.counts in
-        let same : k.log ≡ o.log = cc both in
-        let format : 3 ≡ k.log.header.format = sym newest ∙ counted_log bytes found k in
-        let older : o.log.header.format < 3 = o.older in
-        let at : k.log.header.format ≡ o.log.header.format = ap (λ (l : CoordinatorLog). l.header.format) same in
-        omega (arith, format, older, at)
 
 -- what is opened is in the shape that is asked for, and its numbers are not spent
 pub opened_shape : (bytes : ℕ → List ℕ) (asked : Shape) (found : opening.Found Definition) → opening_of reading bytes asked ≡ opening.Stands found → found.shape ≡ asked
@@ -306,12 +287,8 @@ module _ (shape : Shape) (bytes image : ℕ → List ℕ) (alike : AreAlike shap
           ∙ ap (λ c. and_then (ok_or (option_map Some c) (device_of 0 k.which)) (with_parts reading (logs_of bytes) bytes shape)) k.reads
           ∙ ap (λ r. and_then r (λ parts. Ok (found_with k.c parts))) (sym (same_parts k.c has) ∙ k.stand) ∙ ap Ok k.is
 
-  same_older : (dev : ℕ) → IsOlder image dev → IsOlder bytes dev
-  same_older dev o = record { which = o.which; log = o.log; counts = sym same_pair ∙ o.counts; older = o.older; device = o.device }
-
   same_refusal : (e : OpenErr) → RefusedAs shape image e → RefusedAs shape bytes e
-  same_refusal (NotSalt dev) (inl is) = inl (sym same_opening ∙ is)
-  same_refusal (NotSalt dev) (inr older) = inr (same_older dev older)
+  same_refusal (NotSalt dev) is = sym same_opening ∙ is
   same_refusal (OtherShape kept asked) is = sym same_opening ∙ is
   same_refusal (NumbersSpent boot decisions) is = sym same_opening ∙ is
   same_refusal open_err.Failed is = is
@@ -322,7 +299,7 @@ module _ (shape : Shape) (bytes image : ℕ → List ℕ) (alike : AreAlike shap
   pub same_finds : FindsNoMore (RefusedAs shape bytes) (StandsFor shape bytes) (RefusedAs shape image) (StandsFor shape image)
   same_finds = record {
     refuses_no_more = same_refusal;
-    finds_no_more = λ k s. record { found = s.found; is = same_judged s.found s.has_shape s.is; has_shape = s.has_shape; newest = s.newest; keeps = s.keeps };
+    finds_no_more = λ k s. record { found = s.found; is = same_judged s.found s.has_shape s.is; has_shape = s.has_shape; keeps = s.keeps };
   }
 
 -- BLANK BYTES, and an image of a new database
@@ -336,8 +313,7 @@ module _ (shape : Shape) (bytes image : ℕ → List ℕ) (made : IsMadeNew shap
   opens_new = new_opens image shape made.new
 
   no_refusal : (e : OpenErr) → RefusedAs shape image e → RefusedAs shape bytes e
-  no_refusal (NotSalt dev) (inl is) = absurd (cc (opens_new, is))
-  no_refusal (NotSalt dev) (inr older) = absurd (not_older image shape (nothing_found shape) made.new refl dev older)
+  no_refusal (NotSalt dev) is = absurd (cc (opens_new, is))
   no_refusal (OtherShape kept asked) is = absurd (cc (opens_new, is))
   no_refusal (NumbersSpent boot decisions) is = absurd (cc (opens_new, is))
   no_refusal open_err.Failed is = is
@@ -354,26 +330,32 @@ module _ (shape : Shape) (bytes image : ℕ → List ℕ) (made : IsMadeNew shap
     finds_no_more = λ k s.
         let both : Ok (nothing_found shape) ≡ Ok s.found = sym made.new ∙ s.is in
         let same : nothing_found shape ≡ s.found = cc both in
-        record { found = nothing_found shape; is = judged_blank; has_shape = refl; newest = refl; keeps = ap kept_in same ∙ s.keeps };
+        record { found = nothing_found shape; is = judged_blank; has_shape = refl; keeps = ap kept_in same ∙ s.keeps };
   }
 
   new_stands_for : StandsStill shape bytes image
   new_stands_for k s =
       let both : Ok (nothing_found shape) ≡ Ok s.found = sym judged_blank ∙ s.is in
       let same : nothing_found shape ≡ s.found = cc both in
-      record { found = nothing_found shape; is = made.new; has_shape = refl; newest = refl; keeps = ap kept_in same ∙ s.keeps }
+      record { found = nothing_found shape; is = made.new; has_shape = refl; keeps = ap kept_in same ∙ s.keeps }
 
--- AN IMAGE OF A STORE that was opened, in the newest format
+-- AN IMAGE OF A STORE that was opened, in some format
 
 pub record IsStillThere (shape : Shape) (bytes image : ℕ → List ℕ) : Type 0 where
   pub found : opening.Found Definition
   pub opens : opening_of reading bytes shape ≡ opening.Stands found
-  pub newest : found.format ≡ 3
-  pub stands : stands_on reading image shape ≡ Ok found
+  pub format : ℕ
+  pub stands : stands_on reading image shape ≡ Ok (in_format format found)
 
 module _ (shape : Shape) (bytes image : ℕ → List ℕ) (there : IsStillThere shape bytes image) where
+  abbrev now : opening.Found Definition
+  now = in_format there.format there.found
+
   stood : stands_on reading bytes shape ≡ Ok there.found
   stood = opened_stands bytes shape there.found there.opens
+
+  has_shape : there.found.shape ≡ shape
+  has_shape = opened_shape bytes shape there.found there.opens
 
   not_spent : AreSpent bytes shape there.found → ⊥
   not_spent sp = let both : opening.Stands there.found ≡ opening.NumbersSpent there.found.kept.boot there.found.kept.decisions = sym there.opens ∙ sp.opens in cc both
@@ -389,16 +371,15 @@ module _ (shape : Shape) (bytes image : ℕ → List ℕ) (there : IsStillThere 
           cc zero_spent
       by (inr o) = not_spent (spent_there bytes shape there.found o.counted o.same spent)
 
-  opens_still : opening_of reading image shape ≡ opening.Stands there.found
-  opens_still = by (judged_opens image shape there.found there.stands (opened_shape bytes shape there.found there.opens))
+  opens_still : opening_of reading image shape ≡ opening.Stands now
+  opens_still = by (judged_opens image shape now there.stands has_shape)
     where
-      by : (opening_of reading image shape ≡ opening.Stands there.found) ⊎ AreSpent image shape there.found → opening_of reading image shape ≡ opening.Stands there.found
+      by : (opening_of reading image shape ≡ opening.Stands now) ⊎ AreSpent image shape now → opening_of reading image shape ≡ opening.Stands now
       by (inl is) = is
       by (inr sp) = absurd (unspent sp.spent)
 
   still_refused : (e : OpenErr) → RefusedAs shape image e → RefusedAs shape bytes e
-  still_refused (NotSalt dev) (inl is) = absurd (cc (opens_still, is))
-  still_refused (NotSalt dev) (inr older) = absurd (not_older image shape there.found there.stands there.newest dev older)
+  still_refused (NotSalt dev) is = absurd (cc (opens_still, is))
   still_refused (OtherShape kept asked) is = absurd (cc (opens_still, is))
   still_refused (NumbersSpent boot decisions) is = absurd (cc (opens_still, is))
   still_refused open_err.Failed is = is
@@ -410,20 +391,20 @@ module _ (shape : Shape) (bytes image : ℕ → List ℕ) (there : IsStillThere 
   still_finds = record {
     refuses_no_more = still_refused;
     finds_no_more = λ k s.
-        let both : Ok there.found ≡ Ok s.found = sym there.stands ∙ s.is in
-        let same : there.found ≡ s.found = cc both in
-        record { found = s.found; is = stood ∙ ap Ok same; has_shape = s.has_shape; newest = s.newest; keeps = s.keeps };
+        let both : Ok now ≡ Ok s.found = sym there.stands ∙ s.is in
+        let same : now ≡ s.found = cc both in
+        record { found = there.found; is = stood; has_shape = has_shape; keeps = ap kept_in same ∙ s.keeps };
   }
 
   still_stands : StandsStill shape bytes image
   still_stands k s =
       let both : Ok there.found ≡ Ok s.found = sym stood ∙ s.is in
       let same : there.found ≡ s.found = cc both in
-      record { found = s.found; is = there.stands ∙ ap Ok same; has_shape = s.has_shape; newest = s.newest; keeps = s.keeps }
+      record { found = now; is = there.stands; has_shape = has_shape; keeps = ap kept_in same ∙ s.keeps }
 
   -- and it stands for something
   pub still_something : StandsForSomething shape image
-  still_something = (kept_in there.found, record { found = there.found; is = there.stands; has_shape = opened_shape bytes shape there.found there.opens; newest = there.newest; keeps = refl })
+  still_something = (kept_in there.found, record { found = now; is = there.stands; has_shape = has_shape; keeps = refl })
 
 -- ONE OF THE THREE, as an opening that failed leaves
 

@@ -125,7 +125,7 @@ kept_with c conts t = record { boot = c.log.told.boot; decisions = c.log.told.de
 module _ (d e : View) (shape : Shape) (x y : Store) (k : Kept) (h : IsHeld d shape x k) (u : Id) (cs : List Change) (m : Move) (mv : List ℕ) (conts : List Cont)
     (may : MayDecide k u cs m conts) (fresh : IsNewName h.c h.v u) (parts : IsParts shape.parts) (told : Every (λ (c : Change). IsValue c.key) cs) where
   pub unit_leaves : StandForEither reading e (found_of h.c h.v) (found_after h.c h.v cs (next_decision h.c u cs mv) conts) → LeavesEither e shape k (decided k cs conts)
-  unit_leaves either = leaves_either d e shape x k h (found_after h.c h.v cs (next_decision h.c u cs mv) conts) (decided k cs conts) h.newest.has_shape h.newest.format (ap (λ z. decided z cs conts) h.keeps) either
+  unit_leaves either = leaves_either d e shape x k h (found_after h.c h.v cs (next_decision h.c u cs mv) conts) (decided k cs conts) h.newest.has_shape (ap (λ z. decided z cs conts) h.keeps) either
 
   module _ (g : Generation h.c h.v) where
     abbrev c : Coordinator Definition

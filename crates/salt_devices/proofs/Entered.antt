@@ -51,22 +51,22 @@ definition_counted d e x y which c v was g text def is = is.decisions.holds.boot
 -- WHERE THEY TELL
 module _ (d e : View) (shape : Shape) (x : Store) (k : Kept) (h : IsHeld d shape x k) where
   -- each image stands for what was found, or for what is found now
-  pub leaves_either : (after : Found Definition) (b : Kept) → after.shape ≡ shape → after.format ≡ 3 → kept_in after ≡ b → StandForEither reading e (found_of h.c h.v) after → LeavesEither e shape k b
-  leaves_either after b has_shape newest keeps either told image left = record { begun = is_begun shape image (λ asked. one asked (either asked image left)); stands = by (either shape image left) }
+  pub leaves_either : (after : Found Definition) (b : Kept) → after.shape ≡ shape → kept_in after ≡ b → StandForEither reading e (found_of h.c h.v) after → LeavesEither e shape k b
+  leaves_either after b has_shape keeps either told image left = record { begun = is_begun shape image (λ asked. one asked (either asked image left)); stands = by (either shape image left) }
     where
       one : (asked : Shape) → (stands_on reading image asked ≡ Ok (found_of h.c h.v)) ⊎ (stands_on reading image asked ≡ Ok after) → IsJudged shape image asked
       one asked (inl is) = record { found = found_of h.c h.v; has_shape = h.newest.has_shape; is = is }
       one asked (inr is) = record { found = after; has_shape = has_shape; is = is }
 
       by : (stands_on reading image shape ≡ Ok (found_of h.c h.v)) ⊎ (stands_on reading image shape ≡ Ok after) → StandsFor shape image k ⊎ StandsFor shape image b
-      by (inl is) = inl (record { found = found_of h.c h.v; is = is; has_shape = h.newest.has_shape; newest = h.newest.format; keeps = h.keeps })
-      by (inr is) = inr (record { found = after; is = is; has_shape = has_shape; newest = newest; keeps = keeps })
+      by (inl is) = inl (record { found = found_of h.c h.v; is = is; has_shape = h.newest.has_shape; keeps = h.keeps })
+      by (inr is) = inr (record { found = after; is = is; has_shape = has_shape; keeps = keeps })
 
   pub boot_leaves : StandForEither reading e (found_of h.c h.v) (found_of (with_boot h.c) h.v) → LeavesEither e shape k (booted k)
-  boot_leaves either = leaves_either (found_of (with_boot h.c) h.v) (booted k) h.newest.has_shape h.newest.format (ap booted h.keeps) either
+  boot_leaves either = leaves_either (found_of (with_boot h.c) h.v) (booted k) h.newest.has_shape (ap booted h.keeps) either
 
   pub definition_leaves : (text : List ℕ) (def : Definition) → StandForEither reading e (found_of h.c h.v) (found_of (with_definition h.c (next_text h.c text) def) h.v) → LeavesEither e shape k (defined k def)
-  definition_leaves text def either = leaves_either (found_of (with_definition h.c (next_text h.c text) def) h.v) (defined k def) h.newest.has_shape h.newest.format (ap (λ z. defined z def) h.keeps) either
+  definition_leaves text def either = leaves_either (found_of (with_definition h.c (next_text h.c text) def) h.v) (defined k def) h.newest.has_shape (ap (λ z. defined z def) h.keeps) either
 
   -- AFTER OK
   module _ (y : Store) (told : IsTrue e.told) (g : Generation h.c h.v) where

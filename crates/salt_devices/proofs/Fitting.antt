@@ -1,5 +1,4 @@
--- A store that was opened, with what is recovered of its log, stands in the newest formats; and what is found may be kept.
-use Rattle.salt_bytes.specs.Formats.{has_nulls}
+-- A store that was opened, with what is recovered of its log, stands in its format; and what is found may be kept.
 use Rattle.law_definitions.specs.Texts.{IsTextOf, definition_in}
 use Rattle.salt_commit.proofs.Opening.{IsOfLog, of_log}
 use Rattle.salt_commit.specs.Openings.{OpensStore}
@@ -11,8 +10,7 @@ use Rattle.salt_paged.specs.Partitions.{ArePartitions}
 use Rattle.salt_stands.specs.Fitting.{kept_in}
 use Rattle.salt_devices.proofs.Answered.{opened_stands}
 use Rattle.salt_devices.proofs.Sound.{sound_kept}
-use Rattle.salt_devices.specs.Holding.{IsInShape, IsStanding}
-use Rattle.salt_devices.specs.Opened.{IsNewest, IsUnread, OpensAs}
+use Rattle.salt_devices.specs.Opened.{IsRead, OpensIn}
 use Rattle.salt_disk.specs.Disks.{SameShape, View}
 use Rattle.salt_found.specs.Recovered.{IsRecovered}
 use Rattle.salt_found.specs.declared.recovery.Recovered.{Recovered}
@@ -25,15 +23,13 @@ use Rattle.salt_stands.specs.Commits.{found_of, partition_count}
 use Rattle.salt_stands.specs.Coordinator.{Coordinator, coordinator_of, decided_for}
 use Rattle.salt_stands.specs.CoordinatorLog.{CoordinatorLog}
 use Rattle.salt_stands.specs.Partition.{is_format_under}
-use Rattle.salt_stands.specs.Stands as opening
-use Rattle.salt_stands.specs.Stands.{Stands, if_ok, opening_of, stands_on}
+use Rattle.salt_stands.specs.Stands.{Stands, if_ok, stands_on}
 use Rattle.salt_storage.specs.Storing.{IsFound, IsSoundKept}
 use Rattle.salt_storage.specs.declared.found.Found.{Found}
 use Rattle.law_types.proofs.Found.{IsFoundTyped, coordinator-typed, found-typed}
 use Rattle.law_types.specs.Typed.{IsTyped, has_key}
 use Rattle.salt_place.specs.declared.placement.Shape.{Shape}
-use Rattle.std.proofs.Common.{Bool, IsTrue, List, None, Ok, Some, ap, arith, false, inl, inr, refl, subst, sym, true, ℕ, ◌<◌, ◌≡◌, ◌∙◌}
-use Rattle.std.proofs.lemmas.Bool.Decides.{Decides-eqb}
+use Rattle.std.proofs.Common.{Bool, IsTrue, List, None, Ok, Some, ap, arith, false, refl, subst, sym, true, ℕ, ◌<◌, ◌≡◌, ◌∙◌}
 
 abbrev pub Texts : Type 0
 Texts = (text : List ℕ) (d : Definition) → definition_in text ≡ Some d → IsTextOf d text
@@ -41,17 +37,13 @@ Texts = (text : List ℕ) (d : Definition) → definition_in text ≡ Some d →
 abbrev pub Keyed : Type 0
 Keyed = (text : List ℕ) (d : TableDef) → SpellsTable text d → has_key d.columns ≡ true
 
--- under a log of the newest format a partition spells NULL
-nulls_under : (format : ℕ) → is_format_under 3 format ≡ true → has_nulls format ≡ true
-nulls_under format under = ap has_nulls ((Decides-eqb format 2).0 under)
-
 module _ (texts : Texts) (keyed : Keyed) where
   keys : (text : List ℕ) (d : TableDef) → definition_in text ≡ Some (OfTable d) → has_key d.columns ≡ true
   keys text d e = let is = texts text (OfTable d) e in keyed is.0.text d is.0.spells
 
-  module _ (d e : View) (shape : Shape) (x : Store) (kept : log.Kept) (o : OpensStore d e shape x kept) (same : SameShape d e) (r : Recovered) (newest : IsNewest kept r) where
+  module _ (d e : View) (shape : Shape) (x : Store) (kept : log.Kept) (o : OpensStore d e shape x kept) (same : SameShape d e) (r : Recovered) (read : IsRead kept r) where
     rec : IsRecovered r (coordinator_of reading o.c.log)
-    rec = newest.is o.c.log o.keeps
+    rec = read.is o.c.log o.keeps
 
     own : IsOfLog rec.c o.c.log
     own = of_log o.c.log rec.c rec.stands
@@ -70,21 +62,13 @@ module _ (texts : Texts) (keyed : Keyed) where
       sound = λ told. subst (λ (k : Coordinator Definition). IsSound reading k o.v) (same_coordinator told) (o.is.sound told);
     }
 
-    log_format : o.c.log.header.format ≡ 3
-    log_format = sym o.keeps.format ∙ newest.format
+    has_shape : rec.c.log.header.shape ≡ shape
+    has_shape = ap (λ (l : CoordinatorLog). l.header.shape) own.log_is ∙ o.has_shape
 
-    in_shape : IsInShape shape rec.c o.v
-    in_shape = record {
-      has_shape = ap (λ (l : CoordinatorLog). l.header.shape) own.log_is ∙ o.has_shape;
-      format = ap (λ (l : CoordinatorLog). l.header.format) own.log_is ∙ log_format;
-      nulls = λ p low.
-          let count : partition_count rec.c ≡ partition_count o.c = ap (λ (l : CoordinatorLog). l.header.shape.parts) own.log_is in
-          let below : p < partition_count o.c = omega (arith, low, count) in
-          nulls_under (o.v p).log.header.format (ap (λ f. is_format_under f (o.v p).log.header.format) (sym log_format) ∙ o.under p below);
-    }
-
-    standing : IsStanding e shape x
-    standing = record { which = o.which; c = rec.c; v = o.v; is = stands; newest = in_shape }
+    under : (p : ℕ) → p < partition_count rec.c → is_format_under rec.c.log.header.format (o.v p).log.header.format ≡ true
+    under p low =
+        let count : partition_count rec.c ≡ partition_count o.c = ap (λ (l : CoordinatorLog). l.header.shape.parts) own.log_is in
+        ap (λ (l : CoordinatorLog). is_format_under l.header.format (o.v p).log.header.format) own.log_is ∙ o.under p (omega (arith, low, count))
 
     -- the rows are known where the disks tell
     abbrev with_rows : Kept
@@ -118,18 +102,23 @@ module _ (texts : Texts) (keyed : Keyed) where
         decisions = ap (λ (f : Found). f.decisions) is ∙ decisions_found;
       }
 
-      pub opens_as : OpensAs d e shape x found
-      opens_as = by e.told refl
+      pub opens_in : OpensIn d e shape x found
+      opens_in = by e.told refl
         where
-          by : (b : Bool) → e.told ≡ b → OpensAs d e shape x found
+          by : (b : Bool) → e.told ≡ b → OpensIn d e shape x found
           by true told = record {
+            which = o.which;
+            c = rec.c;
+            v = o.v;
+            is = stands;
+            has_shape = has_shape;
+            under = under;
             kept = with_rows;
-            stands = standing;
             is_found = is_found;
             numbers = record { boot = stands.decisions.holds.boot; decisions = stands.decisions.holds.decisions };
-            sound = sound;
-            held = λ now. record { told = now; which = o.which; c = rec.c; v = o.v; is = stands; newest = in_shape; keeps = refl; kept = sound };
-            stood = λ was. record { found = found_of o.c o.v; is = stood; has_shape = o.has_shape; newest = log_format; keeps = ap (λ (k : Coordinator Definition). kept_in (found_of k o.v)) (same_coordinator told) };
+            sound = sound_kept rec.c own.is with_rows refl refl refl refl texts typed;
+            keeps = λ now. refl;
+            finds = λ was. o.finds was ∙ ap (λ (k : Coordinator Definition). Stands (found_of k o.v)) (same_coordinator told);
           }
             where
               stood : stands_on reading d.bytes shape ≡ Ok (found_of o.c o.v)
@@ -137,24 +126,24 @@ module _ (texts : Texts) (keyed : Keyed) where
 
               typed : IsTyped with_rows
               typed = subst (λ (k : Coordinator Definition). IsTyped (kept_in (found_of k o.v))) (same_coordinator told) (found-typed definition_in keys d.bytes shape (found_of o.c o.v) (ap if_ok stood))
-
-              sound : IsSoundKept with_rows
-              sound = sound_kept rec.c own.is with_rows refl refl refl refl texts typed
           by false mute = record {
+            which = o.which;
+            c = rec.c;
+            v = o.v;
+            is = stands;
+            has_shape = has_shape;
+            under = under;
             kept = without_rows;
-            stands = standing;
             is_found = record { schema = is_found.schema; catalogue = is_found.catalogue; conts = is_found.conts; boot = is_found.boot; decisions = is_found.decisions };
             numbers = record { boot = stands.decisions.holds.boot; decisions = stands.decisions.holds.decisions };
             sound = sound_without;
-            held = λ now. absurd (cc (now, mute));
-            stood = λ was. absurd (cc (same.told ∙ was, mute));
+            keeps = λ now. absurd (cc (now, mute));
+            finds = λ was. absurd (cc (same.told ∙ was, mute));
           }
 
--- where the disks tell, the log of a store that was opened is read
-pub not_unread : (d e : View) (shape : Shape) (x : Store) (kept : log.Kept) (o : OpensStore d e shape x kept) → IsTrue d.told → IsTrue e.told
-    → ((found : opening.Found Definition) → opening_of reading d.bytes shape ≡ Stands found → found.format ≡ 3) → IsUnread o.c.log → ⊥
-not_unread d e shape x kept o was now newest (inl none) =
+-- where the disks tell, the log of a store that was opened stands for something
+pub not_unread : (d e : View) (shape : Shape) (x : Store) (kept : log.Kept) (o : OpensStore d e shape x kept) → IsTrue e.told → coordinator_of reading o.c.log ≡ None → ⊥
+not_unread d e shape x kept o now none =
     let is : coordinator_of reading o.c.log ≡ Some o.c = is_coordinator reading o.c (o.is.sound now).coordinator in
     let both : None ≡ Some o.c = sym none ∙ is in
     absurd (cc both)
-not_unread d e shape x kept o was now newest (inr other) = other (newest (found_of o.c o.v) (o.finds was))

@@ -1,6 +1,6 @@
 -- How an opening may fail where it is known what stands there.
 use Rattle.salt_commit.specs.Stores.{reading}
-use Rattle.salt_devices.proofs.Answered.{AreSpent, judged_opens, not_older}
+use Rattle.salt_devices.proofs.Answered.{AreSpent, judged_opens}
 use Rattle.salt_devices.specs.Leaving.{StandsFor}
 use Rattle.salt_devices.specs.Refusing.{RefusedAs}
 use Rattle.salt_model.specs.Kept.{Kept}
@@ -18,9 +18,8 @@ pub stands_fails : (shape : Shape) (bytes : ℕ → List ℕ) (a b : Kept) (e : 
 stands_fails shape bytes a b e s = by e (judged_opens bytes shape s.found s.is s.has_shape)
   where
     by : (e : OpenErr) → (opening_of reading bytes shape ≡ opening.Stands s.found) ⊎ AreSpent bytes shape s.found → RefusedAs shape bytes e → MayTell a b e
-    by (NotSalt dev) (inl opens) (inl is) = let both : opening.Stands s.found ≡ opening.NotSalt dev = sym opens ∙ is in cc both
-    by (NotSalt dev) (inr sp) (inl is) = let both : opening.NumbersSpent s.found.kept.boot s.found.kept.decisions ≡ opening.NotSalt dev = sym sp.opens ∙ is in cc both
-    by (NotSalt dev) o (inr older) = not_older bytes shape s.found s.is s.newest dev older
+    by (NotSalt dev) (inl opens) is = let both : opening.Stands s.found ≡ opening.NotSalt dev = sym opens ∙ is in cc both
+    by (NotSalt dev) (inr sp) is = let both : opening.NumbersSpent s.found.kept.boot s.found.kept.decisions ≡ opening.NotSalt dev = sym sp.opens ∙ is in cc both
     by (OtherShape kept asked) (inl opens) is = let both : opening.Stands s.found ≡ opening.OtherShape kept asked = sym opens ∙ is in cc both
     by (OtherShape kept asked) (inr sp) is = let both : opening.NumbersSpent s.found.kept.boot s.found.kept.decisions ≡ opening.OtherShape kept asked = sym sp.opens ∙ is in cc both
     by (NumbersSpent boot decisions) (inl opens) is = let both : opening.Stands s.found ≡ opening.NumbersSpent boot decisions = sym opens ∙ is in absurd (cc both)

@@ -19,6 +19,7 @@ pub mod Answered
 pub mod Known
 mod Begun
 mod Fitting
+mod Migrating
 mod Opening
 mod Deciding
 mod Anew

@@ -1,7 +1,5 @@
 -- Devices are opened, by what the calls say one after another.
-use Rattle.salt_ast.specs.declared.trees.TableDef.{TableDef}
 use Rattle.salt_bytes.specs.Generations.{BothBlank, Counts, Faulty, Pair}
-use Rattle.salt_commit.proofs.Formats.{counted_format}
 use Rattle.salt_commit.proofs.Opening.{leaves_at}
 use Rattle.salt_commit.specs.Openings.{IsRefusal, LeavesStanding, MayWrite, OpeningFails, OpeningPassesLimit}
 use Rattle.salt_commit.specs.Stores.{reading}
@@ -9,20 +7,18 @@ use Rattle.salt_decisions.specs.Kept.{IsKept}
 use Rattle.salt_decisions.specs.Opened.{IsPeeked}
 use Rattle.salt_storage.specs.OpenErr.TheVariants.{Failed, Full, Memory, NotSalt, NumbersSpent, OtherShape, Stopped}
 use Rattle.salt_decisions.specs.declared.kept.Kept as log
-use Rattle.salt_devices.proofs.Answered.{AreAlike, IsLike, IsNothing, IsOpened, counted_log, like_stands, opened_as, opened_shape, opened_stands, stands_for_nothing}
+use Rattle.salt_devices.proofs.Answered.{AreAlike, IsLike, like_stands, opened_shape, opened_stands, stands_for_nothing}
 use Rattle.salt_stands.specs.Fitting.{kept_in}
 use Rattle.salt_devices.specs.Filling.{FillsDevice, FillsIn}
 use Rattle.salt_devices.specs.Leaving.{StandsFor, StandsForSomething}
-use Rattle.salt_devices.specs.Opened.{IsNewestWhere, IsUnread}
 use Rattle.salt_devices.specs.Refusing.{RefusedAs}
 use Rattle.salt_disk.specs.Disks.{IsImage, KeepsAll, KeepsBut, SameShape, Shrinks, View}
 use Rattle.salt_disk.specs.declared.disks.DiskErr.TheVariants as disk
 use Rattle.salt_disk.specs.declared.disks.DiskErr.{DiskErr}
-use Rattle.salt_model.specs.Kept.{Definition}
 use Rattle.salt_parts.proofs.Reading.{same_bytes}
 use Rattle.salt_parts.specs.Openings.{HasRoom}
 use Rattle.salt_shares.specs.Prepares.{FullWhere}
-use Rattle.salt_stands.specs.Coordinator.{coordinator_pair}
+use Rattle.salt_stands.specs.Coordinator.{coordinator_of, coordinator_pair}
 use Rattle.salt_stands.specs.CoordinatorLog.{CoordinatorLog}
 use Rattle.salt_stands.specs.Partition.{pages_device}
 use Rattle.salt_stands.specs.Stands as opening
@@ -40,7 +36,7 @@ use Rattle.std.specs.Prelude.{Err, IfErr, Result}
 -- ANSWERS
 
 pub refused_as : (shape : Shape) (bytes : ℕ → List ℕ) (e : OpenErr) → OpeningFails shape bytes e → RefusedAs shape bytes e
-refused_as shape bytes (NotSalt dev) h = inl h
+refused_as shape bytes (NotSalt dev) h = h
 refused_as shape bytes (OtherShape kept asked) h = h
 refused_as shape bytes (NumbersSpent boot numbers) h = h
 refused_as shape bytes Failed h = tt
@@ -64,7 +60,7 @@ opening_fills d e shape err dev same is h told = by (full_is (OpeningPassesLimit
   where
     by : OpeningPassesLimit d e shape dev → FillsDevice e shape OfOpening dev
     by (inl passes) = inl passes
-    by (inr u) = inr (record { p = u.passes.p; low = u.passes.low; is = u.passes.device })
+    by (inr u) = inr (inl (record { p = u.passes.p; low = u.passes.low; is = u.passes.device }))
 
 -- a stop, which only a write meets
 pub stopped_writes : (shape : Shape) (bytes : ℕ → List ℕ) (e : OpenErr) → e ≡ storage.Stopped → OpeningFails shape bytes e → MayWrite shape bytes
@@ -105,32 +101,19 @@ leaves_memory d e shape (inl k) = inl (keeps_memory (λ _. ⊥) d e k)
 leaves_memory d e shape (inr s) = inr s
 
 pub new_stands : (shape : Shape) (image : ℕ → List ℕ) → stands_on reading image shape ≡ Ok (nothing_found shape) → StandsForSomething shape image
-new_stands shape image is = (kept_in (nothing_found shape), record { found = nothing_found shape; is = is; has_shape = refl; newest = refl; keeps = refl })
+new_stands shape image is = (kept_in (nothing_found shape), record { found = nothing_found shape; is = is; has_shape = refl; keeps = refl })
 
 -- THE LOG that is peeked at
 
-pub unread_refused : (shape found : Shape) (bytes : ℕ → List ℕ) (kept : log.Kept) (p : IsPeeked found kept (coordinator_pair (logs_of bytes))) → IsUnread p.log → RefusedAs shape bytes (storage.NotSalt kept.device)
-unread_refused shape found bytes kept p (inl none) = inl (stands_for_nothing bytes shape p.which p.log p.counts none ∙ ap opening.NotSalt (sym p.device))
-unread_refused shape found bytes kept p (inr other) =
-    let known = counted_format (logs_of bytes) p.which p.log p.counts in
-    inr (record { which = p.which; log = p.log; counts = p.counts; older = omega (arith, known, other); device = p.device })
-
 pub peeked_refused : (shape found : Shape) (bytes : ℕ → List ℕ) (kept : log.Kept) (p : IsPeeked found kept (coordinator_pair (logs_of bytes))) (e : OpenErr)
-    → (e ≡ storage.Memory) ⊎ ((e ≡ storage.NotSalt kept.device) × ((l : CoordinatorLog) → IsKept kept l → IsUnread l)) → RefusedAs shape bytes e
+    → (e ≡ storage.Memory) ⊎ ((e ≡ storage.NotSalt kept.device) × ((l : CoordinatorLog) → IsKept kept l → coordinator_of reading l ≡ None)) → RefusedAs shape bytes e
 peeked_refused shape found bytes kept p e (inl memory) = subst (RefusedAs shape bytes) (sym memory) tt
-peeked_refused shape found bytes kept p e (inr unread) = subst (RefusedAs shape bytes) (sym unread.0) (unread_refused shape found bytes kept p (unread.1 p.log p.keeps))
+peeked_refused shape found bytes kept p e (inr unread) =
+    subst (RefusedAs shape bytes) (sym unread.0) (stands_for_nothing bytes shape p.which p.log p.counts (unread.1 p.log p.keeps) ∙ ap opening.NotSalt (sym p.device))
 
 pub map_err : {A E : Type 0} (r : Result A E) (P Q : E → Type 0) → ((e : E) → P e → Q e) → IfErr r P → IfErr r Q
 map_err (Ok x) P Q f h = tt
 map_err (Err e) P Q f h = f e h
-
--- what is opened is in the newest format
-pub opened_newest : (schema : List TableDef) (bytes : ℕ → List ℕ) (shape : Shape) → IsNewestWhere schema (coordinator_pair (logs_of bytes)) → (found : opening.Found Definition) → opening_of reading bytes shape ≡ opening.Stands found → found.format ≡ 3
-opened_newest schema bytes shape newest found opens = by (opened_as bytes shape found opens)
-  where
-    by : IsNothing bytes shape found ⊎ IsOpened bytes shape found → found.format ≡ 3
-    by (inl none) = ap (λ (f : opening.Found Definition). f.format) (sym none.is)
-    by (inr k) = counted_log bytes found k.counted ∙ (subst (IsNewestWhere schema) k.counted.counts newest).format
 
 -- DEVICES
 
@@ -158,8 +141,7 @@ module _ (d : View) (shape : Shape) (parts : IsParts shape.parts) (room : HasRoo
 
   -- behind an opening of the store
   module _ (b e : View) (answer : Option DiskErr) (first : KeepsAll d b None) (leaves : ¬ (coordinator_pair (logs_of b.bytes) ≡ BothBlank) → LeavesStanding b e shape answer)
-      (images : coordinator_pair (logs_of b.bytes) ≡ BothBlank → (image : ℕ → List ℕ) → IsImage e image → stands_on reading image shape ≡ Ok (nothing_found shape))
-      (newest : (found : opening.Found Definition) → opening_of reading d.bytes shape ≡ opening.Stands found → found.format ≡ 3) where
+      (images : coordinator_pair (logs_of b.bytes) ≡ BothBlank → (image : ℕ → List ℕ) → IsImage e image → stands_on reading image shape ≡ Ok (nothing_found shape)) where
     same_pair : coordinator_pair (logs_of b.bytes) ≡ coordinator_pair (logs_of d.bytes)
     same_pair = ap (λ (bytes : ℕ → List ℕ). coordinator_pair (logs_of bytes)) (same_bytes d b first)
 
@@ -172,7 +154,7 @@ module _ (d : View) (shape : Shape) (parts : IsParts shape.parts) (room : HasRoo
       where
         written : LeavesStanding d e shape answer → IsLike shape d.bytes image
         written (inl keeps) = like_unwritten e answer keeps image left
-        written (inr s) = inr (inr (record { found = s.found; opens = s.opens; newest = newest s.found s.opens; stands = s.images shape image left }))
+        written (inr s) = inr (inr (record { found = s.found; opens = s.opens; format = s.found.format; stands = s.images shape image left }))
 
         by : (pair : Pair CoordinatorLog) → coordinator_pair (logs_of d.bytes) ≡ pair → IsLike shape d.bytes image
         by BothBlank is = inr (inl (record { blank = is; new = images (same_pair ∙ is) image left }))
@@ -188,7 +170,6 @@ module _ (d : View) (shape : Shape) (parts : IsParts shape.parts) (room : HasRoo
           found = stands.0;
           is = opened_stands d.bytes shape stands.0 opens;
           has_shape = opened_shape d.bytes shape stands.0 opens;
-          newest = newest stands.0 opens;
           keeps = refl;
         } in
         (kept_in stands.0, like_stands shape d.bytes image (like_opened image left) (kept_in stands.0) was)

@@ -1,8 +1,7 @@
 -- Where an opening refuses what stands on the devices, it writes nothing.
-use Rattle.salt_bytes.specs.Generations.{BothBlank, Counts}
+use Rattle.salt_bytes.specs.Generations.{BothBlank}
 use Rattle.salt_commit.specs.Openings.{LeavesStanding, MayWrite}
 use Rattle.salt_commit.specs.Stores.{reading}
-use Rattle.salt_devices.proofs.Answered.{not_older, opened_stands}
 use Rattle.salt_model.specs.Kept.{Definition}
 use Rattle.salt_devices.specs.Refusing.{RefusedAs}
 use Rattle.salt_disk.specs.Disks.{KeepsAll, View}
@@ -24,8 +23,7 @@ module _ (shape : Shape) (bytes : ℕ → List ℕ) (blank : coordinator_pair (l
   opens = ap (λ pair. of_coordinator reading bytes shape (judge_coordinator reading pair)) blank
 
   not_refused : (refusal : OpenErr) → IsRefusal refusal → RefusedAs shape bytes refusal → ⊥
-  not_refused (NotSalt dev) is (inl told) = let both : opening.Stands (nothing_found shape) ≡ opening.NotSalt dev = sym opens ∙ told in cc
-  not_refused (NotSalt dev) is (inr older) = let both : BothBlank ≡ Counts older.which older.log = sym blank ∙ older.counts in cc
+  not_refused (NotSalt dev) is told = let both : opening.Stands (nothing_found shape) ≡ opening.NotSalt dev = sym opens ∙ told in cc
   not_refused (OtherShape kept asked) is told = let both : opening.Stands (nothing_found shape) ≡ opening.OtherShape kept asked = sym opens ∙ told in cc
   not_refused (NumbersSpent boot decisions) is told = let both : opening.Stands (nothing_found shape) ≡ opening.NumbersSpent boot decisions = sym opens ∙ told in cc
   not_refused open_err.Failed is told = is
@@ -33,11 +31,10 @@ module _ (shape : Shape) (bytes : ℕ → List ℕ) (blank : coordinator_pair (l
   not_refused (open_err.Full dev) is told = is
   not_refused open_err.Memory is told = is
 
--- nor is what opens, in the newest format
-module _ (shape : Shape) (bytes : ℕ → List ℕ) (found : Found Definition) (stands : opening_of reading bytes shape ≡ opening.Stands found) (newest : found.format ≡ 3) where
-  opened_not_refused : (refusal : OpenErr) → IsRefusal refusal → RefusedAs shape bytes refusal → ⊥
-  opened_not_refused (NotSalt dev) is (inl told) = let both : opening.Stands found ≡ opening.NotSalt dev = sym stands ∙ told in cc
-  opened_not_refused (NotSalt dev) is (inr older) = not_older bytes shape found (opened_stands bytes shape found stands) newest dev older
+-- nor is what opens
+module _ (shape : Shape) (bytes : ℕ → List ℕ) (found : Found Definition) (stands : opening_of reading bytes shape ≡ opening.Stands found) where
+  pub opened_not_refused : (refusal : OpenErr) → IsRefusal refusal → RefusedAs shape bytes refusal → ⊥
+  opened_not_refused (NotSalt dev) is told = let both : opening.Stands found ≡ opening.NotSalt dev = sym stands ∙ told in cc
   opened_not_refused (OtherShape kept asked) is told = let both : opening.Stands found ≡ opening.OtherShape kept asked = sym stands ∙ told in cc
   opened_not_refused (NumbersSpent boot decisions) is told = let both : opening.Stands found ≡ opening.NumbersSpent boot decisions = sym stands ∙ told in cc
   opened_not_refused open_err.Failed is told = is
@@ -46,22 +43,22 @@ module _ (shape : Shape) (bytes : ℕ → List ℕ) (found : Found Definition) (
   opened_not_refused open_err.Memory is told = is
 
 -- what an opening may write on is refused by nothing
-pub may_write : (shape : Shape) (bytes : ℕ → List ℕ) → ((found : Found Definition) → opening_of reading bytes shape ≡ opening.Stands found → found.format ≡ 3) → MayWrite shape bytes → (refusal : OpenErr) → IsRefusal refusal → RefusedAs shape bytes refusal → ⊥
-may_write shape bytes newest (inl blank) refusal is refused = not_refused shape bytes blank refusal is refused
-may_write shape bytes newest (inr stands) refusal is refused = opened_not_refused shape bytes stands.0 stands.1 (newest stands.0 stands.1) refusal is refused
+pub may_write : (shape : Shape) (bytes : ℕ → List ℕ) → MayWrite shape bytes → (refusal : OpenErr) → IsRefusal refusal → RefusedAs shape bytes refusal → ⊥
+may_write shape bytes (inl blank) refusal is refused = not_refused shape bytes blank refusal is refused
+may_write shape bytes (inr stands) refusal is refused = opened_not_refused shape bytes stands.0 stands.1 refusal is refused
 
 -- and on others no opening writes
-pub writes_nothing : (d e : View) (shape : Shape) (answer : Option DiskErr) (refusal : OpenErr) → IsRefusal refusal → RefusedAs shape d.bytes refusal → ((found : Found Definition) → opening_of reading d.bytes shape ≡ opening.Stands found → found.format ≡ 3)
+pub writes_nothing : (d e : View) (shape : Shape) (answer : Option DiskErr) (refusal : OpenErr) → IsRefusal refusal → RefusedAs shape d.bytes refusal
     → (¬ (coordinator_pair (logs_of d.bytes) ≡ BothBlank) → LeavesStanding d e shape answer) → (answer ≡ Some disk.Stopped → MayWrite shape d.bytes) → ((dev : ℕ) → answer ≡ Some (disk.Full dev) → MayWrite shape d.bytes) → WritesNothing d e answer
-writes_nothing d e shape answer refusal is refused newest leaves stopped full = record {
+writes_nothing d e shape answer refusal is refused leaves stopped full = record {
   keeps = by (leaves (λ blank. not_refused shape d.bytes blank refusal is refused));
-  unstopped = λ stop. may_write shape d.bytes newest (stopped stop) refusal is refused;
-  not_full = λ dev is_full. may_write shape d.bytes newest (full dev is_full) refusal is refused;
+  unstopped = λ stop. may_write shape d.bytes (stopped stop) refusal is refused;
+  not_full = λ dev is_full. may_write shape d.bytes (full dev is_full) refusal is refused;
 }
   where
     by : LeavesStanding d e shape answer → KeepsAll d e answer
     by (inl keeps) = keeps
-    by (inr s) = absurd (opened_not_refused shape d.bytes s.found s.opens (newest s.found s.opens) refusal is refused)
+    by (inr s) = absurd (opened_not_refused shape d.bytes s.found s.opens refusal is refused)
 
 pub stopped_err : (err : OpenErr) → open_disk_err_of err ≡ Some disk.Stopped → err ≡ open_err.Stopped
 stopped_err (NotSalt dev) stop = absurd (cc stop)

@@ -129,7 +129,6 @@ module _ (d : View) (shape : Shape) (x : Store) (k : Kept) (h : IsHeld d shape x
     found = found_of h.c h.v;
     is = unchanged_images reading d x h.which h.c h.v h.is h.told shape image left;
     has_shape = h.newest.has_shape;
-    newest = h.newest.format;
     keeps = h.keeps;
   }
 

@@ -6,12 +6,14 @@ use Rattle.salt_decisions.specs.declared.header_payload.TheConstants.{FORMAT}
 use Rattle.salt_disk.specs.Disks.{View}
 use Rattle.salt_parts.specs.Openings.{IsPagesOf}
 use Rattle.salt_place.specs.declared.placement.Shape.{Shape}
+use Rattle.salt_promise.specs.Filling.{MigrationFills}
 use Rattle.salt_storage.specs.Writing.{OfBoot, OfDefinition, OfOpening, OfUnit, ToWrite}
 use Rattle.std.specs.Prelude.{IsTrue, ℕ, ◌⊎◌}
 
--- an opening applies decided units in the pages of partitions, and so does a unit's commit behind its decision
+-- an opening applies decided units in the pages of partitions, and so does a unit's commit behind its decision; and it takes an older
+-- format into the newest
 abbrev pub FillsDevice : View → Shape → ToWrite → ℕ → Type 0
-FillsDevice d shape OfOpening dev = StorePassesLimit d shape dev ⊎ IsPagesOf shape.parts dev
+FillsDevice d shape OfOpening dev = StorePassesLimit d shape dev ⊎ (IsPagesOf shape.parts dev ⊎ MigrationFills d shape dev)
 FillsDevice d shape OfBoot dev = EntryOrRoomFills d shape next_boot dev
 FillsDevice d shape (OfDefinition text) dev = EntryOrRoomFills d shape (next_definition text) dev
 FillsDevice d shape (OfUnit u cs m) dev = CommitFills d shape u cs (spell_move FORMAT m) dev

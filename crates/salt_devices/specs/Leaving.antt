@@ -11,12 +11,11 @@ use Rattle.salt_stands.specs.Stands.{Found, stands_on, logs_of}
 use Rattle.salt_place.specs.declared.placement.Shape.{Shape}
 use Rattle.std.specs.Prelude.{Bool, IsTrue, List, Ok, false, true, ℕ, ◌<◌, ◌≡◌, ◌⊎◌}
 
--- the devices stand for what is kept, in this shape and the newest format
+-- the devices stand for what is kept, in this shape and whatever format
 pub record StandsFor (shape : Shape) (image : ℕ → List ℕ) (k : Kept) : Type 0 where
   pub found : Found Definition
   pub is : stands_on reading image shape ≡ Ok found
   pub has_shape : found.shape ≡ shape
-  pub newest : found.format ≡ 3
   pub keeps : kept_in found ≡ k
 
 -- the image stands for whatever the bytes stand for

@@ -1,5 +1,4 @@
 -- What an opening answers of what it may come upon, where the disks tell.
-use Rattle.salt_promise.specs.Standing.{IsOlder}
 use Rattle.salt_commit.specs.Stores.{reading}
 use Rattle.salt_devices.specs.Leaving.{MayCome, StandsFor}
 use Rattle.salt_disk.specs.Disks.{View}
@@ -9,10 +8,10 @@ use Rattle.salt_stands.specs.Stands.{opening_of}
 use Rattle.salt_storage.specs.OpenErr.TheVariants.{NotSalt, NumbersSpent, OtherShape}
 use Rattle.salt_storage.specs.OpenErr.{OpenErr}
 use Rattle.salt_place.specs.declared.placement.Shape.{Shape}
-use Rattle.std.specs.Prelude.{Bool, IsTrue, List, ℕ, ⊤, ◌≡◌, ◌⊎◌}
+use Rattle.std.specs.Prelude.{Bool, IsTrue, List, ℕ, ⊤, ◌≡◌}
 
 abbrev pub RefusedAs : Shape → (ℕ → List ℕ) → OpenErr → Type 0
-RefusedAs shape bytes (NotSalt dev) = (opening_of reading bytes shape ≡ opening.NotSalt dev) ⊎ IsOlder bytes dev
+RefusedAs shape bytes (NotSalt dev) = opening_of reading bytes shape ≡ opening.NotSalt dev
 RefusedAs shape bytes (OtherShape kept asked) = opening_of reading bytes shape ≡ opening.OtherShape kept asked
 RefusedAs shape bytes (NumbersSpent boot decisions) = opening_of reading bytes shape ≡ opening.NumbersSpent boot decisions
 RefusedAs shape bytes e = ⊤

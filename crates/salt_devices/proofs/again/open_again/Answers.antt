@@ -8,8 +8,9 @@ use Rattle.salt_disk.specs.Disks.{HasCause}
 use Rattle.salt_disk.specs.declared.disks.DiskErr.{DiskErr}
 use Rattle.salt_gatelog.proofs.Entries.{not_told}
 use Rattle.salt_storage.specs.Answers.{open_disk_err_of}
+use Rattle.salt_storage.specs.OpenErr.TheVariants.{Full}
 use Rattle.salt_storage.specs.declared.found.Numbers.{Numbers}
-use Rattle.std.proofs.Common.{IsTrue, None, Option, subst, sym, ◌≡◌, ◌∙◌, ◌⊎◌}
+use Rattle.std.proofs.Common.{Err, IsTrue, None, Option, ap, subst, sym, ◌≡◌, ◌∙◌, ◌⊎◌}
 
 -- WHAT WAS FOUND is remembered
 
@@ -97,6 +98,9 @@ returns-clause-within g c over =
     let d = g.D.Disks.view c.args.disks.now in
     let e = g.D.Disks.view c.open_devices.new.disks in
     within_on d e (setup_in c.args.shape over) (g.D.Disks.view c.fault-in-Err.new.disks) (open_disk_err_of c.fault-in-Err.result) (store_within d e (setup_in c.args.shape over) (open_disk_err_of c.in-Err.e) c.in-Err.ensures.others) c.fault-in-Err.ensures.kept
+
+pub returns-then-may_answer-clause-full : goal.returns-then-may_answer-clause-full
+returns-then-may_answer-clause-full g c dev is told = let same : c.in-Err.e ≡ Full dev = cc is in c.in-Err.ensures.full dev (ap Err same) told
 
 pub returns-clause-cause : goal.returns-clause-cause
 returns-clause-cause g c =

@@ -1,353 +1,240 @@
-use Rattle.salt_commit.proofs.Opening.{nothing, opens_at}
-use Rattle.salt_commit.specs.Openings.{MayWrite}
-use Rattle.salt_commit.specs.Stores.{IsStoreDevice}
+use Rattle.salt_commit.proofs.Beginning.{open_answer}
 use Rattle.salt_devices.proofs.Answered.{like_finds, like_stands}
-use Rattle.salt_devices.proofs.Fitting.{Texts, not_unread, opens_as}
-use Rattle.salt_devices.proofs.Opening.{full_writes, keeps_memory, leaves_first, leaves_memory, like_opened, like_unwritten, opened_newest, opening_fills, refused_as, refuses_as, something_left, stopped_writes}
+use Rattle.salt_devices.proofs.Migrating.{full_of, halted_as, leaves_yet, like_migrated, migration_fills, no_refusal, not_refused, opens_newest, others_in, something_yet, stands_in, stands_yet}
 use Rattle.salt_devices.proofs.open.open_devices.Goals as goal
-use Rattle.salt_devices.proofs.Refused.{full_err, stopped_err, writes_nothing}
-use Rattle.salt_devices.specs.Opened.{IsNewest}
-use Rattle.salt_devices.specs.Refusing.{RefusedAs}
-use Rattle.salt_disk.proofs.CallAfterCall.{cause_memory, cause_on, keeps_on, shape_goes_on}
-use Rattle.salt_disk.specs.declared.disks.DiskErr.TheVariants.{Full, Memory, Stopped}
-use Rattle.salt_gatelog.proofs.Entries.{not_told}
-use Rattle.salt_parts.proofs.Lists.{if_some}
-use Rattle.salt_parts.proofs.Reading.{same_bytes}
-use Rattle.salt_stands.specs.Stands.{are_spent}
-use Rattle.salt_storage.specs.Answers.{open_disk_err_of}
-use Rattle.salt_storage.specs.OpenErr.TheVariants as opening
-use Rattle.salt_storage.specs.declared.found.Found.{Found}
-use Rattle.std.proofs.Common.{Err, IsTrue, List, None, Ok, Some, ap, inl, subst, sym, ℕ, ◌≡◌, ◌∙◌}
+use Rattle.salt_disk.proofs.CallAfterCall.{cause_on}
+use Rattle.salt_disk.specs.declared.disks.DiskErr.TheVariants.{Full}
+use Rattle.salt_disk.specs.declared.disks.DiskErr.{DiskErr}
+use Rattle.salt_commit.specs.Stores.{shape_of_store}
+use Rattle.salt_promise.specs.Filling.{MigrationFills}
+use Rattle.salt_shares.specs.Prepares.{FullWhere}
+use Rattle.std.proofs.Common.{None, Some, inr, subst, ◌≡◌, ◌∙◌}
 use Rattle.std.proofs.lemmas.Result.{err_from_is_err_and}
 
--- WHERE THE LOG IS NOT READ
+-- IT DOES NOT OPEN
 
-pub returns-in_err-schema-clause-err : goal.returns-in_err-schema-clause-err
-returns-in_err-schema-clause-err g c told =
+pub returns-in_err-opened-clause-err : goal.returns-in_err-opened-clause-err
+returns-in_err-opened-clause-err g c told =
     let p = err_from_is_err_and c.from_residual.result c.from_residual.ensures.1 in
-    rw (p.1, p.2) (c.in_err-schema.ensures.err told c.args.shape)
+    rw (p.1, p.2) (c.in_err-opened.ensures.err told)
 
-pub returns-in_err-schema-clause-leaves : goal.returns-in_err-schema-clause-leaves
-returns-in_err-schema-clause-leaves g c told some =
+pub returns-in_err-opened-clause-leaves : goal.returns-in_err-opened-clause-leaves
+returns-in_err-opened-clause-leaves g c told some =
     let p = err_from_is_err_and c.from_residual.result c.from_residual.ensures.1 in
-    rw (p.1, p.2) (inl c.in_err-schema.ensures.kept)
+    rw (p.1, p.2) (leaves_yet (g.D.Disks.view c.args.disks.now) (g.D.Disks.view c.open_standing.new.disks) c.args.shape _ (c.in_err-opened.ensures.leaves told some))
 
-pub returns-in_err-schema-clause-refused : goal.returns-in_err-schema-clause-refused
-returns-in_err-schema-clause-refused g c told =
+pub returns-in_err-opened-clause-refused : goal.returns-in_err-opened-clause-refused
+returns-in_err-opened-clause-refused g c told =
     let p = err_from_is_err_and c.from_residual.result c.from_residual.ensures.1 in
-    rw (p.1, p.2) (λ refusal. c.in_err-schema.ensures.kept)
+    rw (p.1, p.2) (c.in_err-opened.ensures.refused told)
 
-pub returns-in_err-schema-clause-still : goal.returns-in_err-schema-clause-still
-returns-in_err-schema-clause-still g c =
+pub returns-in_err-opened-clause-still : goal.returns-in_err-opened-clause-still
+returns-in_err-opened-clause-still g c =
     let p = err_from_is_err_and c.from_residual.result c.from_residual.ensures.1 in
-    let d = g.D.Disks.view c.args.disks.now in
-    rw p.1 (λ told image left. like_finds c.args.shape d.bytes image (like_unwritten d c.args.shape c.requires.parts c.requires.room (g.D.Disks.view c.schema_of_log.new.disks) _ c.in_err-schema.ensures.kept image left))
+    rw p.1 c.in_err-opened.ensures.still
 
-pub returns-in_err-schema-clause-rests : goal.returns-in_err-schema-clause-rests
-returns-in_err-schema-clause-rests g c =
+pub returns-in_err-opened-clause-rests : goal.returns-in_err-opened-clause-rests
+returns-in_err-opened-clause-rests g c =
     let p = err_from_is_err_and c.from_residual.result c.from_residual.ensures.1 in
-    let d = g.D.Disks.view c.args.disks.now in
-    rw p.1 (λ told image left. like_stands c.args.shape d.bytes image (like_unwritten d c.args.shape c.requires.parts c.requires.room (g.D.Disks.view c.schema_of_log.new.disks) _ c.in_err-schema.ensures.kept image left))
+    rw p.1 c.in_err-opened.ensures.rests
 
-pub returns-in_err-schema-clause-full : goal.returns-in_err-schema-clause-full
-returns-in_err-schema-clause-full g c dev is told =
+pub returns-in_err-opened-clause-stopped : goal.returns-in_err-opened-clause-stopped
+returns-in_err-opened-clause-stopped g c is =
     let p = err_from_is_err_and c.from_residual.result c.from_residual.ensures.1 in
-    let same : c.in_err-schema.field-0.0 ≡ opening.Full dev = cc (p.1, p.2, is) in
-    absurd (c.in_err-schema.ensures.full dev (ap Err same) (sym c.in_err-schema.ensures.kept.shape.told ∙ told))
+    c.in_err-opened.ensures.stopped (cc (p.1, p.2, is))
 
-pub returns-in_err-schema-clause-unwritten : goal.returns-in_err-schema-clause-unwritten
-returns-in_err-schema-clause-unwritten g c refusal is refused told =
+pub returns-in_err-opened-clause-unwritten : goal.returns-in_err-opened-clause-unwritten
+returns-in_err-opened-clause-unwritten g c refusal is refused told =
     let p = err_from_is_err_and c.from_residual.result c.from_residual.ensures.1 in
-    rw (p.1, p.2) (record { keeps = c.in_err-schema.ensures.kept; unstopped = λ stop. c.in_err-schema.ensures.stopped (ap Err (stopped_err c.in_err-schema.field-0.0 stop)) told; not_full = λ dev full. c.in_err-schema.ensures.full dev (ap Err (full_err c.in_err-schema.field-0.0 dev full)) told })
+    rw (p.1, p.2) (c.in_err-opened.ensures.unwritten refusal is refused told)
 
--- WHERE IT OPENS
+pub returns-in_err-opened-clause-full : goal.returns-in_err-opened-clause-full
+returns-in_err-opened-clause-full g c dev is =
+    let p = err_from_is_err_and c.from_residual.result c.from_residual.ensures.1 in
+    c.in_err-opened.ensures.full dev (cc (p.1, p.2, is))
 
-pub returns-in-Ok-Some-clause-ok : goal.returns-in-Ok-Some-clause-ok
-returns-in-Ok-Some-clause-ok g c =
-    let texts : Texts = λ text def is. (c.definitions_are_read.ensures text def).0 is in
+pub returns-in_err-opened-clause-others : goal.returns-in_err-opened-clause-others
+returns-in_err-opened-clause-others g c =
+    let p = err_from_is_err_and c.from_residual.result c.from_residual.ensures.1 in
+    rw (p.1, p.2) c.in_err-opened.ensures.others
+
+pub returns-in_err-opened-clause-cause : goal.returns-in_err-opened-clause-cause
+returns-in_err-opened-clause-cause g c =
+    let p = err_from_is_err_and c.from_residual.result c.from_residual.ensures.1 in
+    rw (p.1, p.2) c.in_err-opened.ensures.cause
+
+-- IT IS NOT TAKEN into the newest format
+
+pub migrate-requires : goal.migrate-requires
+migrate-requires g c =
     let d = g.D.Disks.view c.args.disks.now in
-    let b = g.D.Disks.view c.schema_of_log.new.disks in
-    let e = g.D.Disks.view c.open_store.new.disks in
-    let first = c.in_ok-schema.ensures.kept in
-    let o = opens_at c.args.shape d b e c.in-Ok.store c.in-Ok.kept first c.in-Ok.ensures.ok in
-    opens_as texts c.spelled_tables_have_keys.ensures d e c.args.shape c.in-Ok.store c.in-Ok.kept o (shape_goes_on d b e first.shape c.in-Ok.ensures.others.shape) c.in-Ok-Some.recovered
-    (if_some c.in-Ok-Some.field-0 c.in-Ok-Some.recovered (IsNewest c.in-Ok.kept) c.in-Ok-Some.field-0-is c.in-Ok-Some.ensures.some) c.found_of.result c.found_of.ensures
+    let e = g.D.Disks.view c.open_standing.new.disks in
+    let x = c.in_ok-opened.opened in
+    let o = c.in_ok-opened.ensures.ok in
+    let same = c.in_ok-opened.ensures.others.shape in
+    stands_in d e e c.args.shape x x c.in_ok-opened.found o same
 
-pub returns-in-Ok-Some-clause-numbers : goal.returns-in-Ok-Some-clause-numbers
-returns-in-Ok-Some-clause-numbers g c =
-    let o = c.in-Ok.ensures.ok in
-    ap (λ (f : Found). are_spent f.boot f.decisions) c.found_of.ensures ∙ ap (λ n. are_spent n c.in-Ok.kept.decisions) o.keeps.boot ∙ ap (are_spent o.c.log.told.boot) o.keeps.decisions ∙ o.unspent
+pub returns-in_err-migrate-clause-err : goal.returns-in_err-migrate-clause-err
+returns-in_err-migrate-clause-err g c told =
+    let p = err_from_is_err_and c.from_residual-in_err-migrate.result c.from_residual-in_err-migrate.ensures.1 in
+    rw (p.1, p.2) (halted_as c.args.shape (g.D.Disks.view c.args.disks.now).bytes c.in_err-migrate.field-0.0)
 
-pub returns-in-Ok-Some-clause-leaves : goal.returns-in-Ok-Some-clause-leaves
-returns-in-Ok-Some-clause-leaves g c told some =
+pub returns-in_err-migrate-clause-leaves : goal.returns-in_err-migrate-clause-leaves
+returns-in_err-migrate-clause-leaves g c told some =
     let d = g.D.Disks.view c.args.disks.now in
-    let b = g.D.Disks.view c.schema_of_log.new.disks in
-    let e = g.D.Disks.view c.open_store.new.disks in
-    let first = c.in_ok-schema.ensures.kept in
-    let now : IsTrue b.told = first.shape.told ∙ told in
-    let newest = opened_newest c.in_ok-schema.schema d.bytes c.args.shape (c.in_ok-schema.ensures.schema told) in
-    leaves_first d c.args.shape c.requires.parts c.requires.room b e (None) first (c.in-Ok.ensures.leaves now) (c.in-Ok.ensures.images now) newest some
+    let e = g.D.Disks.view c.open_standing.new.disks in
+    let f = g.D.Disks.view c.migrate.new.disks in
+    let x = c.in_ok-opened.opened in
+    let y = c.migrate.new.self in
+    let o = c.in_ok-opened.ensures.ok in
+    let same = c.in_ok-opened.ensures.others.shape in
+    inr (stands_yet d e f c.args.shape x y c.in_ok-opened.found o same (Some c.in_err-migrate.field-0.0) c.in_err-migrate.ensures told)
 
-pub returns-in-Ok-Some-clause-others : goal.returns-in-Ok-Some-clause-others
-returns-in-Ok-Some-clause-others g c =
+pub returns-in_err-migrate-clause-refused : goal.returns-in_err-migrate-clause-refused
+returns-in_err-migrate-clause-refused g c told =
+    let p = err_from_is_err_and c.from_residual-in_err-migrate.result c.from_residual-in_err-migrate.ensures.1 in
+    rw (p.1, p.2) (λ is. absurd (no_refusal c.in_err-migrate.field-0.0 is))
+
+pub returns-in_err-migrate-clause-still : goal.returns-in_err-migrate-clause-still
+returns-in_err-migrate-clause-still g c =
     let d = g.D.Disks.view c.args.disks.now in
-    let b = g.D.Disks.view c.schema_of_log.new.disks in
-    let e = g.D.Disks.view c.open_store.new.disks in
-    let first = c.in_ok-schema.ensures.kept in
-    keeps_on (IsStoreDevice c.args.shape.parts) d b e None (nothing (IsStoreDevice c.args.shape.parts) d b None first) c.in-Ok.ensures.others
+    let e = g.D.Disks.view c.open_standing.new.disks in
+    let f = g.D.Disks.view c.migrate.new.disks in
+    let x = c.in_ok-opened.opened in
+    let y = c.migrate.new.self in
+    let o = c.in_ok-opened.ensures.ok in
+    let same = c.in_ok-opened.ensures.others.shape in
+    let p = err_from_is_err_and c.from_residual-in_err-migrate.result c.from_residual-in_err-migrate.ensures.1 in
+    rw p.1 (λ told image left. like_finds c.args.shape d.bytes image (like_migrated d e f c.args.shape x y c.in_ok-opened.found o same (Some c.in_err-migrate.field-0.0) c.in_err-migrate.ensures told image left))
 
-pub returns-in-Ok-Some-clause-unwritten : goal.returns-in-Ok-Some-clause-unwritten
-returns-in-Ok-Some-clause-unwritten g c refusal is refused told =
+pub returns-in_err-migrate-clause-rests : goal.returns-in_err-migrate-clause-rests
+returns-in_err-migrate-clause-rests g c =
     let d = g.D.Disks.view c.args.disks.now in
-    let b = g.D.Disks.view c.schema_of_log.new.disks in
-    let e = g.D.Disks.view c.open_store.new.disks in
-    let first = c.in_ok-schema.ensures.kept in
-    let now : IsTrue b.told = first.shape.told ∙ told in
-    let newest = opened_newest c.in_ok-schema.schema d.bytes c.args.shape (c.in_ok-schema.ensures.schema told) in
-    writes_nothing d e c.args.shape None refusal is refused newest (leaves_first d c.args.shape c.requires.parts c.requires.room b e (None) first (c.in-Ok.ensures.leaves now) (c.in-Ok.ensures.images now) newest) (λ stop. absurd (cc stop)) (λ dev full. absurd (cc full))
+    let e = g.D.Disks.view c.open_standing.new.disks in
+    let f = g.D.Disks.view c.migrate.new.disks in
+    let x = c.in_ok-opened.opened in
+    let y = c.migrate.new.self in
+    let o = c.in_ok-opened.ensures.ok in
+    let same = c.in_ok-opened.ensures.others.shape in
+    let p = err_from_is_err_and c.from_residual-in_err-migrate.result c.from_residual-in_err-migrate.ensures.1 in
+    rw p.1 (λ told image left. like_stands c.args.shape d.bytes image (like_migrated d e f c.args.shape x y c.in_ok-opened.found o same (Some c.in_err-migrate.field-0.0) c.in_err-migrate.ensures told image left))
 
--- WHERE WHAT IT OPENED IS NOT READ, the disks do not tell
-
-pub fault-requires : goal.fault-requires
-fault-requires g c =
+pub returns-in_err-migrate-clause-stopped : goal.returns-in_err-migrate-clause-stopped
+returns-in_err-migrate-clause-stopped g c is told image left =
     let d = g.D.Disks.view c.args.disks.now in
-    let b = g.D.Disks.view c.schema_of_log.new.disks in
-    let e = g.D.Disks.view c.open_store.new.disks in
-    let first = c.in_ok-schema.ensures.kept in
-    let o = opens_at c.args.shape d b e c.in-Ok.store c.in-Ok.kept first c.in-Ok.ensures.ok in
-    not_told e.told (λ then.
-    let now : IsTrue b.told = sym c.in-Ok.ensures.others.shape.told ∙ then in
-    let told : IsTrue d.told = sym first.shape.told ∙ now in
-    let newest = opened_newest c.in_ok-schema.schema d.bytes c.args.shape (c.in_ok-schema.ensures.schema told) in
-    not_unread d e c.args.shape c.in-Ok.store c.in-Ok.kept o told then newest (c.in-Ok-None.ensures.none (ap Ok c.in-Ok-None.field-0-is) o.c.log o.keeps))
+    let e = g.D.Disks.view c.open_standing.new.disks in
+    let f = g.D.Disks.view c.migrate.new.disks in
+    let x = c.in_ok-opened.opened in
+    let y = c.migrate.new.self in
+    let o = c.in_ok-opened.ensures.ok in
+    let same = c.in_ok-opened.ensures.others.shape in
+    something_yet d e f c.args.shape x y c.in_ok-opened.found o same (Some c.in_err-migrate.field-0.0) c.in_err-migrate.ensures told image left
 
-pub returns-in-Ok-None-clause-others : goal.returns-in-Ok-None-clause-others
-returns-in-Ok-None-clause-others g c =
+pub returns-in_err-migrate-clause-unwritten : goal.returns-in_err-migrate-clause-unwritten
+returns-in_err-migrate-clause-unwritten g c refusal is refused told =
     let d = g.D.Disks.view c.args.disks.now in
-    let b = g.D.Disks.view c.schema_of_log.new.disks in
-    let e = g.D.Disks.view c.open_store.new.disks in
-    let first = c.in_ok-schema.ensures.kept in
-    let f = g.D.Disks.view c.fault.new.disks in
-    let touched = IsStoreDevice c.args.shape.parts in
-    keeps_on touched d e f (open_disk_err_of c.fault.result) (keeps_on touched d b e None (nothing touched d b None first) c.in-Ok.ensures.others)
-    (nothing touched e f (open_disk_err_of c.fault.result) c.fault.ensures.kept)
+    let e = g.D.Disks.view c.open_standing.new.disks in
+    let f = g.D.Disks.view c.migrate.new.disks in
+    let x = c.in_ok-opened.opened in
+    let y = c.migrate.new.self in
+    let o = c.in_ok-opened.ensures.ok in
+    let same = c.in_ok-opened.ensures.others.shape in
+    absurd (not_refused d e f c.args.shape x y c.in_ok-opened.found o same (Some c.in_err-migrate.field-0.0) c.in_err-migrate.ensures told refusal is refused)
 
-pub returns-in-Ok-None-clause-leaves : goal.returns-in-Ok-None-clause-leaves
-returns-in-Ok-None-clause-leaves g c told some =
+pub returns-in_err-migrate-clause-full : goal.returns-in_err-migrate-clause-full
+returns-in_err-migrate-clause-full g c dev is =
     let d = g.D.Disks.view c.args.disks.now in
-    let b = g.D.Disks.view c.schema_of_log.new.disks in
-    let e = g.D.Disks.view c.open_store.new.disks in
-    let first = c.in_ok-schema.ensures.kept in
-    let now : IsTrue b.told = first.shape.told ∙ told in
-    let newest = opened_newest c.in_ok-schema.schema d.bytes c.args.shape (c.in_ok-schema.ensures.schema told) in
-    let o = opens_at c.args.shape d b e c.in-Ok.store c.in-Ok.kept first c.in-Ok.ensures.ok in
-    let then : IsTrue e.told = c.in-Ok.ensures.others.shape.told ∙ now in
-    absurd (not_unread d e c.args.shape c.in-Ok.store c.in-Ok.kept o told then newest (c.in-Ok-None.ensures.none (ap Ok c.in-Ok-None.field-0-is) o.c.log o.keeps))
+    let e = g.D.Disks.view c.open_standing.new.disks in
+    let f = g.D.Disks.view c.migrate.new.disks in
+    let x = c.in_ok-opened.opened in
+    let y = c.migrate.new.self in
+    let o = c.in_ok-opened.ensures.ok in
+    let same = c.in_ok-opened.ensures.others.shape in
+    let p = err_from_is_err_and c.from_residual-in_err-migrate.result c.from_residual-in_err-migrate.ensures.1 in
+    let full : c.in_err-migrate.field-0.0 ≡ Full dev = full_of c.in_err-migrate.field-0.0 dev (cc (p.1, p.2, is)) in
+    migration_fills d e f c.args.shape x y c.in_ok-opened.found o same dev c.in_err-migrate.ensures.others.shape (λ told. subst (λ (z : DiskErr). FullWhere (MigrationFills f (shape_of_store x)) (Some z)) full (c.in_err-migrate.ensures.full told))
 
-pub returns-in-Ok-None-clause-refused : goal.returns-in-Ok-None-clause-refused
-returns-in-Ok-None-clause-refused g c told =
+pub returns-in_err-migrate-clause-others : goal.returns-in_err-migrate-clause-others
+returns-in_err-migrate-clause-others g c =
     let d = g.D.Disks.view c.args.disks.now in
-    let b = g.D.Disks.view c.schema_of_log.new.disks in
-    let e = g.D.Disks.view c.open_store.new.disks in
-    let first = c.in_ok-schema.ensures.kept in
-    let now : IsTrue b.told = first.shape.told ∙ told in
-    let newest = opened_newest c.in_ok-schema.schema d.bytes c.args.shape (c.in_ok-schema.ensures.schema told) in
-    let o = opens_at c.args.shape d b e c.in-Ok.store c.in-Ok.kept first c.in-Ok.ensures.ok in
-    let then : IsTrue e.told = c.in-Ok.ensures.others.shape.told ∙ now in
-    absurd (not_unread d e c.args.shape c.in-Ok.store c.in-Ok.kept o told then newest (c.in-Ok-None.ensures.none (ap Ok c.in-Ok-None.field-0-is) o.c.log o.keeps))
+    let e = g.D.Disks.view c.open_standing.new.disks in
+    let f = g.D.Disks.view c.migrate.new.disks in
+    let x = c.in_ok-opened.opened in
+    let y = c.migrate.new.self in
+    let o = c.in_ok-opened.ensures.ok in
+    let same = c.in_ok-opened.ensures.others.shape in
+    let p = err_from_is_err_and c.from_residual-in_err-migrate.result c.from_residual-in_err-migrate.ensures.1 in
+    rw (open_answer c.from_residual-in_err-migrate.result p.0 c.in_err-migrate.field-0.0 p.1 p.2) (others_in d e f c.args.shape x y c.in_ok-opened.found o same (Some c.in_err-migrate.field-0.0) c.in_ok-opened.ensures.others c.in_err-migrate.ensures.others)
 
-pub returns-in-Ok-None-clause-still : goal.returns-in-Ok-None-clause-still
-returns-in-Ok-None-clause-still g c told image left =
+pub returns-in_err-migrate-clause-cause : goal.returns-in_err-migrate-clause-cause
+returns-in_err-migrate-clause-cause g c =
     let d = g.D.Disks.view c.args.disks.now in
-    let b = g.D.Disks.view c.schema_of_log.new.disks in
-    let e = g.D.Disks.view c.open_store.new.disks in
-    let first = c.in_ok-schema.ensures.kept in
-    let now : IsTrue b.told = first.shape.told ∙ told in
-    let newest = opened_newest c.in_ok-schema.schema d.bytes c.args.shape (c.in_ok-schema.ensures.schema told) in
-    let o = opens_at c.args.shape d b e c.in-Ok.store c.in-Ok.kept first c.in-Ok.ensures.ok in
-    let then : IsTrue e.told = c.in-Ok.ensures.others.shape.told ∙ now in
-    absurd (not_unread d e c.args.shape c.in-Ok.store c.in-Ok.kept o told then newest (c.in-Ok-None.ensures.none (ap Ok c.in-Ok-None.field-0-is) o.c.log o.keeps))
+    let e = g.D.Disks.view c.open_standing.new.disks in
+    let f = g.D.Disks.view c.migrate.new.disks in
+    let x = c.in_ok-opened.opened in
+    let y = c.migrate.new.self in
+    let o = c.in_ok-opened.ensures.ok in
+    let same = c.in_ok-opened.ensures.others.shape in
+    let p = err_from_is_err_and c.from_residual-in_err-migrate.result c.from_residual-in_err-migrate.ensures.1 in
+    rw (open_answer c.from_residual-in_err-migrate.result p.0 c.in_err-migrate.field-0.0 p.1 p.2) (cause_on d e f (Some c.in_err-migrate.field-0.0) c.in_ok-opened.ensures.cause c.in_err-migrate.ensures.cause)
 
-pub returns-in-Ok-None-clause-rests : goal.returns-in-Ok-None-clause-rests
-returns-in-Ok-None-clause-rests g c told image left =
+-- IT IS
+
+pub returns-clause-ok : goal.returns-clause-ok
+returns-clause-ok g c =
     let d = g.D.Disks.view c.args.disks.now in
-    let b = g.D.Disks.view c.schema_of_log.new.disks in
-    let e = g.D.Disks.view c.open_store.new.disks in
-    let first = c.in_ok-schema.ensures.kept in
-    let now : IsTrue b.told = first.shape.told ∙ told in
-    let newest = opened_newest c.in_ok-schema.schema d.bytes c.args.shape (c.in_ok-schema.ensures.schema told) in
-    let o = opens_at c.args.shape d b e c.in-Ok.store c.in-Ok.kept first c.in-Ok.ensures.ok in
-    let then : IsTrue e.told = c.in-Ok.ensures.others.shape.told ∙ now in
-    absurd (not_unread d e c.args.shape c.in-Ok.store c.in-Ok.kept o told then newest (c.in-Ok-None.ensures.none (ap Ok c.in-Ok-None.field-0-is) o.c.log o.keeps))
+    let e = g.D.Disks.view c.open_standing.new.disks in
+    let f = g.D.Disks.view c.migrate.new.disks in
+    let x = c.in_ok-opened.opened in
+    let y = c.migrate.new.self in
+    let o = c.in_ok-opened.ensures.ok in
+    let same = c.in_ok-opened.ensures.others.shape in
+    opens_newest d e f c.args.shape x y c.in_ok-opened.found o same c.in_ok-migrate.ensures
 
-pub returns-in-Ok-None-clause-unwritten : goal.returns-in-Ok-None-clause-unwritten
-returns-in-Ok-None-clause-unwritten g c refusal is refused told =
-    let d = g.D.Disks.view c.args.disks.now in
-    let b = g.D.Disks.view c.schema_of_log.new.disks in
-    let e = g.D.Disks.view c.open_store.new.disks in
-    let first = c.in_ok-schema.ensures.kept in
-    let now : IsTrue b.told = first.shape.told ∙ told in
-    let newest = opened_newest c.in_ok-schema.schema d.bytes c.args.shape (c.in_ok-schema.ensures.schema told) in
-    let o = opens_at c.args.shape d b e c.in-Ok.store c.in-Ok.kept first c.in-Ok.ensures.ok in
-    let then : IsTrue e.told = c.in-Ok.ensures.others.shape.told ∙ now in
-    absurd (not_unread d e c.args.shape c.in-Ok.store c.in-Ok.kept o told then newest (c.in-Ok-None.ensures.none (ap Ok c.in-Ok-None.field-0-is) o.c.log o.keeps))
-
-pub returns-in-Ok-None-clause-cause : goal.returns-in-Ok-None-clause-cause
-returns-in-Ok-None-clause-cause g c =
-    let d = g.D.Disks.view c.args.disks.now in
-    let b = g.D.Disks.view c.schema_of_log.new.disks in
-    let e = g.D.Disks.view c.open_store.new.disks in
-    cause_on d e (g.D.Disks.view c.fault.new.disks) (open_disk_err_of c.fault.result) (cause_on d b e None c.in_ok-schema.ensures.cause c.in-Ok.ensures.cause) c.fault.ensures.cause
-
--- WHERE MEMORY RUNS OUT behind it
-
-pub returns-in-Ok-clause-leaves : goal.returns-in-Ok-clause-leaves
-returns-in-Ok-clause-leaves g c told some =
-    let d = g.D.Disks.view c.args.disks.now in
-    let b = g.D.Disks.view c.schema_of_log.new.disks in
-    let e = g.D.Disks.view c.open_store.new.disks in
-    let first = c.in_ok-schema.ensures.kept in
-    let now : IsTrue b.told = first.shape.told ∙ told in
-    let newest = opened_newest c.in_ok-schema.schema d.bytes c.args.shape (c.in_ok-schema.ensures.schema told) in
-    rw c.into.ensures (leaves_memory d e c.args.shape (leaves_first d c.args.shape c.requires.parts c.requires.room b e (None) first (c.in-Ok.ensures.leaves now) (c.in-Ok.ensures.images now) newest some))
-
-pub returns-in-Ok-clause-refused : goal.returns-in-Ok-clause-refused
-returns-in-Ok-clause-refused g c told = rw c.into.ensures (λ refusal. absurd refusal)
-
-pub returns-in-Ok-clause-still : goal.returns-in-Ok-clause-still
-returns-in-Ok-clause-still g c told image left =
-    let d = g.D.Disks.view c.args.disks.now in
-    let b = g.D.Disks.view c.schema_of_log.new.disks in
-    let e = g.D.Disks.view c.open_store.new.disks in
-    let first = c.in_ok-schema.ensures.kept in
-    let now : IsTrue b.told = first.shape.told ∙ told in
-    let newest = opened_newest c.in_ok-schema.schema d.bytes c.args.shape (c.in_ok-schema.ensures.schema told) in
-    like_finds c.args.shape d.bytes image (like_opened d c.args.shape c.requires.parts c.requires.room b e (None) first (c.in-Ok.ensures.leaves now) (c.in-Ok.ensures.images now) newest image left)
-
-pub returns-in-Ok-clause-rests : goal.returns-in-Ok-clause-rests
-returns-in-Ok-clause-rests g c told image left =
-    let d = g.D.Disks.view c.args.disks.now in
-    let b = g.D.Disks.view c.schema_of_log.new.disks in
-    let e = g.D.Disks.view c.open_store.new.disks in
-    let first = c.in_ok-schema.ensures.kept in
-    let now : IsTrue b.told = first.shape.told ∙ told in
-    let newest = opened_newest c.in_ok-schema.schema d.bytes c.args.shape (c.in_ok-schema.ensures.schema told) in
-    like_stands c.args.shape d.bytes image (like_opened d c.args.shape c.requires.parts c.requires.room b e (None) first (c.in-Ok.ensures.leaves now) (c.in-Ok.ensures.images now) newest image left)
-
-pub returns-in-Ok-clause-unwritten : goal.returns-in-Ok-clause-unwritten
-returns-in-Ok-clause-unwritten g c refusal is refused told =
-    let d = g.D.Disks.view c.args.disks.now in
-    let b = g.D.Disks.view c.schema_of_log.new.disks in
-    let e = g.D.Disks.view c.open_store.new.disks in
-    let first = c.in_ok-schema.ensures.kept in
-    let newest = opened_newest c.in_ok-schema.schema d.bytes c.args.shape (c.in_ok-schema.ensures.schema told) in
-    writes_nothing d e c.args.shape (open_disk_err_of c.into.result) refusal is refused newest (returns-in-Ok-clause-leaves g c told)
-    (λ stop. let both : Some Memory ≡ Some Stopped = sym (ap open_disk_err_of c.into.ensures) ∙ stop in absurd (cc both))
-    (λ dev full. let both : Some Memory ≡ Some (Full dev) = sym (ap open_disk_err_of c.into.ensures) ∙ full in absurd (cc both))
-
-pub returns-in-Ok-clause-cause : goal.returns-in-Ok-clause-cause
-returns-in-Ok-clause-cause g c =
-    let d = g.D.Disks.view c.args.disks.now in
-    let b = g.D.Disks.view c.schema_of_log.new.disks in
-    let e = g.D.Disks.view c.open_store.new.disks in
-    rw c.into.ensures (cause_memory d e (cause_on d b e None c.in_ok-schema.ensures.cause c.in-Ok.ensures.cause))
-
-pub returns-in-Ok-clause-others : goal.returns-in-Ok-clause-others
-returns-in-Ok-clause-others g c =
-    let d = g.D.Disks.view c.args.disks.now in
-    let b = g.D.Disks.view c.schema_of_log.new.disks in
-    let e = g.D.Disks.view c.open_store.new.disks in
-    let first = c.in_ok-schema.ensures.kept in
-    let touched = IsStoreDevice c.args.shape.parts in
-    rw c.into.ensures (keeps_memory touched d e (keeps_on touched d b e None (nothing touched d b None first) c.in-Ok.ensures.others))
-
--- WHERE THE STORE DOES NOT OPEN
-
-pub returns-clause-err : goal.returns-clause-err
-returns-clause-err g c told =
-    let d = g.D.Disks.view c.args.disks.now in
-    let b = g.D.Disks.view c.schema_of_log.new.disks in
-    let first = c.in_ok-schema.ensures.kept in
-    subst (λ (bytes : ℕ → List ℕ). RefusedAs c.args.shape bytes c.in-Err.e) (same_bytes d b first) (refused_as c.args.shape b.bytes c.in-Err.e (c.in-Err.ensures.err (first.shape.told ∙ told)))
+pub returns-clause-plain : goal.returns-clause-plain
+returns-clause-plain g c =
+    c.in_ok-migrate.ensures.messages ∙ c.in_ok-opened.ensures.plain
 
 pub returns-clause-leaves : goal.returns-clause-leaves
 returns-clause-leaves g c told some =
     let d = g.D.Disks.view c.args.disks.now in
-    let b = g.D.Disks.view c.schema_of_log.new.disks in
-    let e = g.D.Disks.view c.open_store.new.disks in
-    let first = c.in_ok-schema.ensures.kept in
-    let now : IsTrue b.told = first.shape.told ∙ told in
-    let newest = opened_newest c.in_ok-schema.schema d.bytes c.args.shape (c.in_ok-schema.ensures.schema told) in
-    leaves_first d c.args.shape c.requires.parts c.requires.room b e (open_disk_err_of c.in-Err.e) first (c.in-Err.ensures.leaves now) (c.in-Err.ensures.images now) newest some
-
-pub returns-clause-refused : goal.returns-clause-refused
-returns-clause-refused g c told refusal =
-    let d = g.D.Disks.view c.args.disks.now in
-    let b = g.D.Disks.view c.schema_of_log.new.disks in
-    let e = g.D.Disks.view c.open_store.new.disks in
-    let first = c.in_ok-schema.ensures.kept in
-    keeps_on (λ _. ⊥) d b e (open_disk_err_of c.in-Err.e) first (c.in-Err.ensures.refused (first.shape.told ∙ told) (refuses_as c.in-Err.e refusal))
-
-pub returns-clause-still : goal.returns-clause-still
-returns-clause-still g c told image left =
-    let d = g.D.Disks.view c.args.disks.now in
-    let b = g.D.Disks.view c.schema_of_log.new.disks in
-    let e = g.D.Disks.view c.open_store.new.disks in
-    let first = c.in_ok-schema.ensures.kept in
-    let now : IsTrue b.told = first.shape.told ∙ told in
-    let newest = opened_newest c.in_ok-schema.schema d.bytes c.args.shape (c.in_ok-schema.ensures.schema told) in
-    like_finds c.args.shape d.bytes image (like_opened d c.args.shape c.requires.parts c.requires.room b e (open_disk_err_of c.in-Err.e) first (c.in-Err.ensures.leaves now) (c.in-Err.ensures.images now) newest image left)
-
-pub returns-clause-rests : goal.returns-clause-rests
-returns-clause-rests g c told image left =
-    let d = g.D.Disks.view c.args.disks.now in
-    let b = g.D.Disks.view c.schema_of_log.new.disks in
-    let e = g.D.Disks.view c.open_store.new.disks in
-    let first = c.in_ok-schema.ensures.kept in
-    let now : IsTrue b.told = first.shape.told ∙ told in
-    let newest = opened_newest c.in_ok-schema.schema d.bytes c.args.shape (c.in_ok-schema.ensures.schema told) in
-    like_stands c.args.shape d.bytes image (like_opened d c.args.shape c.requires.parts c.requires.room b e (open_disk_err_of c.in-Err.e) first (c.in-Err.ensures.leaves now) (c.in-Err.ensures.images now) newest image left)
-
-pub returns-clause-stopped : goal.returns-clause-stopped
-returns-clause-stopped g c is told image left =
-    let d = g.D.Disks.view c.args.disks.now in
-    let b = g.D.Disks.view c.schema_of_log.new.disks in
-    let e = g.D.Disks.view c.open_store.new.disks in
-    let first = c.in_ok-schema.ensures.kept in
-    let now : IsTrue b.told = first.shape.told ∙ told in
-    let newest = opened_newest c.in_ok-schema.schema d.bytes c.args.shape (c.in_ok-schema.ensures.schema told) in
-    something_left d c.args.shape c.requires.parts c.requires.room b e (open_disk_err_of c.in-Err.e) first (c.in-Err.ensures.leaves now) (c.in-Err.ensures.images now) newest (stopped_writes c.args.shape b.bytes c.in-Err.e (cc is) (c.in-Err.ensures.err now)) image left
-
-pub returns-clause-full : goal.returns-clause-full
-returns-clause-full g c dev is =
-    let b = g.D.Disks.view c.schema_of_log.new.disks in
-    let e = g.D.Disks.view c.open_store.new.disks in
-    opening_fills b e c.args.shape c.in-Err.e dev c.in-Err.ensures.others.shape (cc is) c.in-Err.ensures.full
-
-pub returns-clause-others : goal.returns-clause-others
-returns-clause-others g c =
-    let d = g.D.Disks.view c.args.disks.now in
-    let b = g.D.Disks.view c.schema_of_log.new.disks in
-    let e = g.D.Disks.view c.open_store.new.disks in
-    let first = c.in_ok-schema.ensures.kept in
-    let touched = IsStoreDevice c.args.shape.parts in
-    keeps_on touched d b e (open_disk_err_of c.in-Err.e) (nothing touched d b None first) c.in-Err.ensures.others
+    let e = g.D.Disks.view c.open_standing.new.disks in
+    let f = g.D.Disks.view c.migrate.new.disks in
+    let x = c.in_ok-opened.opened in
+    let y = c.migrate.new.self in
+    let o = c.in_ok-opened.ensures.ok in
+    let same = c.in_ok-opened.ensures.others.shape in
+    inr (stands_yet d e f c.args.shape x y c.in_ok-opened.found o same None c.in_ok-migrate.ensures told)
 
 pub returns-clause-unwritten : goal.returns-clause-unwritten
 returns-clause-unwritten g c refusal is refused told =
     let d = g.D.Disks.view c.args.disks.now in
-    let b = g.D.Disks.view c.schema_of_log.new.disks in
-    let e = g.D.Disks.view c.open_store.new.disks in
-    let first = c.in_ok-schema.ensures.kept in
-    let now : IsTrue b.told = first.shape.told ∙ told in
-    let newest = opened_newest c.in_ok-schema.schema d.bytes c.args.shape (c.in_ok-schema.ensures.schema told) in
-    writes_nothing d e c.args.shape (open_disk_err_of c.in-Err.e) refusal is refused newest (returns-clause-leaves g c told)
-    (λ stop. subst (λ (bytes : ℕ → List ℕ). MayWrite c.args.shape bytes) (same_bytes d b first) (stopped_writes c.args.shape b.bytes c.in-Err.e (stopped_err c.in-Err.e stop) (c.in-Err.ensures.err now)))
-    (λ dev full. subst (λ (bytes : ℕ → List ℕ). MayWrite c.args.shape bytes) (same_bytes d b first) (full_writes c.args.shape b.bytes c.in-Err.e dev (full_err c.in-Err.e dev full) (c.in-Err.ensures.err now)))
+    let e = g.D.Disks.view c.open_standing.new.disks in
+    let f = g.D.Disks.view c.migrate.new.disks in
+    let x = c.in_ok-opened.opened in
+    let y = c.migrate.new.self in
+    let o = c.in_ok-opened.ensures.ok in
+    let same = c.in_ok-opened.ensures.others.shape in
+    absurd (not_refused d e f c.args.shape x y c.in_ok-opened.found o same None c.in_ok-migrate.ensures told refusal is refused)
+
+pub returns-clause-others : goal.returns-clause-others
+returns-clause-others g c =
+    let d = g.D.Disks.view c.args.disks.now in
+    let e = g.D.Disks.view c.open_standing.new.disks in
+    let f = g.D.Disks.view c.migrate.new.disks in
+    let x = c.in_ok-opened.opened in
+    let y = c.migrate.new.self in
+    let o = c.in_ok-opened.ensures.ok in
+    let same = c.in_ok-opened.ensures.others.shape in
+    others_in d e f c.args.shape x y c.in_ok-opened.found o same None c.in_ok-opened.ensures.others c.in_ok-migrate.ensures.others
 
 pub returns-clause-cause : goal.returns-clause-cause
 returns-clause-cause g c =
     let d = g.D.Disks.view c.args.disks.now in
-    let b = g.D.Disks.view c.schema_of_log.new.disks in
-    let e = g.D.Disks.view c.open_store.new.disks in
-    cause_on d b e (open_disk_err_of c.in-Err.e) c.in_ok-schema.ensures.cause c.in-Err.ensures.cause
+    let e = g.D.Disks.view c.open_standing.new.disks in
+    let f = g.D.Disks.view c.migrate.new.disks in
+    let x = c.in_ok-opened.opened in
+    let y = c.migrate.new.self in
+    let o = c.in_ok-opened.ensures.ok in
+    let same = c.in_ok-opened.ensures.others.shape in
+    cause_on d e f None c.in_ok-opened.ensures.cause c.in_ok-migrate.ensures.cause
