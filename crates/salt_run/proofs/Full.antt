@@ -80,11 +80,12 @@ module _ (d : View) (shape : Shape) (dev : ℕ) where
   -- or one behind a fall
   pub opening-fills : (trace : Trace) (e : Option Event) → FillsDevice d shape OfOpening dev → NextFills d shape trace Fallen e dev
   opening-fills trace e (inl f) = inl (first-fills f)
-  opening-fills trace e (inr h) = inr (inr (inl (record { p = h.p; low = h.low; device = h.is })))
+  opening-fills trace e (inr (inl h)) = inr (inr (inl (record { p = h.p; low = h.low; device = h.is })))
+  opening-fills trace e (inr (inr older)) = inr (inr (inr (inr older)))
 
   boot-fills : (trace : Trace) (e : Option Event) → FillsDevice d shape OfBoot dev → NextFills d shape trace Fallen e dev
   boot-fills trace e (inl entry) = inr (inl entry)
-  boot-fills trace e (inr room) = inr (inr (inr room))
+  boot-fills trace e (inr room) = inr (inr (inr (inl room)))
 
   -- WHAT COMES NEXT
 

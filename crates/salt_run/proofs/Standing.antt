@@ -50,7 +50,6 @@ module _ (reads : IsReader definition_in) where
     found = s.found;
     is = s.is;
     has_shape = s.has_shape;
-    newest = s.newest;
     keeps = s.keeps;
   }
 
