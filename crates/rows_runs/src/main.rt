@@ -19,6 +19,7 @@ mod audits;
 mod bytes_turned;
 mod cases;
 mod devices;
+mod older;
 mod others;
 mod outcome;
 mod stops_behind;
@@ -29,6 +30,7 @@ mod words;
 use audits::audits;
 use bytes_turned::{cut_devices, turned_bytes};
 use cases::Cases;
+use older::{older_fails, older_stops};
 use others::by_devices;
 use salt_io::{LineErr, Lines, Next, Source, StdSink, StdSource, write_whole};
 use std::alloc::{AllocError, Global};
@@ -124,6 +126,8 @@ enum Part {
     CutDevices,
     Hostile(Hostile, Way),
     Behind(Behind),
+    OlderStops,
+    OlderFails,
     CutScripts,
     ReadsThatFail,
     WritesThatFail,
@@ -131,7 +135,7 @@ enum Part {
     MostBytes,
 }
 
-const PARTS: [Part; 34] = [
+const PARTS: [Part; 36] = [
     Part::Stories,
     Part::Statuses,
     Part::Words,
@@ -161,6 +165,8 @@ const PARTS: [Part; 34] = [
     Part::Hostile(Hostile::OneWriteFails, IN_DOUBT),
     Part::Hostile(Hostile::OneReadFails, IN_DOUBT),
     Part::Hostile(Hostile::AllWritesFail, IN_DOUBT),
+    Part::OlderStops,
+    Part::OlderFails,
     Part::CutScripts,
     Part::ReadsThatFail,
     Part::WritesThatFail,
@@ -221,6 +227,18 @@ fn lines_of(rt: &HostRuntime, part: Part) -> Result<Vec<u8>, AllocError> {
             way.name,
             hostile.name(),
             hostile.table(alloc, way),
+        ),
+        Part::OlderStops => line_of(
+            alloc,
+            "where a database of formats 1 is opened: ",
+            "a stop",
+            older_stops(alloc),
+        ),
+        Part::OlderFails => line_of(
+            alloc,
+            "where a database of formats 1 is opened: ",
+            "a write that fails",
+            older_fails(alloc),
         ),
         Part::CutScripts => line_of(alloc, "", "a script that is cut", cut_scripts(alloc)),
         Part::ReadsThatFail => line_of(

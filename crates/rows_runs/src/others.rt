@@ -3,6 +3,7 @@
 ghost use Rattle.std.specs.Prelude.{◌<◌};
 
 use crate::devices::{Devices, ROOM};
+use crate::older::with_older_row;
 use crate::outcome::Outcome;
 use salt_model::Flight;
 use salt_run::Status;
@@ -42,9 +43,13 @@ enum Start {
     Coordinator(&'static [u8]),
     /// Those of a database with a row.
     Kept,
+    /// The same, in formats 1.
+    Older,
+    /// The same, where the coordinator's other device has room for so many bytes. Its next header is of 98.
+    OlderWithin(u64),
     /// Those of a database with a row that is spread by bands.
     Bands,
-    /// The same, where the coordinator's log has lost its last byte.
+    /// Those of a database with a row, where the coordinator's log has lost its last byte.
     Shorter,
     /// The same, where a partition's log is this one.
     Partition(&'static [u8]),
@@ -77,7 +82,7 @@ const DEFINITION: &str = "create table w (id int key)\n";
 /// A row of the partition of device 5: a unit of 56 bytes there, and a decision of 44, behind a boot.
 const ROW: &str = "@1 insert into t values (7, 1)\n";
 
-const CASES: [Case; 24] = [
+const CASES: [Case; 27] = [
     Case {
         name: "write 30 fails",
         start: Start::Failing(&[30]),
@@ -141,6 +146,24 @@ const CASES: [Case; 24] = [
     Case {
         name: "the same shape",
         start: Start::Kept,
+        words: RUN,
+        script: "",
+    },
+    Case {
+        name: "formats 1",
+        start: Start::Older,
+        words: RUN,
+        script: "@1 insert into t values (6, 1)\n",
+    },
+    Case {
+        name: "no room for the newest format",
+        start: Start::OlderWithin(107),
+        words: RUN,
+        script: "",
+    },
+    Case {
+        name: "room for it, and for no boot",
+        start: Start::OlderWithin(125),
         words: RUN,
         script: "",
     },
@@ -300,6 +323,8 @@ fn devices_of(alloc: Global, start: Start) -> Result<Devices, AllocError> {
         Start::NoRoom => with_no_room(alloc),
         Start::Coordinator(bytes) => holding(Devices::new(alloc), 0, bytes),
         Start::Kept => with_row(alloc),
+        Start::Older => with_older_row(alloc),
+        Start::OlderWithin(limit) => within(with_older_row(alloc), 1, limit),
         Start::Bands => with_row_by_bands(alloc),
         Start::Shorter => with_row_but_a_byte(alloc),
         Start::Partition(bytes) => holding(with_row(alloc), 2, bytes),

@@ -54,7 +54,7 @@ pub const ROWS: &str = "@1 select * from acct\n";
 
 const SUM_KEPT: &[u8] = b"-> value 150\n";
 
-const STOPPED: &[u8] = b"down stopped\n";
+pub const STOPPED: &[u8] = b"down stopped\n";
 
 /// The words by which the runs of a table are called, and the lines that end their scripts.
 #[derive(Clone, Copy)]
