@@ -19,6 +19,7 @@ mod audits;
 mod bytes_turned;
 mod cases;
 mod devices;
+mod full_logs;
 mod older;
 mod others;
 mod outcome;
@@ -30,6 +31,7 @@ mod words;
 use audits::audits;
 use bytes_turned::{cut_devices, turned_bytes};
 use cases::Cases;
+use full_logs::full_logs;
 use older::{older_fails, older_stops};
 use others::by_devices;
 use salt_io::{LineErr, Lines, Next, Source, StdSink, StdSource, write_whole};
@@ -133,9 +135,10 @@ enum Part {
     WritesThatFail,
     LongestLines,
     MostBytes,
+    FullLogs,
 }
 
-const PARTS: [Part; 36] = [
+const PARTS: [Part; 37] = [
     Part::Stories,
     Part::Statuses,
     Part::Words,
@@ -172,6 +175,7 @@ const PARTS: [Part; 36] = [
     Part::WritesThatFail,
     Part::LongestLines,
     Part::MostBytes,
+    Part::FullLogs,
 ];
 
 /// Runs the scripts of a source. A row that is too long counts as a line of a story that is told otherwise.
@@ -255,6 +259,7 @@ fn lines_of(rt: &HostRuntime, part: Part) -> Result<Vec<u8>, AllocError> {
         ),
         Part::LongestLines => line_of(alloc, "", "lines of the most bytes", longest_lines(alloc)),
         Part::MostBytes => line_of(alloc, "", "scripts of the most bytes", most_bytes(alloc)),
+        Part::FullLogs => full_logs(alloc),
     }
 }
 
