@@ -4,8 +4,7 @@ use Rattle.salt_checkpoint.specs.declared.writes.Write.{Write}
 use Rattle.salt_bytes.specs.Generations.{WhichLog}
 use Rattle.salt_bytes.specs.Log.{entries_in}
 use Rattle.salt_bytes.specs.Partition.{partition_header_in}
-use Rattle.salt_disk.specs.Disks.{IsImage, IsSettled, View}
-use Rattle.salt_disk.specs.declared.disks.DiskErr.TheVariants.{Failed, Full, Memory, Stopped}
+use Rattle.salt_disk.specs.Disks.{FullWhere, IsImage, IsSettled, View}
 use Rattle.salt_disk.specs.declared.disks.DiskErr.{DiskErr}
 use Rattle.salt_model.specs.Tables.{no_rows, with_changes}
 use Rattle.salt_stands.specs.Commits.{Stood, found_of, partition_count}
@@ -16,7 +15,7 @@ use Rattle.salt_stands.specs.Reading.{Reading}
 use Rattle.salt_stands.specs.Stands.{stands_on, logs_of}
 use Rattle.salt_values.specs.declared.change.Change.{Change}
 use Rattle.salt_place.specs.declared.placement.Shape.{Shape}
-use Rattle.std.specs.Prelude.{List, None, Ok, Option, Some, [], nat_le, true, ℕ, ⊤, ◌+◌, ◌<◌, ◌∷◌, ◌≡◌, ◌≢◌, ◌⊎◌}
+use Rattle.std.specs.Prelude.{List, Ok, Option, Some, [], nat_le, true, ℕ, ◌+◌, ◌<◌, ◌∷◌, ◌≡◌, ◌≢◌, ◌⊎◌}
 
 -- nothing is pending on the sides that are named: each image has the bytes there that a read gives
 abbrev pub NamedSettled : List ℕ → View → ℕ → Type 0
@@ -69,8 +68,4 @@ pub record IsBehind (d : View) (p other : ℕ) (writes : List Write) (header : L
 
 -- `Full` comes only where pages pass the limit of their device, or the header that of the other log's
 abbrev pub FullAt : View → (pages other : ℕ) → List Write → (header : ℕ) → Option DiskErr → Type 0
-FullAt d pages other writes header None = ⊤
-FullAt d pages other writes header (Some Failed) = ⊤
-FullAt d pages other writes header (Some Stopped) = ⊤
-FullAt d pages other writes header (Some Memory) = ⊤
-FullAt d pages other writes header (Some (Full dev)) = ((dev ≡ pages) × (d.limit dev < writes_end writes)) ⊎ ((dev ≡ other) × (d.limit dev < 10 + header))
+FullAt d pages other writes header answer = FullWhere (λ dev. ((dev ≡ pages) × (d.limit dev < writes_end writes)) ⊎ ((dev ≡ other) × (d.limit dev < 10 + header))) answer

@@ -9,8 +9,7 @@ use Rattle.salt_gatelog.specs.declared.unopened.OpenErr.{OpenErr}
 use Rattle.salt_decisions.specs.declared.decisions.Decisions.{Decisions}
 use Rattle.salt_decisions.specs.declared.header_payload.TheConstants.{FORMAT}
 use Rattle.salt_decisions.specs.declared.kept.Kept.{Kept}
-use Rattle.salt_disk.specs.Disks.{OnlyFails, View}
-use Rattle.salt_disk.specs.declared.disks.DiskErr.TheVariants as disk
+use Rattle.salt_disk.specs.Disks.{FullWhere, OnlyFails, View}
 use Rattle.salt_disk.specs.declared.disks.DiskErr.{DiskErr}
 use Rattle.salt_gatelog.specs.declared.pair.PairErr.TheVariants as peek
 use Rattle.salt_gatelog.specs.declared.pair.PairErr.{PairErr}
@@ -107,8 +106,4 @@ IsBlankImage bytes = entries_in bytes ≡ Some []
 
 -- `Full` comes only where log B is created there and its byte passes the limit, or the header in log A does
 abbrev pub FullAtFirst : View → (payload : List ℕ) → Option DiskErr → Type 0
-FullAtFirst d payload None = ⊤
-FullAtFirst d payload (Some disk.Failed) = ⊤
-FullAtFirst d payload (Some disk.Stopped) = ⊤
-FullAtFirst d payload (Some (disk.Full dev)) = ((dev ≡ 1) × IsCreated (d.bytes 1) × (d.limit 1 < 1)) ⊎ ((dev ≡ 0) × (d.limit 0 < 10 + length payload))
-FullAtFirst d payload (Some disk.Memory) = ⊤
+FullAtFirst d payload answer = FullWhere (λ dev. ((dev ≡ 1) × IsCreated (d.bytes 1) × (d.limit 1 < 1)) ⊎ ((dev ≡ 0) × (d.limit 0 < 10 + length payload))) answer

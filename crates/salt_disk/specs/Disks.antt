@@ -107,6 +107,11 @@ abbrev pub FullOnly : ℕ → ℕ → ℕ → Option DiskErr → Type 0
 FullOnly dev limit end (Some (Full n)) = (n ≡ dev) × (limit < end)
 FullOnly dev limit end answer = Unit {0}
 
+-- `Full` comes only of such a device.
+abbrev pub FullWhere : (ℕ → Type 0) → Option DiskErr → Type 0
+FullWhere P (Some (Full dev)) = P dev
+FullWhere P answer = Unit {0}
+
 abbrev pub NeverFull : Option DiskErr → Type 0
 NeverFull (Some (Full n)) = ⊥
 NeverFull answer = Unit {0}

@@ -5,7 +5,7 @@ use Rattle.salt_disk.specs.declared.disks.DiskErr.TheVariants.{Failed, Full, Mem
 use Rattle.salt_disk.specs.declared.disks.DiskErr.{DiskErr}
 use Rattle.salt_gatelog.specs.declared.pair.PairErr.TheVariants as pair
 use Rattle.salt_gatelog.specs.declared.pair.PairErr.{PairErr}
-use Rattle.std.specs.Prelude.{Err, None, Ok, Option, Result, Some}
+use Rattle.std.specs.Prelude.{Err, None, Ok, Option, Result, Some, ⊤}
 
 abbrev pub open_err_of : DiskErr → OpenErr
 open_err_of Failed = opening.Failed
@@ -31,3 +31,10 @@ open_disk_err_of (opening.NumbersSpent boot decisions) = None
 abbrev pub open_disk_err : {T : Type 0} → Result T OpenErr → Option DiskErr
 open_disk_err (Ok x) = None
 open_disk_err (Err e) = open_disk_err_of e
+
+-- an opening refuses what it has come upon
+abbrev pub IsRefusal : OpenErr → Type 0
+IsRefusal (opening.NotSalt dev) = ⊤
+IsRefusal (opening.OtherShape kept asked) = ⊤
+IsRefusal (opening.NumbersSpent boot decisions) = ⊤
+IsRefusal e = ⊥

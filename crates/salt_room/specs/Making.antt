@@ -8,8 +8,7 @@ use Rattle.salt_checkpoint.specs.Checkpoints.{StandsAlways}
 use Rattle.salt_decisions.specs.Decisions.{conts_in, count_in, format_of, next_header, numbers_in, shape_of}
 use Rattle.salt_decisions.specs.declared.decisions.Decisions.{Decisions}
 use Rattle.salt_decisions.specs.declared.header_payload.TheConstants.{FORMAT}
-use Rattle.salt_disk.specs.Disks.{HasCause, KeepsBut, View}
-use Rattle.salt_disk.specs.declared.disks.DiskErr.TheVariants.{Failed, Full, Memory, Stopped}
+use Rattle.salt_disk.specs.Disks.{FullWhere, HasCause, KeepsBut, View}
 use Rattle.salt_disk.specs.declared.disks.DiskErr.{DiskErr}
 use Rattle.salt_model.specs.Kept.{Definition}
 use Rattle.salt_paged.specs.Checkpoints.{header_end}
@@ -26,7 +25,7 @@ use Rattle.salt_stands.specs.Pieces.{PartView, other_log}
 use Rattle.salt_stands.specs.Reading.{Reading}
 use Rattle.salt_stands.specs.Stands.{logs_of}
 use Rattle.salt_values.specs.declared.change.Change.{Change}
-use Rattle.std.specs.Prelude.{IsTrue, List, None, Option, Some, length, slice_get, ℕ, ⊤, ◌+◌, ◌<◌, ◌≡◌, ◌≤◌, ◌⊎◌}
+use Rattle.std.specs.Prelude.{IsTrue, List, None, Option, Some, length, slice_get, ℕ, ◌+◌, ◌<◌, ◌≡◌, ◌≤◌, ◌⊎◌}
 
 -- how many entries the coordinator's log may have behind its header before it is begun anew
 abbrev pub most_entries : ℕ
@@ -90,11 +89,7 @@ abbrev pub RoomPassesLimit : View → Decisions → List Partition → List (Lis
 RoomPassesLimit d x parts shares dev = RenewalPassesLimit d x parts dev ⊎ ShareRoomPassesLimit d parts shares dev
 
 abbrev pub FullAtRoom : View → Decisions → List Partition → List (List Change) → Option DiskErr → Type 0
-FullAtRoom d x parts shares None = ⊤
-FullAtRoom d x parts shares (Some Failed) = ⊤
-FullAtRoom d x parts shares (Some Stopped) = ⊤
-FullAtRoom d x parts shares (Some Memory) = ⊤
-FullAtRoom d x parts shares (Some (Full dev)) = RoomPassesLimit d x parts shares dev
+FullAtRoom d x parts shares answer = FullWhere (RoomPassesLimit d x parts shares) answer
 
 -- WHAT MAKING ROOM DOES for a unit with these shares: behind Ok the store goes on in another generation; whatever is answered, each image
 -- stands for what stood before

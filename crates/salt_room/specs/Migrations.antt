@@ -5,8 +5,7 @@ use Rattle.salt_bytes.specs.Generations.{WhichLog}
 use Rattle.salt_decisions.specs.Decisions.{numbers_in, shape_of}
 use Rattle.salt_decisions.specs.declared.decisions.Decisions.{Decisions}
 use Rattle.salt_decisions.specs.declared.header_payload.TheConstants.{FORMAT}
-use Rattle.salt_disk.specs.Disks.{HasCause, IsImage, KeepsBut, View}
-use Rattle.salt_disk.specs.declared.disks.DiskErr.TheVariants.{Failed, Full, Memory, Stopped}
+use Rattle.salt_disk.specs.Disks.{FullWhere, HasCause, IsImage, KeepsBut, View}
 use Rattle.salt_disk.specs.declared.disks.DiskErr.{DiskErr}
 use Rattle.salt_model.specs.Kept.{Definition}
 use Rattle.salt_paged.specs.declared.partition.Partition.{Partition}
@@ -19,7 +18,7 @@ use Rattle.salt_stands.specs.Partition.{is_format_under}
 use Rattle.salt_stands.specs.Pieces.{PartView}
 use Rattle.salt_stands.specs.Reading.{Reading}
 use Rattle.salt_stands.specs.Stands.{stands_on}
-use Rattle.std.specs.Prelude.{IsTrue, List, None, Ok, Option, Some, length, true, ℕ, ⊤, ◌<◌, ◌≡◌, ◌≢◌, ◌⊎◌}
+use Rattle.std.specs.Prelude.{IsTrue, List, None, Ok, Option, length, true, ℕ, ◌<◌, ◌≡◌, ◌≢◌, ◌⊎◌}
 
 -- each partition has a format that goes under the coordinator's
 abbrev pub GoUnder : Coordinator Definition → (ℕ → PartView) → Type 0
@@ -45,11 +44,7 @@ pub record MigrationPassesLimit (d : View) (x : Decisions) (parts : List Partiti
   pub older : renewal.log.header.format ≢ FORMAT
 
 abbrev pub FullAtMigration : View → Decisions → List Partition → Option DiskErr → Type 0
-FullAtMigration d x parts None = ⊤
-FullAtMigration d x parts (Some Failed) = ⊤
-FullAtMigration d x parts (Some Stopped) = ⊤
-FullAtMigration d x parts (Some Memory) = ⊤
-FullAtMigration d x parts (Some (Full dev)) = MigrationPassesLimit d x parts dev
+FullAtMigration d x parts answer = FullWhere (MigrationPassesLimit d x parts) answer
 
 -- WHAT A MIGRATION DOES
 pub record Migrates (d e : View) (x y : Decisions) (parts now : List Partition) (answer : Option DiskErr) : Type 0 where

@@ -3,8 +3,7 @@ use Rattle.law_generations.specs.AsIf.{IsAsIf}
 use Rattle.salt_bytes.specs.Generations.{WhichLog}
 use Rattle.salt_decisions.specs.Decisions.{IsDecisions, snapshot_payload, snapshotted}
 use Rattle.salt_decisions.specs.declared.decisions.Decisions.{Decisions}
-use Rattle.salt_disk.specs.Disks.{View}
-use Rattle.salt_disk.specs.declared.disks.DiskErr.TheVariants.{Failed, Full, Memory, Stopped}
+use Rattle.salt_disk.specs.Disks.{FullWhere, View}
 use Rattle.salt_disk.specs.declared.disks.DiskErr.{DiskErr}
 use Rattle.salt_model.specs.Kept.{Definition}
 use Rattle.salt_paged.specs.declared.partition.Partition.{Partition}
@@ -15,7 +14,7 @@ use Rattle.salt_stands.specs.LogDevices.{IsCoordinatorLog}
 use Rattle.salt_stands.specs.Pieces.{PartView, other_log}
 use Rattle.salt_stands.specs.Reading.{Reading}
 use Rattle.salt_values.specs.declared.cont.Cont.{Cont}
-use Rattle.std.specs.Prelude.{List, None, Option, Some, [], length, ℕ, ⊤, ◌+◌, ◌<◌, ◌≡◌, ◌⊎◌}
+use Rattle.std.specs.Prelude.{List, Option, [], length, ℕ, ◌+◌, ◌<◌, ◌≡◌, ◌⊎◌}
 
 -- the coordinator's log and the partitions under it are a store's
 pub record IsStoreOf (r : Reading Definition) (d : View) (x : Decisions) (parts : List Partition) (which : WhichLog) (c : Coordinator Definition) (v : ℕ → PartView) : Type 0 where
@@ -48,8 +47,4 @@ pub record IsRenewed (r : Reading Definition) (d : View) (x : Decisions) (parts 
 
 -- `Full` comes only where a partition is too long for its devices, or the coordinator's next header for that of its other log
 abbrev pub FullAtRenewal : View → Decisions → List Partition → WhichLog → Option DiskErr → Type 0
-FullAtRenewal d x parts which None = ⊤
-FullAtRenewal d x parts which (Some Failed) = ⊤
-FullAtRenewal d x parts which (Some Stopped) = ⊤
-FullAtRenewal d x parts which (Some Memory) = ⊤
-FullAtRenewal d x parts which (Some (Full dev)) = IsTooLong d parts dev ⊎ ((dev ≡ device_of 0 (other_log which)) × (d.limit dev < 10 + length (snapshot_payload x)))
+FullAtRenewal d x parts which answer = FullWhere (λ dev. IsTooLong d parts dev ⊎ ((dev ≡ device_of 0 (other_log which)) × (d.limit dev < 10 + length (snapshot_payload x)))) answer

@@ -3,8 +3,8 @@ use Rattle.law_generations.specs.AsIf.{IsAsIf}
 use Rattle.salt_bytes.specs.Formats.{has_nulls}
 use Rattle.salt_bytes.specs.Generations.{WhichLog}
 use Rattle.salt_checkpoint.specs.Checkpoints.{IsReady}
-use Rattle.salt_disk.specs.Disks.{View}
-use Rattle.salt_disk.specs.declared.disks.DiskErr.TheVariants.{Failed, Full, Memory, Stopped}
+use Rattle.salt_disk.specs.Disks.{FullWhere, View}
+use Rattle.salt_disk.specs.declared.disks.DiskErr.TheVariants.{Full}
 use Rattle.salt_disk.specs.declared.disks.DiskErr.{DiskErr}
 use Rattle.salt_paged.specs.Checkpoints.{FullAtCheckpoint}
 use Rattle.salt_paged.specs.Partitions.{IsPartition, page_count, unit_count}
@@ -17,7 +17,7 @@ use Rattle.salt_stands.specs.Pieces.{PartView}
 use Rattle.salt_stands.specs.Reading.{Reading}
 use Rattle.salt_values.specs.declared.change.Change.{Change}
 use Rattle.salt_values.specs.declared.id.Id.{Id}
-use Rattle.std.specs.Prelude.{IfSome, IsTrue, List, None, Option, Some, [], length, slice_get, true, ℕ, ⊤, ◌<◌, ◌≡◌, ◌⊎◌, ◌∷◌}
+use Rattle.std.specs.Prelude.{IfSome, IsTrue, List, Option, Some, [], length, slice_get, true, ℕ, ◌<◌, ◌≡◌, ◌⊎◌, ◌∷◌}
 
 -- The partitions of a store stand on the devices, with the units that are decided applied; where the devices tell, the store is ready.
 pub record ArePartsOf {D : Type 0} (r : Reading D) (d : View) (parts : List Partition) (which : WhichLog) (c : Coordinator D) (v : ℕ → PartView) : Type 0 where
@@ -68,11 +68,7 @@ pub record IsTooLong (d : View) (parts : List Partition) (dev : ℕ) : Type 0 wh
   pub full : FullAtCheckpoint d part (Some (Full dev))
 
 abbrev pub FullAtOne : View → List Partition → Option DiskErr → Type 0
-FullAtOne d parts None = ⊤
-FullAtOne d parts (Some Failed) = ⊤
-FullAtOne d parts (Some Stopped) = ⊤
-FullAtOne d parts (Some Memory) = ⊤
-FullAtOne d parts (Some (Full dev)) = IsTooLong d parts dev
+FullAtOne d parts answer = FullWhere (IsTooLong d parts) answer
 
 -- and it has one of these shares, which is not empty
 pub record IsTooLongForShare (d : View) (parts : List Partition) (shares : List (List Change)) (dev : ℕ) : Type 0 where
@@ -82,11 +78,7 @@ pub record IsTooLongForShare (d : View) (parts : List Partition) (shares : List 
   pub some : 0 < length share
 
 abbrev pub FullAtShare : View → List Partition → List (List Change) → Option DiskErr → Type 0
-FullAtShare d parts shares None = ⊤
-FullAtShare d parts shares (Some Failed) = ⊤
-FullAtShare d parts shares (Some Stopped) = ⊤
-FullAtShare d parts shares (Some Memory) = ⊤
-FullAtShare d parts shares (Some (Full dev)) = IsTooLongForShare d parts shares dev
+FullAtShare d parts shares answer = FullWhere (IsTooLongForShare d parts shares) answer
 
 -- each has as many pages as it had
 pub record HaveSamePages (old new : List Partition) : Type 0 where

@@ -4,7 +4,7 @@ use Rattle.salt_checkpoint.proofs.Torn.{keeps_all, keeps_more}
 use Rattle.salt_checkpoint.specs.Sides.{KeepsNamed}
 use Rattle.salt_directory.specs.Bytes.{IsWithin, bytes_of_changes, bytes_of_entries}
 use Rattle.salt_disk.proofs.CallAfterCall.{cause_none, cause_on, keeps_on, keeps_wider, same_shape}
-use Rattle.salt_disk.specs.Disks.{FullOnly, HasCause, KeepsBut, View}
+use Rattle.salt_disk.specs.Disks.{FullOnly, FullWhere, HasCause, KeepsBut, View}
 use Rattle.salt_disk.specs.declared.disks.DiskErr.TheVariants.{Failed, Full, Memory, Stopped}
 use Rattle.salt_disk.specs.declared.disks.DiskErr.{DiskErr}
 use Rattle.salt_paged.proofs.Framed.{partition_kept}
@@ -14,7 +14,6 @@ use Rattle.salt_partition.specs.Partitions.{IsPreparedLast}
 use Rattle.salt_room.proofs.Lists.{if_each, if_some, set_other, set_same}
 use Rattle.salt_shares.proofs.Sharing.{full_maps, less_or}
 use Rattle.salt_shares.specs.Applies.{AreSharesLast, IsPagesOfShares, IsShareLast, IsSharePages, OnePagesPassLimit, PagesPassLimit, applied_with_shares, pages_with}
-use Rattle.salt_shares.specs.Prepares.{FullWhere}
 use Rattle.salt_shares.specs.Shares.{applied_with, has_changes, share_at}
 use Rattle.salt_stands.specs.Partition.{pages_device, part_device, part_tables}
 use Rattle.salt_stands.specs.Pieces.{PartView}

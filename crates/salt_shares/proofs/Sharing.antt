@@ -5,7 +5,7 @@ use Rattle.salt_bytes.specs.Partition.{spell_prepared}
 use Rattle.salt_decisions.proofs.Contents.{log_bytes}
 use Rattle.salt_decisions.specs.Decisions.{IsBeforeOrWith}
 use Rattle.salt_disk.proofs.CallAfterCall.{cause_none, cause_on, each_shrinks, keeps_on, keeps_wider, kept_on, same_shape}
-use Rattle.salt_disk.specs.Disks.{EachImage, HasCause, IsUnchanged, KeepsBut, View}
+use Rattle.salt_disk.specs.Disks.{EachImage, FullWhere, HasCause, IsUnchanged, KeepsBut, View}
 use Rattle.salt_disk.specs.declared.disks.DiskErr.TheVariants.{Failed, Full, Memory, Stopped}
 use Rattle.salt_disk.specs.declared.disks.DiskErr.{DiskErr}
 use Rattle.salt_gatelog.specs.Log as gates
@@ -14,7 +14,7 @@ use Rattle.salt_paged.specs.Partitions.{ArePartitions, IsPartition, log_device}
 use Rattle.salt_paged.specs.declared.partition.Partition.{Partition}
 use Rattle.salt_partition.specs.Partitions.{prepared}
 use Rattle.salt_room.proofs.Lists.{if_each, if_some, set_other, set_same, some_at}
-use Rattle.salt_shares.specs.Prepares.{FullWhere, IsLogOfShares, IsShareLog, MayPrepareEach, OnePassesLimit, PassesLimit, with_shares}
+use Rattle.salt_shares.specs.Prepares.{IsLogOfShares, IsShareLog, MayPrepareEach, OnePassesLimit, PassesLimit, with_shares}
 use Rattle.salt_shares.specs.Shares.{MayPrepareShare, share_at, with_share}
 use Rattle.salt_stands.specs.Coordinator.{device_of}
 use Rattle.salt_stands.specs.Partition.{pages_device, part_device}

@@ -1,8 +1,6 @@
 -- A unit's shares in all partitions: what preparing them needs, what it touches, and what it makes.
 use Rattle.salt_bytes.specs.Partition.{spell_prepared}
 use Rattle.salt_disk.specs.Disks.{View}
-use Rattle.salt_disk.specs.declared.disks.DiskErr.TheVariants.{Failed, Full, Memory, Stopped}
-use Rattle.salt_disk.specs.declared.disks.DiskErr.{DiskErr}
 use Rattle.salt_paged.specs.Partitions.{ArePartitions, IsPartition, log_device, log_gate}
 use Rattle.salt_paged.specs.declared.partition.Partition.{Partition}
 use Rattle.salt_partition.specs.Partitions.{prepared}
@@ -10,7 +8,7 @@ use Rattle.salt_shares.specs.Shares.{MayPrepareShare, has_changes, share_at, wit
 use Rattle.salt_stands.specs.Pieces.{PartView}
 use Rattle.salt_values.specs.declared.change.Change.{Change}
 use Rattle.salt_values.specs.declared.id.Id.{Id}
-use Rattle.std.specs.Prelude.{List, None, Option, Some, length, slice_get, true, ℕ, ⊤, ◌+◌, ◌<◌, ◌≡◌}
+use Rattle.std.specs.Prelude.{List, Some, length, slice_get, true, ℕ, ◌+◌, ◌<◌, ◌≡◌}
 
 -- ONE PARTITION
 
@@ -31,14 +29,6 @@ pub record IsShareLog (x : Partition) (cs : List Change) (dev : ℕ) : Type 0 wh
 pub record PassesLimit (limit : ℕ → ℕ) (x : Partition) (u : Id) (cs : List Change) (dev : ℕ) : Type 0 where
   pub log : IsShareLog x cs dev
   pub over : limit dev < log_gate x + 10 + length (spell_prepared (prepared u cs))
-
--- `Full` comes only of such a device
-abbrev pub FullWhere : (ℕ → Type 0) → Option DiskErr → Type 0
-FullWhere P None = ⊤
-FullWhere P (Some Failed) = ⊤
-FullWhere P (Some Stopped) = ⊤
-FullWhere P (Some (Full dev)) = P dev
-FullWhere P (Some Memory) = ⊤
 
 -- ALL PARTITIONS
 

@@ -3,11 +3,10 @@
 ghost use Rattle.salt_bytes.specs.Generations.{WhichLog};
 ghost use Rattle.salt_checkpoint.specs.Checkpoints.{IsReady, StandsAlways};
 ghost use Rattle.salt_checkpoint.specs.Sides.{KeepsNamed};
-ghost use Rattle.salt_disk.specs.Disks.{HasCause, KeepsBut};
+ghost use Rattle.salt_disk.specs.Disks.{FullWhere, HasCause, KeepsBut};
 ghost use Rattle.salt_model.specs.Kept.{Definition};
 ghost use Rattle.salt_paged.specs.Partitions.{ArePartitions, IsPartition, pages_of};
 ghost use Rattle.salt_shares.specs.Applies.{AreSharesLast, IsPagesOfShares, IsShareLast, IsSharePages, OnePagesPassLimit, PagesPassLimit, StandWithShares, StandsWithShare, applied_with_shares};
-ghost use Rattle.salt_shares.specs.Prepares.{FullWhere};
 ghost use Rattle.salt_shares.specs.Shares.{applied_with};
 ghost use Rattle.salt_stands.specs.Coordinator.{Coordinator};
 ghost use Rattle.salt_stands.specs.Partition.{pages_device};

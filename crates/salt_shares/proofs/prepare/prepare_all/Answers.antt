@@ -1,9 +1,10 @@
+use Rattle.salt_disk.specs.Disks.{FullWhere}
 use Rattle.salt_bytes.specs.Partition.{spell_prepared}
 use Rattle.salt_partition.specs.Partitions.{prepared}
 use Rattle.salt_shares.proofs.Sharing.{HasPrepared, Prepares, all_done, at_first, full_next, full_untouched, images_next, log_of_shares, one_more, others_all, share_read, this}
 use Rattle.salt_shares.proofs.Undecided.{undecided_stand}
 use Rattle.salt_shares.proofs.prepare.prepare_all.Goals as goal
-use Rattle.salt_shares.specs.Prepares.{FullWhere, PassesLimit}
+use Rattle.salt_shares.specs.Prepares.{PassesLimit}
 use Rattle.salt_shares.specs.Shares.{MayPrepareShare, share_at}
 use Rattle.salt_disk.specs.declared.disks.DiskErr.TheVariants.{Full}
 use Rattle.std.proofs.Common.{Err, None, Some, ap, arith, length, subst, sym, ◌<◌, ◌≡◌}
