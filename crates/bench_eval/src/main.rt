@@ -55,7 +55,7 @@ impl Counts {
         rows: &[Row],
     ) -> Result<(), AllocError> {
         for row in rows {
-            let count = match passes(alloc, filter, row.as_slice()) {
+            let count = match passes(alloc, filter, row) {
                 Ok(true) => &mut self.kept,
                 Ok(false) => &mut self.left_out,
                 Err(EvalErr::Cause(_)) => &mut self.causes,

@@ -164,7 +164,7 @@ impl Table {
     fn kept(&self, bytes: &[u8]) -> Result<Vec<u8>, RowErr> {
         let filter = Some(expr_of(self.alloc, bytes)?);
         let resolved = resolve_filter(self.alloc, self.columns(), self.vars.as_slice(), &filter)?;
-        let kept = passes(self.alloc, &resolved, self.row.as_slice());
+        let kept = passes(self.alloc, &resolved, &self.row);
         Ok(bool_words(self.alloc, kept)?)
     }
 
@@ -179,7 +179,7 @@ impl Table {
     fn expression(&self, bytes: &[u8]) -> Result<Vec<u8>, RowErr> {
         let expr = expr_of(self.alloc, bytes)?;
         let resolved = resolve(self.alloc, self.columns(), self.vars.as_slice(), &expr)?;
-        let words = given_words(self.alloc, &expr, &resolved, self.row.as_slice())?;
+        let words = given_words(self.alloc, &expr, &resolved, &self.row)?;
         Ok(words)
     }
 

@@ -3,7 +3,7 @@
 use salt_ast::{Expr, Op};
 use salt_exprs::{EvalErr, Resolved, Truth};
 use salt_model::Cause;
-use salt_values::Value;
+use salt_values::{Row, Value};
 use std::alloc::{AllocError, Global};
 
 fn add_text(out: &mut Vec<u8>, text: &[u8]) -> Result<(), AllocError> {
@@ -97,7 +97,7 @@ pub fn given_words(
     alloc: Global,
     expr: &Expr,
     resolved: &Resolved<'_>,
-    row: &[Value],
+    row: &Row,
 ) -> Result<Vec<u8>, AllocError> {
     if is_condition(expr) {
         return match resolved.truth(alloc, row) {

@@ -5,6 +5,7 @@ ghost use Rattle.salt_exprs.specs.Operands.{TellsMeaning, passing, same};
 ghost use Rattle.salt_exprs.specs.Resolving.{ResolvesFilter, resolved_passes, visible};
 ghost use Rattle.salt_model.specs.Statements.{checked};
 
+use crate::cells::Cells;
 use crate::error::EvalErr;
 use crate::in_row::truth_in_row;
 use crate::resolved::{Resolved, resolve};
@@ -29,8 +30,12 @@ pub fn resolve_filter<'a>(
 }
 
 /// Whether a filter, if there is one, is true of a row, and neither false nor unknown; or its first cause.
-pub fn passes(alloc: Global, filter: &Option<Resolved<'_>>, row: &[Value]) -> Result<bool, EvalErr>
-    ensures { TellsMeaning same (resolved_passes row.now filter.now) result }
+pub fn passes<R: Cells>(
+    alloc: Global,
+    filter: &Option<Resolved<'_>>,
+    row: &R,
+) -> Result<bool, EvalErr>
+    ensures { TellsMeaning same (resolved_passes (R.cells row.now) filter.now) result }
 {
     match filter {
         Some(filter) => filter.holds(alloc, row),

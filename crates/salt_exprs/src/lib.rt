@@ -1,6 +1,7 @@
 //! Expressions whose names are found once, and what they give of each row.
 #![tactic(auto)]
 
+mod cells;
 mod conditions;
 mod error;
 mod in_row;
@@ -12,9 +13,11 @@ mod resolved;
 mod sets;
 mod truth;
 
+pub use cells::Cells;
 pub use conditions::{check, passes, resolve_filter};
 pub use error::EvalErr;
 pub use names::{cell, column_number};
+pub use operand::{Operand, in_column};
 pub use outside::{condition_outside, value_outside, values_outside};
 pub use resolved::{Resolved, resolve};
 pub use sets::row_after;

@@ -5,9 +5,10 @@ ghost use Rattle.salt_exprs.specs.Operands.{TellsMeaning, datum_of, same, truth_
 ghost use Rattle.salt_exprs.specs.Resolving.{Resolves, eval_resolved, negation, null_test, operation, resolved_holds, resolved_truth, resolved_value};
 ghost use Rattle.salt_ast.specs.declared.trees.Expr.{Column, Variable};
 
+use crate::cells::Cells;
 use crate::error::EvalErr;
 use crate::names::{column_number, variable_value};
-use crate::operand::{Operand, in_column, mistyped, negated, null_tested};
+use crate::operand::{Operand, mistyped, negated, null_tested};
 use crate::operations::{is_decided, operate};
 use crate::truth::Truth;
 use salt_ast::{Expr, Field, Op};
@@ -39,12 +40,12 @@ pub enum Resolved<'a> {
 }
 
 impl<'a> Resolved<'a> {
-    fn operand<'r>(&'r self, alloc: Global, row: &'r [Value]) -> Result<Operand<'r>, EvalErr>
-        ensures { TellsMeaning datum_of (eval_resolved row.now self.now) result }
+    fn operand<'r, R: Cells>(&'r self, alloc: Global, row: &'r R) -> Result<Operand<'r>, EvalErr>
+        ensures { TellsMeaning datum_of (eval_resolved (R.cells row.now) self.now) result }
     {
         match self {
             Resolved::Given(value) => Ok(Operand::Lent(value)),
-            Resolved::Column(number) => Ok(in_column(row, *number)),
+            Resolved::Column(number) => Ok(row.operand(alloc, *number)?),
             Resolved::Unknown => Ok(mistyped()),
             Resolved::Not(of) => {
                 let of = of.get().operand(alloc, row)?;
@@ -69,8 +70,8 @@ impl<'a> Resolved<'a> {
     }
 
     /// Its value in a row, or the first cause from left to right.
-    pub fn value(&self, alloc: Global, row: &[Value]) -> Result<Value, EvalErr>
-        ensures { TellsMeaning same (resolved_value row.now self.now) result }
+    pub fn value<R: Cells>(&self, alloc: Global, row: &R) -> Result<Value, EvalErr>
+        ensures { TellsMeaning same (resolved_value (R.cells row.now) self.now) result }
     {
         match self.operand(alloc, row)? {
             Operand::Lent(value) => Ok(value.copy(alloc)?),
@@ -80,8 +81,8 @@ impl<'a> Resolved<'a> {
     }
 
     /// Its truth value in a row, or the first cause from left to right.
-    pub fn truth(&self, alloc: Global, row: &[Value]) -> Result<Truth, EvalErr>
-        ensures { TellsMeaning truth_meant (resolved_truth row.now self.now) result }
+    pub fn truth<R: Cells>(&self, alloc: Global, row: &R) -> Result<Truth, EvalErr>
+        ensures { TellsMeaning truth_meant (resolved_truth (R.cells row.now) self.now) result }
     {
         match self.operand(alloc, row)? {
             Operand::Holds(truth) => Ok(truth),
@@ -91,8 +92,8 @@ impl<'a> Resolved<'a> {
     }
 
     /// Whether it is true in a row, and neither false nor unknown, or the first cause from left to right.
-    pub fn holds(&self, alloc: Global, row: &[Value]) -> Result<bool, EvalErr>
-        ensures { TellsMeaning same (resolved_holds row.now self.now) result }
+    pub fn holds<R: Cells>(&self, alloc: Global, row: &R) -> Result<bool, EvalErr>
+        ensures { TellsMeaning same (resolved_holds (R.cells row.now) self.now) result }
     {
         Ok(self.truth(alloc, row)?.is_yes())
     }
