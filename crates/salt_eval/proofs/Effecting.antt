@@ -11,10 +11,10 @@ use Rattle.salt_eval.proofs.Points.{filter-alike, point-rows}
 use Rattle.salt_eval.proofs.Selecting.{ShownBy, then-then}
 use Rattle.salt_eval.specs.Effects.{effect_of, ensured, table_effect}
 use Rattle.salt_eval.specs.Filtered.{filtered, kept_by}
-use Rattle.salt_eval.specs.Scans.{GivesMeant, IsKeyed, gathered, range_rows, row_list, statement_err}
+use Rattle.salt_eval.specs.Scans.{GivesMeant, IsKeyed, gathered, row_list, statement_err}
 use Rattle.salt_eval.specs.Selects.{shown_of}
 use Rattle.salt_eval.specs.Updating.{with_change, with_update}
-use Rattle.salt_eval.specs.Views.{is_next, rows_after}
+use Rattle.salt_eval.specs.Views.{is_next, range_rows, rows_after}
 use Rattle.salt_eval.specs.declared.changed.Removals.{Removals}
 use Rattle.salt_eval.specs.declared.changed.Updates.{Updates}
 use Rattle.salt_eval.specs.declared.error.StatementErr.{StatementErr}

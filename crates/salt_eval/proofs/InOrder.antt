@@ -49,7 +49,7 @@ module _ {K X : Type 0} (R : K → K → Ordering) where
     if_passes (Some e) = cond (p e.0) (Some e) None
 
     module _ (narrower : (x : K) → p x ≡ true → q x ≡ true) (falls : (x y : K) → R x y ≡ Less → q x ≡ true → p y ≡ true → p x ≡ true) where
-      none : (e : K × X) → q e.0 ≡ true → p e.0 ≡ false → (es : List (K × X)) → T (below_all R e.0 es) → filter (λ f. p f.0) es ≡ []
+      pub none : (e : K × X) → q e.0 ≡ true → p e.0 ≡ false → (es : List (K × X)) → T (below_all R e.0 es) → filter (λ f. p f.0) es ≡ []
       none e qe pe [] h = refl
       none e qe pe (f ∷ es) h = by (p f.0) refl (none e qe pe es (parted _ _ h).1)
         where

@@ -1,6 +1,7 @@
+pub mod CellsIn
 pub mod Attempts
 pub mod Collected
-pub mod Cursors
+pub mod Comings
 pub mod Effecting
 pub mod Framing
 pub mod InOrder

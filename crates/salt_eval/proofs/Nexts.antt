@@ -138,13 +138,13 @@ starts t (Some l) (Some a) x h = by (is_gt (value_cmp l a)) refl
         (λ both. le_is (value_cmp l k) ∙ (both_true (not (is_gt (value_cmp l k))) _ both).0)
 
 module _ (t : ℕ) (range : KeyRange) (after : Option Value) where
-  abbrev from : Place → Bool
+  abbrev pub from : Place → Bool
   from x = range_contains place_cmp (start_of t range.lo after) Unbounded x
 
   in_parts : (x : Place) → (t == x.table) ≡ true → is_above_low range.lo x.key ≡ true → is_below_high range.hi x.key ≡ true → is_behind after x.key ≡ true → is_next t range after x ≡ true
   in_parts x a b c d = rw (a, b, c, d) refl
 
-  narrower : (x : Place) → is_next t range after x ≡ true → from x ≡ true
+  pub narrower : (x : Place) → is_next t range after x ≡ true → from x ≡ true
   narrower x h =
       let p = both_true ((t == x.table) && has_key range x.key) (is_behind after x.key) h in
       let q = both_true (t == x.table) (has_key range x.key) p.0 in
@@ -154,14 +154,14 @@ module _ (t : ℕ) (range : KeyRange) (after : Option Value) where
       both_are : (a b : Bool) → a ≡ true → b ≡ true → (a && b) ≡ true
       both_are a b e f = rw (e, f) refl
 
-  from_start : (x : Place) → from x ≡ true → is_from_start place_cmp (start_of t range.lo after) x ≡ true
+  pub from_start : (x : Place) → from x ≡ true → is_from_start place_cmp (start_of t range.lo after) x ≡ true
   from_start x h = sym (and_true _) ∙ h
 
   pub below_end : (hi : Option Value) (k l : Value) → value_cmp k l ≡ Less → is_below_high hi l ≡ true → is_below_high hi k ≡ true
   below_end None k l less h = refl
   below_end (Some high) k l less h = ap not (upto value_total k l high (not_above _ (ap is_lt less)) (un _ h))
 
-  falls : (x y : Place) → place_cmp x y ≡ Less → from x ≡ true → is_next t range after y ≡ true → is_next t range after x ≡ true
+  pub falls : (x y : Place) → place_cmp x y ≡ Less → from x ≡ true → is_next t range after y ≡ true → is_next t range after x ≡ true
   falls x y less begun h =
       let p = both_true ((t == y.table) && has_key range y.key) (is_behind after y.key) h in
       let q = both_true (t == y.table) (has_key range y.key) p.0 in
@@ -176,7 +176,7 @@ module _ (t : ℕ) (range : KeyRange) (after : Option Value) where
       in_parts x table s.0 (below_end range.hi x.key y.key keys r.1) s.1
 
   -- what is from the start on is next where it is in the table and the range
-  next_is : (x : Place) → from x ≡ true → is_next t range after x ≡ ((t == x.table) && has_key range x.key)
+  pub next_is : (x : Place) → from x ≡ true → is_next t range after x ≡ ((t == x.table) && has_key range x.key)
   next_is x begun = by (t == x.table) refl
     where
       by : (b : Bool) → (t == x.table) ≡ b → ((b && has_key range x.key) && is_behind after x.key) ≡ (b && has_key range x.key)

@@ -1,8 +1,8 @@
 -- The rows of a range of one key.
 use Rattle.salt_eval.proofs.InOrder.{less_is, parted}
 use Rattle.salt_eval.proofs.Nexts.{and_true, same_table}
-use Rattle.salt_eval.specs.Scans.{point_of, range_rows, row_list}
-use Rattle.salt_eval.specs.Views.{is_next, next_row, rows_after}
+use Rattle.salt_eval.specs.Scans.{point_of, row_list}
+use Rattle.salt_eval.specs.Views.{is_next, next_row, range_rows, rows_after}
 use Rattle.salt_model.specs.Tables.{Entry, Tables, place, place_cmp, place_total, row_at}
 use Rattle.salt_model.specs.Words.{first_of_list}
 use Rattle.salt_model.specs.declared.places.Place.{Place}

@@ -16,7 +16,7 @@ use Rattle.std.proofs.lemmas.Bool.{eqb-true}
 use Rattle.std.proofs.lemmas.Cmp.{tied_itself}
 use Rattle.std.specs.FinMap.Entries.{below_all, find, is_sorted, where_key}
 use Rattle.std.specs.Ordering.{eq_by_cmp, is_eq, is_lt, ordering_reverse}
-use Rattle.std.specs.Prelude.{Bool, Err, IfSome, List, None, Ok, Option, Result, Some, [], cond, false, length, map, option_map, refl, true, ℕ, ◌&&◌, ◌==◌, ◌<◌, ◌∷◌, ◌≡◌}
+use Rattle.std.specs.Prelude.{Bool, Err, IfSome, List, None, Ok, Option, Result, Some, [], cond, false, length, option_map, refl, true, ℕ, ◌&&◌, ◌==◌, ◌<◌, ◌∷◌, ◌≡◌}
 use Rattle.std.specs.declared.cmp.Ordering.TheVariants.{Equal, Greater, Less}
 use Rattle.std.specs.declared.cmp.Ordering.{Ordering}
 use lib.Dec.{T}
@@ -134,24 +134,13 @@ module _ (t : ℕ) (range : KeyRange) (after : Option Value) (es : Tables) where
       by [] is = refl
       by (e ∷ rest) is = absurd cc
 
-  pub fewer : (row : List Value) (key : Value) (now : Tables) → Some row ≡ next_row t range after es → IsKeyed es → key ≡ key_of row → now ≡ es → length (rows_after t range (Some key) now) < length (rows_after t range after es)
-  fewer row key now is keyed is_key same =
-      let less : length (rows_after t range (Some (key_of row)) es) < length (rows_after t range after es) = let e = ap (λ (l : List Entry). length l) (rows_after-next row is keyed) in omega arith in
-      subst (λ k. length (rows_after t range (Some k) now) < length (rows_after t range after es)) (sym is_key)
-      (subst (λ (l : Tables). length (rows_after t range (Some (key_of row)) l) < length (rows_after t range after es)) (sym same) less)
+-- with a row, what is gathered of the rows behind it is what is gathered of all
+pub gathered-next : {S : Type 0} (take : S → List Value → Result S Cause) (s left : S) (row : List Value) (rows all : List (List Value)) → all ≡ row ∷ rows → take s row ≡ Ok left → gathered take left rows ≡ gathered take s all
+gathered-next take s left row rows all is takes = sym (ap (gathered take s) is ∙ ap (λ r. and_then r (λ next. gathered take next rows)) takes)
 
-  -- with a row, what is gathered of the rows behind it is what is gathered of all
-  pub gathered-next : {S : Type 0} (take : S → List Value → Result S Cause) (s left : S) (row : List Value) (key : Value) → Some row ≡ next_row t range after es → IsKeyed es → key ≡ key_of row → take s row ≡ Ok left
-      → gathered take left (map (λ (e : Entry). e.1) (rows_after t range (Some key) es)) ≡ gathered take s (map (λ (e : Entry). e.1) (rows_after t range after es))
-  gathered-next take s left row key is keyed is_key takes =
-      ap (λ k. gathered take left (map (λ (e : Entry). e.1) (rows_after t range (Some k) es))) is_key
-      ∙ sym (ap (λ (l : List Entry). gathered take s (map (λ (e : Entry). e.1) l)) (rows_after-next row is keyed) ∙ ap (λ r. and_then r (λ next. gathered take next (map (λ (e : Entry). e.1) (rows_after t range (Some (key_of row)) es)))) takes)
+-- a row that gives a cause ends it
+pub gathered-cause : {S : Type 0} (take : S → List Value → Result S Cause) (s : S) (row : List Value) (rows all : List (List Value)) (c : Cause) → all ≡ row ∷ rows → take s row ≡ Err c → gathered take s all ≡ Err c
+gathered-cause take s row rows all c is fails = ap (gathered take s) is ∙ ap (λ r. and_then r (λ next. gathered take next rows)) fails
 
-  -- a row that gives a cause ends it
-  pub gathered-cause : {S : Type 0} (take : S → List Value → Result S Cause) (s : S) (row : List Value) (c : Cause) → Some row ≡ next_row t range after es → IsKeyed es → take s row ≡ Err c
-      → gathered take s (map (λ (e : Entry). e.1) (rows_after t range after es)) ≡ Err c
-  gathered-cause take s row c is keyed fails =
-      ap (λ (l : List Entry). gathered take s (map (λ (e : Entry). e.1) l)) (rows_after-next row is keyed) ∙ ap (λ r. and_then r (λ next. gathered take next (map (λ (e : Entry). e.1) (rows_after t range (Some (key_of row)) es)))) fails
-
-  pub gathered-all : {S : Type 0} (take : S → List Value → Result S Cause) (s : S) → None ≡ next_row t range after es → gathered take s (map (λ (e : Entry). e.1) (rows_after t range after es)) ≡ Ok s
-  gathered-all take s is = ap (λ (l : List Entry). gathered take s (map (λ (e : Entry). e.1) l)) (rows_after-none is)
+pub fewer : (row : List Value) (rows all : List (List Value)) → all ≡ row ∷ rows → length rows < length all
+fewer row rows all is = let e = ap (λ (l : List (List Value)). length l) is in omega arith

@@ -7,10 +7,10 @@ use Rattle.salt_eval.proofs.Collected.{gathered-collected, rows-at_keys}
 use Rattle.salt_eval.proofs.Showing.{best-shown, best_in, columns-shown, count-shown, rows-shown, sum-shown}
 use Rattle.salt_eval.specs.Cells.{AreNumbersOf, cell_at, cells_at}
 use Rattle.salt_eval.specs.Filtered.{filtered}
-use Rattle.salt_eval.specs.Scans.{GivesMeant, IsKeyed, LeavesMeant, gathered, range_rows}
+use Rattle.salt_eval.specs.Scans.{GivesMeant, IsKeyed, LeavesMeant, gathered}
 use Rattle.salt_eval.specs.Selects.{Filters, best_what, shown_of, sum_cell}
 use Rattle.salt_eval.specs.Shown.{best_with}
-use Rattle.salt_eval.specs.Views.{rows_after}
+use Rattle.salt_eval.specs.Views.{range_rows, rows_after}
 use Rattle.salt_eval.specs.declared.error.StatementErr.TheVariants.{Cause as Failing, View}
 use Rattle.salt_eval.specs.declared.error.StatementErr.{StatementErr}
 use Rattle.salt_eval.specs.declared.shown.ColumnBest.{ColumnBest}

@@ -1,5 +1,5 @@
 pub mod Cells
-pub mod Cursors
+pub mod Comings
 pub mod Effects
 pub mod Filtered
 pub mod Frames

@@ -1,5 +1,4 @@
 -- Rows of a range, gathered one after another.
-use Rattle.salt_eval.specs.Views.{rows_after}
 use Rattle.salt_exprs.specs.declared.error.EvalErr.TheVariants as eval
 use Rattle.salt_exprs.specs.declared.error.EvalErr.{EvalErr}
 use Rattle.salt_eval.specs.declared.error.StatementErr.TheVariants.{Cause, View}
@@ -14,7 +13,7 @@ use Rattle.salt_model.specs.declared.places.Place.{Place}
 use Rattle.salt_ranges.specs.declared.range.KeyRange.{KeyRange}
 use Rattle.salt_values.specs.Value.{is_same_value, key_of}
 use Rattle.salt_values.specs.declared.value.Value.{Value}
-use Rattle.std.specs.Prelude.{Err, IfSome, List, None, Ok, Option, Result, Some, [], if◌then◌else◌, map, ℕ, ⊤, ◌∷◌, ◌≡◌}
+use Rattle.std.specs.Prelude.{Err, IfSome, List, None, Ok, Option, Result, Some, [], if◌then◌else◌, ℕ, ⊤, ◌∷◌, ◌≡◌}
 
 abbrev pub statement_err : EvalErr → StatementErr
 statement_err (eval.Cause c) = Cause c
@@ -57,10 +56,6 @@ gathered take s (row ∷ rows) = and_then (take s row) (λ next. gathered take n
 -- each row stands at the place of its key
 abbrev pub IsKeyed : Tables → Type 0
 IsKeyed es = (p : Place) → IfSome (row_at p es) (λ row. key_of row ≡ p.key)
-
--- the rows of a table in a range, in order of their keys
-abbrev pub range_rows : ℕ → KeyRange → Tables → List (List Value)
-range_rows t range es = map (λ e. e.1) (rows_after t range None es)
 
 abbrev pub row_list : Option (List Value) → List (List Value)
 row_list None = []

@@ -11,7 +11,7 @@ use Rattle.salt_ranges.specs.declared.range.KeyRange.{KeyRange}
 use Rattle.salt_values.specs.Value.{is_value_below}
 use Rattle.salt_values.specs.declared.value.Value.{Value}
 use Rattle.std.specs.FinMap.Entries.{where_key}
-use Rattle.std.specs.Prelude.{Bool, Err, List, None, Ok, Option, Result, Some, [], if◌then◌else◌, option_map, true, ℕ, ◌&&◌, ◌==◌, ◌∷◌, ◌≡◌}
+use Rattle.std.specs.Prelude.{Bool, Err, List, None, Ok, Option, Result, Some, [], if◌then◌else◌, map, option_map, true, ℕ, ◌&&◌, ◌==◌, ◌∷◌, ◌≡◌}
 use Rattle.std.specs.declared.ops.Bound.TheVariants.{Excluded}
 use Rattle.std.specs.declared.ops.Bound.{Bound}
 
@@ -37,6 +37,18 @@ is_next t range after p = ((t == p.table) && has_key range p.key) && is_behind a
 -- the entries of a table in a range that come behind a key, in order
 abbrev pub rows_after : ℕ → KeyRange → Option Value → Tables → List Entry
 rows_after t range after es = where_key place_cmp (is_next t range after) es.list
+
+-- the rows of a table in a range, in order of their keys
+abbrev pub range_rows : ℕ → KeyRange → Tables → List (List Value)
+range_rows t range es = map (λ e. e.1) (rows_after t range None es)
+
+-- the row, where there is one
+abbrev pub shown_where : Bool → List Value → Option (List Value)
+shown_where found row = if found then Some row else None
+
+-- the row and those behind it, where there is one
+abbrev pub coming_where : Bool → List Value → List (List Value) → List (List Value)
+coming_where more row rows = if more then row ∷ rows else []
 
 abbrev pub next_row : ℕ → KeyRange → Option Value → Tables → Option (List Value)
 next_row t range after es = option_map (λ e. e.1) (first_of_list (rows_after t range after es))

@@ -5,11 +5,12 @@ ghost use Rattle.salt_model.specs.Statements.{change_to};
 ghost use Rattle.salt_model.specs.Tables.{place};
 ghost use Rattle.salt_values.specs.Value.{key_of};
 
-use crate::scan::{Gather, key_of};
+use crate::cells::key_in;
+use crate::scan::Gather;
 use salt_ast::{Set, TableDef};
-use salt_exprs::{EvalErr, check, row_after};
+use salt_exprs::{Cells, EvalErr, check, row_after};
 use salt_model::Binding;
-use salt_values::{Change, Changes, Row};
+use salt_values::{Change, Changes};
 use std::alloc::Global;
 
 /// The removals of rows of a table.
@@ -22,8 +23,8 @@ pub struct Removals {
 impl Gather for Removals {
     ghost with_row = { λ s row. Ok (record { table = s.table; changes = s.changes ++ change_to (place s.table (key_of row)) None ∷ [] }) };
 
-    fn take(&mut self, alloc: Global, row: Row) -> Result<(), EvalErr> {
-        let key = key_of(alloc, row.as_slice())?;
+    fn take<R: Cells>(&mut self, alloc: Global, row: &R) -> Result<(), EvalErr> {
+        let key = key_in(alloc, row)?;
         self.changes.push(Change {
             table: self.table,
             key,
@@ -48,9 +49,10 @@ impl<'a> Gather for Updates<'a> {
 
     ghost with_row = { with_update };
 
-    fn take(&mut self, alloc: Global, row: Row) -> Result<(), EvalErr> {
-        let key = key_of(alloc, row.as_slice())?;
-        let new = row_after(alloc, self.def, self.vars, self.sets, row)?;
+    fn take<R: Cells>(&mut self, alloc: Global, row: &R) -> Result<(), EvalErr> {
+        let key = key_in(alloc, row)?;
+        let old = row.row(alloc)?;
+        let new = row_after(alloc, self.def, self.vars, self.sets, old)?;
         check(
             alloc,
             self.def.columns.as_slice(),

@@ -7,14 +7,15 @@ ghost use Rattle.salt_model.specs.declared.events.Cause.{Cause};
 ghost use Rattle.salt_ranges.specs.declared.range.KeyRange.{KeyRange};
 ghost use Rattle.salt_values.specs.declared.value.Value.{Value};
 ghost use Rattle.salt_eval.specs.Filtered.{filtered, kept_by};
-ghost use Rattle.salt_eval.specs.Scans.{CountsFaultsOf, IsKeyed, LeavesMeant, TakesRow, gathered, point_of, range_rows, row_list};
+ghost use Rattle.salt_eval.specs.Scans.{CountsFaultsOf, LeavesMeant, TakesRow, gathered, point_of, row_list};
+ghost use Rattle.salt_eval.specs.Views.{range_rows};
 ghost use Rattle.salt_values.specs.Value.{key_of};
 
 use crate::error::StatementErr;
 use crate::view::RowView;
-use salt_exprs::{EvalErr, Resolved, passes};
+use salt_exprs::{Cells, EvalErr, Resolved, passes};
 use salt_ranges::KeyRange;
-use salt_values::{Key, Row, TryCopy, Value};
+use salt_values::{Key, TryCopy, Value};
 use std::alloc::{AllocError, Global};
 
 /// What is made of rows, one after another.
@@ -22,21 +23,21 @@ pub trait Gather {
     /// What it is after one more row, or the cause for which the statement fails.
     ghost with_row: { Self → List Value → Result Self Cause };
 
-    /// Takes one more row. After an error it is not used again.
-    fn take(&mut self, alloc: Global, row: Row) -> Result<(), EvalErr>
-        ensures { TakesRow (with_row self.old row) self.new result };
+    /// Takes one more row, of which it copies what it needs. After an error it is not used again.
+    fn take<R: Cells>(&mut self, alloc: Global, row: &R) -> Result<(), EvalErr>
+        ensures { TakesRow (with_row self.old (R.cells row.now)) self.new result };
 }
 
 /// Takes a row that the filter keeps.
-fn take_kept<G: Gather>(
+fn take_kept<R: Cells, G: Gather>(
     alloc: Global,
     filter: &Option<Resolved<'_>>,
     gather: &mut G,
-    row: Row,
+    row: &R,
 ) -> Result<(), EvalErr>
-    ensures { TakesRow (filtered (kept_by filter.now) G.with_row gather.old row) gather.new result }
+    ensures { TakesRow (filtered (kept_by filter.now) G.with_row gather.old (R.cells row.now)) gather.new result }
 {
-    if passes(alloc, filter, row.as_slice())? {
+    if passes(alloc, filter, row)? {
         gather.take(alloc, row)
     } else {
         Ok(())
@@ -77,13 +78,11 @@ fn gather_one<V: RowView, G: Gather>(
     ensures source { V.shown_from view.new ≡ V.shown_from view.old }
     ensures faults { CountsFaultsOf (V.faults view.old) (V.faults view.new) result }
 {
-    match view.get(table, key)? {
-        Some(row) => {
-            take_kept(alloc, filter, gather, row)?;
-            Ok(())
-        }
-        None => Ok(()),
+    let is_there = view.find(table, key)?;
+    if is_there {
+        take_kept(alloc, filter, gather, &*view)?;
     }
+    Ok(())
 }
 
 /// Gathers the rows of a range, in order of their keys.
@@ -95,16 +94,14 @@ fn gather_all<V: RowView, G: Gather>(
     filter: &Option<Resolved<'_>>,
     gather: &mut G,
 ) -> Result<(), StatementErr>
-    requires { IsKeyed (V.tables view.old) }
     ensures gathered { LeavesMeant (gathered (filtered (kept_by filter.now) G.with_row) gather.old (range_rows table range.now (V.tables view.old))) gather.new result }
     ensures kept { V.tables view.new ≡ V.tables view.old }
     ensures source { V.shown_from view.new ≡ V.shown_from view.old }
     ensures faults { CountsFaultsOf (V.faults view.old) (V.faults view.new) result }
 {
-    let mut after: Option<Key> = None;
-    while let Some(row) = view.next_in(table, range, after.as_ref())? {
-        after = Some(key_of(alloc, row.as_slice())?);
-        take_kept(alloc, filter, gather, row)?;
+    view.start(table, range)?;
+    'rows: while view.step()? {
+        take_kept(alloc, filter, gather, &*view)?;
     }
     Ok(())
 }
@@ -118,7 +115,6 @@ pub fn scan<V: RowView, G: Gather>(
     filter: &Option<Resolved<'_>>,
     gather: &mut G,
 ) -> Result<(), StatementErr>
-    requires { IsKeyed (V.tables view.old) }
     ensures gathered { LeavesMeant (gathered (filtered (kept_by filter.now) G.with_row) gather.old (range_rows table range.now (V.tables view.old))) gather.new result }
     ensures kept { V.tables view.new ≡ V.tables view.old }
     ensures source { V.shown_from view.new ≡ V.shown_from view.old }

@@ -10,9 +10,9 @@ ghost use Rattle.salt_eval.specs.Shown.{best_with, is_better};
 
 use crate::cells::{cell, cells};
 use crate::scan::Gather;
-use salt_exprs::EvalErr;
+use salt_exprs::{Cells, EvalErr};
 use salt_model::{Answer, Cause};
-use salt_values::{Row, Rows, Value};
+use salt_values::{Rows, Value};
 use sqlite_items::Items;
 use std::alloc::Global;
 
@@ -25,8 +25,8 @@ pub struct WholeRows {
 impl Gather for WholeRows {
     ghost with_row = { λ s row. Ok (record { rows = s.rows ++ row ∷ [] }) };
 
-    fn take(&mut self, _alloc: Global, row: Row) -> Result<(), EvalErr> {
-        self.rows.push(row)?;
+    fn take<R: Cells>(&mut self, alloc: Global, row: &R) -> Result<(), EvalErr> {
+        self.rows.push(row.row(alloc)?)?;
         Ok(())
     }
 }
@@ -41,8 +41,8 @@ pub struct ColumnRows {
 impl Gather for ColumnRows {
     ghost with_row = { λ s row. Ok (record { numbers = s.numbers; rows = s.rows ++ cells_at row s.numbers ∷ [] }) };
 
-    fn take(&mut self, alloc: Global, row: Row) -> Result<(), EvalErr> {
-        let shown = cells(alloc, row.as_slice(), self.numbers.as_slice())?;
+    fn take<R: Cells>(&mut self, alloc: Global, row: &R) -> Result<(), EvalErr> {
+        let shown = cells(alloc, row, self.numbers.as_slice())?;
         self.rows.push(shown)?;
         Ok(())
     }
@@ -66,7 +66,7 @@ impl RowCount {
 impl Gather for RowCount {
     ghost with_row = { λ s row. Ok (record { count = s.count +ℤ pos 1 }) };
 
-    fn take(&mut self, _alloc: Global, _row: Row) -> Result<(), EvalErr> {
+    fn take<R: Cells>(&mut self, _alloc: Global, _row: &R) -> Result<(), EvalErr> {
         match self.count.checked_add(1) {
             Some(count) => {
                 self.count = count;
@@ -109,8 +109,8 @@ fn int_in(value: &Value) -> i64
 impl Gather for ColumnSum {
     ghost with_row = { λ s row. Ok (record { number = s.number; sum = s.sum +ℤ int_in (cell_at row s.number) }) };
 
-    fn take(&mut self, alloc: Global, row: Row) -> Result<(), EvalErr> {
-        let value = cell(alloc, row.as_slice(), self.number)?;
+    fn take<R: Cells>(&mut self, alloc: Global, row: &R) -> Result<(), EvalErr> {
+        let value = cell(alloc, row, self.number)?;
         match self.sum.checked_add(int_in(&value) as i128) {
             Some(sum) => {
                 self.sum = sum;
@@ -161,8 +161,8 @@ fn best_with(is_greatest: bool, best: Option<Value>, value: Value) -> Option<Val
 impl Gather for ColumnBest {
     ghost with_row = { λ s row. Ok (record { number = s.number; is_greatest = s.is_greatest; best = best_with s.is_greatest s.best (cell_at row s.number) }) };
 
-    fn take(&mut self, alloc: Global, row: Row) -> Result<(), EvalErr> {
-        let value = cell(alloc, row.as_slice(), self.number)?;
+    fn take<R: Cells>(&mut self, alloc: Global, row: &R) -> Result<(), EvalErr> {
+        let value = cell(alloc, row, self.number)?;
         let best = self.best.take();
         self.best = best_with(self.is_greatest, best, value);
         Ok(())

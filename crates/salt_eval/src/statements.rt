@@ -43,7 +43,8 @@ fn insert<V: RowView>(
 {
     let row = values_outside(alloc, vars, values)?;
     let key = key_of(alloc, row.as_slice())?;
-    if view.get(table, &key)?.is_some() {
+    let is_there = view.find(table, &key)?;
+    if is_there {
         return Err(StatementErr::Cause(Cause::Duplicate));
     }
     check(
@@ -77,11 +78,12 @@ fn select_into<V: RowView>(
     ensures faults { CountsFaultsOf (V.faults view.old) (V.faults view.new) result }
 {
     let key = value_outside(alloc, vars, key)?;
-    let Some(row) = view.get(table, &key)? else {
+    let is_there = view.find(table, &key)?;
+    if !is_there {
         return Err(StatementErr::Cause(Cause::Missing));
-    };
+    }
     let number = column_number(def.columns.as_slice(), column.as_slice());
-    let value = cell(alloc, row.as_slice(), number)?;
+    let value = cell(alloc, &*view, number)?;
     Ok((Answer::Stored(value), Items::new(alloc)))
 }
 

@@ -9,7 +9,7 @@ use Rattle.salt_partition.specs.Partitions.{IsPartition, changes_in, unit_count}
 use Rattle.salt_partition.specs.declared.partition.Partition.{Partition}
 use Rattle.salt_stands.specs.Pieces.{PartView}
 use Rattle.salt_values.specs.declared.id.Id.{Id}
-use Rattle.std.proofs.Common.{Bool, IsTrue, List, None, Some, ap, arith, length, slice_get, suc, sym, ℕ, ◌+◌, ◌-◌, ◌<◌, ◌≡◌, ◌≤◌, ◌∙◌}
+use Rattle.std.proofs.Common.{Bool, IsTrue, List, None, Some, ap, arith, length, slice_get, suc, sym, ℕ, ◌+◌, ◌<◌, ◌≡◌, ◌≤◌, ◌∙◌}
 use Rattle.std.specs.Prelude.{option_map, option_and_then}
 
 module _ (d : View) (x : Partition) (p : ℕ) (v : PartView) (applied : List Id) (is : IsPartition d x p v applied) (told : IsTrue d.told) where

@@ -1,7 +1,6 @@
 -- How a partition is made and opened.
 use Rattle.salt_bytes.specs.Generations.{BothBlank, Counts, Faulty, LogB, Pair}
-use Rattle.salt_disk.specs.Disks.{OnlyFails, View}
-use Rattle.salt_disk.specs.declared.disks.DiskErr.TheVariants.{Failed, Full, Memory, Stopped}
+use Rattle.salt_disk.specs.Disks.{FullWhere, OnlyFails, View}
 use Rattle.salt_disk.specs.declared.disks.DiskErr.{DiskErr}
 use Rattle.salt_gatelog.specs.declared.pair.PairErr.TheVariants.{Disk, NotSalt}
 use Rattle.salt_gatelog.specs.declared.pair.PairErr.{PairErr}
@@ -19,7 +18,7 @@ use Rattle.salt_stands.specs.PartitionLog.{PartitionLog}
 use Rattle.salt_stands.specs.Pieces.{PartView}
 use Rattle.salt_stands.specs.Stands.{logs_of}
 use Rattle.salt_values.specs.declared.id.Id.{Id}
-use Rattle.std.specs.Prelude.{Bool, IsTrue, List, None, Option, Some, [], false, if◌then◌else◌, true, ℕ, ⊤, ◌+◌, ◌<◌, ◌≡◌, ◌∷◌, ◌⊎◌}
+use Rattle.std.specs.Prelude.{Bool, IsTrue, List, None, Option, Some, [], false, if◌then◌else◌, true, ℕ, ◌+◌, ◌<◌, ◌≡◌, ◌∷◌, ◌⊎◌}
 
 abbrev pub are_some : List ℕ → Bool
 are_some [] = false
@@ -70,8 +69,4 @@ IsWhy bytes boot decided p (Disk e) = OnlyFails (Some e)
 
 -- `Full` comes only where log B is created there and its byte passes the limit, or the header in log A does
 abbrev pub FullAtLogs : View → (a end : ℕ) → Option DiskErr → Type 0
-FullAtLogs d a end None = ⊤
-FullAtLogs d a end (Some Failed) = ⊤
-FullAtLogs d a end (Some Stopped) = ⊤
-FullAtLogs d a end (Some Memory) = ⊤
-FullAtLogs d a end (Some (Full dev)) = ((dev ≡ a) × (d.limit dev < end)) ⊎ ((dev ≡ a + 1) × IsCreated (d.bytes dev) × (d.limit dev < 1))
+FullAtLogs d a end answer = FullWhere (λ dev. ((dev ≡ a) × (d.limit dev < end)) ⊎ ((dev ≡ a + 1) × IsCreated (d.bytes dev) × (d.limit dev < 1))) answer

@@ -23,10 +23,11 @@ use crate::rows::make_changes;
 use crate::units::unit_told;
 use salt_codec::PreparedUnit;
 use salt_disk::{DiskErr, Disks};
-use salt_eval::{MapView, RowView, Tables};
+use salt_eval::{Tables, next_row};
 use salt_gatelog::GateLog;
+use salt_model::Place;
 use salt_ranges::KeyRange;
-use salt_values::{Changes, Id, Key, Row};
+use salt_values::{Changes, Id, Key, Row, TryCopy};
 use sqlite_items::Items;
 use std::alloc::{AllocError, Global};
 use std::marker::Model;
@@ -160,11 +161,14 @@ impl Partition {
         ensures answers { OnlyFails (result_err result) }
     {
         let _ = disks;
-        // a map has no faults
-        let Ok(row) = MapView::new(self.alloc, &self.rows).get(table, key) else {
-            return Err(DiskErr::Memory);
+        let place = Place {
+            table,
+            key: key.copy(self.alloc)?,
         };
-        Ok(row)
+        match self.rows.get(&place) {
+            Some(row) => Ok(Some(row.copy(self.alloc)?)),
+            None => Ok(None),
+        }
     }
 
     /// The row of the least key in the range that is above `after`, where one is given; `None` exactly where there is none.
@@ -186,10 +190,7 @@ impl Partition {
         ensures answers { OnlyFails (result_err result) }
     {
         let _ = disks;
-        // a map has no faults
-        let Ok(row) = MapView::new(self.alloc, &self.rows).next_in(table, range, after) else {
-            return Err(DiskErr::Memory);
-        };
+        let row = next_row(self.alloc, &self.rows, table, range, after)?;
         Ok(row)
     }
 

@@ -19,7 +19,7 @@ drop-none [] (suc n) is = refl
 drop-none (c ∷ cs) zero is = absurd cc
 drop-none (c ∷ cs) (suc n) is = drop-none cs n is
 
-drop-some : (cs : List Change) (n : ℕ) (c : Change) → slice_get cs n ≡ Some c → drop n cs ≡ c ∷ drop (suc n) cs
+pub drop-some : (cs : List Change) (n : ℕ) (c : Change) → slice_get cs n ≡ Some c → drop n cs ≡ c ∷ drop (suc n) cs
 drop-some [] n c is = absurd cc
 drop-some (d ∷ cs) zero c is = let same : d ≡ c = cc in ap (λ x. x ∷ cs) same
 drop-some (d ∷ cs) (suc n) c is = drop-some cs n c is

@@ -1,10 +1,9 @@
 pub mod Changed
 pub mod Cuts
-pub mod Fewer
-pub mod Firsts
 pub mod Keeping
 pub mod Keyed
 pub mod Maps
+pub mod Merged
 pub mod Overlaid
 pub mod Places
 pub mod Searches

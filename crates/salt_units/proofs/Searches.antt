@@ -1,13 +1,12 @@
 -- The tests by which changes in order are searched.
-use Rattle.salt_eval.proofs.Nexts.{below_end, both_true, not_above, not_before, same_table, un}
-use Rattle.salt_eval.proofs.Scanning.{behind}
-use Rattle.salt_eval.specs.Views.{is_behind, is_next}
+use Rattle.salt_eval.proofs.Nexts.{below_end, not_above, not_before, same_table, un}
+use Rattle.salt_eval.specs.Views.{is_next}
 use Rattle.salt_model.specs.Tables.{place_cmp, place_total}
 use Rattle.salt_model.specs.declared.places.Place.{Place}
 use Rattle.salt_ranges.specs.Ranges.{has_key, is_above_low, is_below_high}
 use Rattle.salt_ranges.specs.declared.range.KeyRange.{KeyRange}
 use Rattle.salt_units.proofs.Cuts.{Ends}
-use Rattle.salt_units.specs.Edited.{is_passed}
+use Rattle.salt_units.specs.Edited.{is_passed, is_to_end}
 use Rattle.salt_units.specs.Putting.{is_before}
 use Rattle.salt_values.specs.Value.{value_cmp, value_total}
 use Rattle.salt_values.specs.declared.value.Value.{Value}
@@ -65,21 +64,17 @@ module _ (q : Place) where
           absurd cc
       by Greater is = ap is_eq (place_total.trans q x y (place_total.antisymm q x ∙ ap ordering_reverse is) less)
 
-module _ (t : ℕ) (range : KeyRange) (after : Option Value) where
-  -- in a table, the keys from the lower end on, and behind another one
-  abbrev begun : Value → Bool
-  begun k = is_above_low range.lo k && is_behind after k
-
+module _ (t : ℕ) (range : KeyRange) where
   above : (lo : Option Value) (k l : Value) → value_cmp k l ≡ Less → is_above_low lo k ≡ true → is_above_low lo l ≡ true
   above None k l less h = refl
   above (Some lo) k l less h = ap not (upto value_total lo k l (un _ h) (not_above _ (ap is_lt less)))
 
-  begun-later : (k l : Value) → value_cmp k l ≡ Less → begun k ≡ true → begun l ≡ true
-  begun-later k l less h =
-      let p = both_true (is_above_low range.lo k) (is_behind after k) h in
-      let a : is_above_low range.lo l ≡ true = above range.lo k l less p.0 in
-      let b : is_behind after l ≡ true = behind after k l p.1 (ap is_lt less) in
-      rw (a, b) refl
+  below : (hi : Option Value) (k l : Value) → value_cmp k l ≡ Less → is_below_high hi k ≡ false → is_below_high hi l ≡ false
+  below hi k l less h = by (is_below_high hi l) refl
+    where
+      by : (b : Bool) → is_below_high hi l ≡ b → b ≡ false
+      by false is = refl
+      by true is = let so : is_below_high hi k ≡ true = below_end t range None hi k l less is in absurd cc
 
   -- the order of two places is that of their tables, and in one table that of their keys
   tables : (x y : Place) → place_cmp x y ≡ Less → x.table ≤ y.table
@@ -100,11 +95,12 @@ module _ (t : ℕ) (range : KeyRange) (after : Option Value) where
   from-not true h = refl
   from-not false h = absurd cc
 
-  pub passed-ends : Ends (is_passed t range after)
-  passed-ends x y less not_so = by (t == x.table) refl (t == y.table) refl not_so
+  -- a test of a table's places that keys behind one that fails it fail, and which the places of the tables before it pass, and no others
+  ends-by : (p : Value → Bool) → ((k l : Value) → value_cmp k l ≡ Less → p k ≡ false → p l ≡ false) → Ends (λ x. cond (t == x.table) (p x.key) (nat_lt x.table t))
+  ends-by p falls x y less not_so = by (t == x.table) refl (t == y.table) refl not_so
     where
-      by : (b : Bool) → (t == x.table) ≡ b → (c : Bool) → (t == y.table) ≡ c → cond b (not (begun x.key)) (nat_lt x.table t) ≡ false → cond c (not (begun y.key)) (nat_lt y.table t) ≡ false
-      by true hx true hy not_so = ap not (begun-later x.key y.key (keys x y less hx hy) (from-not _ not_so))
+      by : (b : Bool) → (t == x.table) ≡ b → (c : Bool) → (t == y.table) ≡ c → cond b (p x.key) (nat_lt x.table t) ≡ false → cond c (p y.key) (nat_lt y.table t) ≡ false
+      by true hx true hy not_so = falls x.key y.key (keys x y less hx hy) not_so
       by true hx false hy not_so = let e : t ≡ x.table = eqb-true t x.table hx in let le : x.table ≤ y.table = tables x y less in not-less t y.table (omega arith)
       by false hx true hy not_so =
           let e : t ≡ y.table = eqb-true t y.table hy in
@@ -114,39 +110,26 @@ module _ (t : ℕ) (range : KeyRange) (after : Option Value) where
           absurd cc
       by false hx false hy not_so = let le : x.table ≤ y.table = tables x y less in let low : t ≤ x.table = less-not t x.table not_so in not-less t y.table (omega arith)
 
-  pub passed-apart : (x : Place) → is_passed t range after x ≡ true → is_next t range after x ≡ false
-  passed-apart x so = by (t == x.table) so
-    where
-      on : (a b c : Bool) → not (a && c) ≡ true → ((a && b) && c) ≡ false
-      on true true true h = absurd cc
-      on true true false h = refl
-      on true false c h = refl
-      on false b c h = refl
+  pub passed-ends : Ends (is_passed t range)
+  passed-ends = ends-by (λ k. not (is_above_low range.lo k)) (λ k l less h. ap not (above range.lo k l less (from-not _ h)))
 
-      by : (b : Bool) → cond b (not (begun x.key)) (nat_lt x.table t) ≡ true → ((b && has_key range x.key) && is_behind after x.key) ≡ false
-      by true h = on (is_above_low range.lo x.key) (is_below_high range.hi x.key) (is_behind after x.key) h
-      by false h = refl
+  pub to_end-ends : Ends (is_to_end t range)
+  to_end-ends = ends-by (is_below_high range.hi) (below range.hi)
 
-  pub passed-over : (x y : Place) → place_cmp x y ≡ Less → is_passed t range after x ≡ false → is_next t range after x ≡ false → is_next t range after y ≡ false
-  passed-over x y less not_so out = by (is_next t range after y) refl
+  -- what is neither before the range nor behind it is in it
+  pub within-is : (x : Place) → is_next t range None x ≡ (not (is_passed t range x) && is_to_end t range x)
+  within-is x = by (t == x.table) refl
     where
-      by : (b : Bool) → is_next t range after y ≡ b → b ≡ false
-      by false h = refl
-      by true h =
-          let p = both_true ((t == y.table) && has_key range y.key) (is_behind after y.key) h in
-          let q = both_true (t == y.table) (has_key range y.key) p.0 in
-          let r = both_true (is_above_low range.lo y.key) (is_below_high range.hi y.key) q.1 in
-          absurd (on (t == x.table) refl not_so out q.0 r.1)
-        where
-          on : (b : Bool) → (t == x.table) ≡ b → cond b (not (begun x.key)) (nat_lt x.table t) ≡ false → ((b && has_key range x.key) && is_behind after x.key) ≡ false → (t == y.table) ≡ true → is_below_high range.hi y.key ≡ true → ⊥
-          on true hx not_so out hy high =
-              let s = both_true (is_above_low range.lo x.key) (is_behind after x.key) (from-not _ not_so) in
-              let low_enough : is_below_high range.hi x.key ≡ true = below_end t range after range.hi x.key y.key (keys x y less hx hy) high in
-              let so : ((true && has_key range x.key) && is_behind after x.key) ≡ true = rw (s.0, s.1, low_enough) refl in
-              cc
-          on false hx not_so out hy high =
-              let e : t ≡ y.table = eqb-true t y.table hy in
-              let le : x.table ≤ y.table = tables x y less in
-              let low : t ≤ x.table = less-not t x.table not_so in
-              let same : (t == x.table) ≡ true = eq-eqb t x.table (omega arith) in
-              cc
+      in-table : (a b : Bool) → ((a && b) && true) ≡ (not (not a) && b)
+      in-table true true = refl
+      in-table true false = refl
+      in-table false b = refl
+
+      apart : (b : Bool) → false ≡ (not b && b)
+      apart true = refl
+      apart false = refl
+
+      by : (b : Bool) → (t == x.table) ≡ b
+          → ((b && has_key range x.key) && true) ≡ (not (cond b (not (is_above_low range.lo x.key)) (nat_lt x.table t)) && cond b (is_below_high range.hi x.key) (nat_lt x.table t))
+      by true is = in-table (is_above_low range.lo x.key) (is_below_high range.hi x.key)
+      by false is = apart (nat_lt x.table t)

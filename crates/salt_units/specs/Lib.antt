@@ -1,3 +1,4 @@
 pub mod Acting
 pub mod Edited
 pub mod Putting
+pub mod Merging

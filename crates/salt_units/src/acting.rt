@@ -8,7 +8,7 @@ ghost use Rattle.law_states.specs.Overlays.{AreInOrder, edits_of, with_edits};
 ghost use Rattle.salt_model.specs.Statements.{outcome_of};
 ghost use Rattle.salt_units.specs.Acting.{HaveTheirKeys};
 
-use crate::overlay::Overlay;
+use crate::overlay::{Cursor, Overlay};
 use salt_ast::Statement;
 use salt_eval::{RowView, ViewErr, execute};
 use salt_model::{Answer, Vars};
@@ -55,6 +55,7 @@ pub fn execute_under<V: RowView>(
         alloc,
         view,
         changes,
+        cursor: Cursor::new(),
     };
     execute_over(alloc, &mut overlay, schema, vars, statement)
 }

@@ -1,16 +1,18 @@
 //! A unit's changes, looked at.
 
-ghost use Rattle.std.specs.Prelude.{◌≡◌, ◌≤◌, IfOk, find, length, slice_get};
+ghost use Rattle.std.specs.Prelude.{◌≡◌, ◌≤◌, IfOk, length, slice_get};
 ghost use Rattle.std.specs.Cow.{cow_slice_items};
 ghost use Rattle.std.specs.Option.{option_copied};
-ghost use Rattle.salt_eval.specs.Views.{is_behind};
 ghost use Rattle.law_states.specs.Overlays.{AreInOrder, edits_of};
 ghost use Rattle.salt_model.specs.Tables.{changed_at, place, place_cmp};
-ghost use Rattle.salt_units.specs.Edited.{is_change_at, is_next_change, is_passed, is_sooner};
+ghost use Rattle.salt_ranges.specs.Ranges.{is_below_high};
+ghost use Rattle.salt_units.specs.Edited.{IsPlaceOf, is_change_at, is_passed, is_to_end};
+ghost use Rattle.salt_values.specs.Value.{key_of, value_cmp};
 ghost use Rattle.salt_units.specs.Putting.{ArePassed, is_before};
 
+use salt_exprs::{Cells, Operand};
 use salt_ranges::{KeyRange, is_above_low};
-use salt_values::{Change, Key, Row, TryCopy, Value};
+use salt_values::{Change, Key, TryCopy, Value};
 use std::alloc::{AllocError, Global};
 use std::borrow::CowSlice;
 use std::cmp::Ordering;
@@ -52,15 +54,16 @@ fn at(changes: &VecDeque<Change>, index: usize) -> Option<&Change>
     changes.get(index)
 }
 
-/// The change of a key, if there is one.
-pub fn change_at<'a>(changes: &'a VecDeque<Change>, table: u16, key: &Key) -> Option<&'a Change>
+/// The place among the changes of that of a key, if there is one.
+pub fn place_of(changes: &VecDeque<Change>, table: u16, key: &Key) -> Option<usize>
     requires { AreInOrder (edits_of changes.now.items) }
-    ensures { option_copied result ≡ find (is_change_at (place table key.now)) changes.now.items }
+    ensures { IsPlaceOf (place table key.now) changes.now.items result }
 {
-    match at(changes, count_before(changes, table, key)) {
+    let count = count_before(changes, table, key);
+    match at(changes, count) {
         Some(change) => {
             if is_change_at(change, table, key) {
-                Some(change)
+                Some(count)
             } else {
                 None
             }
@@ -69,75 +72,54 @@ pub fn change_at<'a>(changes: &'a VecDeque<Change>, table: u16, key: &Key) -> Op
     }
 }
 
-fn is_behind(after: Option<&Key>, key: &Key) -> bool
-    ensures { result ≡ is_behind (option_copied after.entry) key.now }
-{
-    match after {
-        Some(after) => after < key,
-        None => true,
-    }
-}
-
-fn is_passed(change: &Change, table: u16, range: &KeyRange, after: Option<&Key>) -> bool
-    ensures { result ≡ is_passed table range.now (option_copied after.entry) (changed_at change.now) }
+/// Whether a change comes before all those in a range.
+fn is_passed(change: &Change, table: u16, range: &KeyRange) -> bool
+    ensures { result ≡ is_passed table range.now (changed_at change.now) }
 {
     if table == change.table {
-        !(is_above_low(&range.lo, &change.key) && is_behind(after, &change.key))
+        !is_above_low(&range.lo, &change.key)
     } else {
         change.table < table
     }
 }
 
-/// How many changes come before all those of a range behind a key.
-fn count_passed(
-    changes: &VecDeque<Change>,
-    table: u16,
-    range: &KeyRange,
-    after: Option<&Key>,
-) -> usize
+/// How many changes come before all those in a range.
+pub fn count_passed(changes: &VecDeque<Change>, table: u16, range: &KeyRange) -> usize
     requires { AreInOrder (edits_of changes.now.items) }
-    ensures counted { ArePassed (is_passed table range.now (option_copied after.entry)) changes.now.items result }
+    ensures counted { ArePassed (is_passed table range.now) changes.now.items result }
     ensures bound { result ≤ length changes.now.items }
 {
-    changes.partition_point(|change| is_passed(change, table, range, after))
+    changes.partition_point(|change| is_passed(change, table, range))
 }
 
-fn is_next_change(change: &Change, table: u16, range: &KeyRange, after: Option<&Key>) -> bool
-    ensures { result ≡ is_next_change table range.now (option_copied after.entry) change.now }
+/// Whether the upper end leaves the key inside.
+fn is_below_high(hi: &Option<Key>, key: &Key) -> bool
+    ensures { result ≡ is_below_high hi.now key.now }
 {
-    table == change.table && range.has(&change.key) && is_behind(after, &change.key)
+    match hi {
+        Some(hi) => key <= hi,
+        None => true,
+    }
 }
 
-/// The first change in the range behind a key, where one is given.
-pub fn next_change<'a>(
-    changes: &'a VecDeque<Change>,
-    table: u16,
-    range: &KeyRange,
-    after: Option<&Key>,
-) -> Option<&'a Change>
+/// Whether a change does not come behind all those in a range.
+fn is_within(change: &Change, table: u16, range: &KeyRange) -> bool
+    ensures { result ≡ is_to_end table range.now (changed_at change.now) }
+{
+    if table == change.table {
+        is_below_high(&range.hi, &change.key)
+    } else {
+        change.table < table
+    }
+}
+
+/// How many changes do not come behind all those in a range.
+pub fn count_within(changes: &VecDeque<Change>, table: u16, range: &KeyRange) -> usize
     requires { AreInOrder (edits_of changes.now.items) }
-    ensures { option_copied result ≡ find (is_next_change table range.now (option_copied after.entry)) changes.now.items }
+    ensures counted { ArePassed (is_to_end table range.now) changes.now.items result }
+    ensures bound { result ≤ length changes.now.items }
 {
-    match at(changes, count_passed(changes, table, range, after)) {
-        Some(change) => {
-            if is_next_change(change, table, range, after) {
-                Some(change)
-            } else {
-                None
-            }
-        }
-        None => None,
-    }
-}
-
-/// The row that a change puts.
-pub fn row_put(alloc: Global, change: &Change) -> Result<Option<Row>, AllocError>
-    ensures { IfOk result (λ row. row ≡ change.now.row) }
-{
-    match &change.row {
-        Some(row) => Ok(Some(row.copy(alloc)?)),
-        None => Ok(None),
-    }
+    changes.partition_point(|change| is_within(change, table, range))
 }
 
 /// A copy of changes, in their order.
@@ -165,15 +147,13 @@ pub fn in_one_piece(
     Ok(CowSlice::Owned(copied(alloc, changes)?))
 }
 
-/// Whether there is a row, and its first value is less than a key.
-pub fn is_sooner(row: &Option<Row>, key: &Key) -> bool
-    ensures { result ≡ is_sooner row.now key.now }
+/// The key of a row against another one.
+pub fn key_cmp<R: Cells>(alloc: Global, row: &R, key: &Key) -> Result<Ordering, AllocError>
+    ensures { IfOk result (λ order. order ≡ value_cmp (key_of (R.cells row.now)) key.now) }
 {
-    let Some(row) = row else {
-        return false;
-    };
-    match row.as_slice() {
-        [first, ..] => first < key,
-        [] => Value::Int(0) < *key,
+    match row.operand(alloc, 0)? {
+        Operand::Lent(first) => Ok(first.cmp(key)),
+        Operand::Made(first) => Ok(first.cmp(key)),
+        Operand::Holds(_) => Ok(Value::Int(0).cmp(key)),
     }
 }

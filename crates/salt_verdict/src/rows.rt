@@ -10,7 +10,7 @@ use salt_ast::Statement;
 use salt_eval::{MapView, Tables, ViewErr};
 use salt_model::Vars;
 use salt_schema::Schema;
-use salt_units::{Overlay, put_changes, rows_stay_at_their_keys};
+use salt_units::{Cursor, Overlay, put_changes, rows_stay_at_their_keys};
 use salt_values::Change;
 use sqlite_items::Items;
 use std::alloc::{AllocError, Global};
@@ -73,6 +73,7 @@ impl Rows {
             alloc,
             view: &mut view,
             changes: &self.changes,
+            cursor: Cursor::new(),
         };
         do_again(alloc, schema, &mut overlay, vars, done)
     }

@@ -5,9 +5,8 @@ use Rattle.salt_units.proofs.edits.count_passed.Goals as goal
 use Rattle.salt_units.specs.Edited.{is_passed}
 use Rattle.std.proofs.Common.{rules}
 use Rattle.std.proofs.lemmas.List.Sorted.{IsPartitionPoint-from_clause}
-use Rattle.std.specs.Option.{option_copied}
 
 pub returns-clause-counted : goal.returns-clause-counted
 returns-clause-counted c =
-    let p = is_passed c.args.table c.args.range.now (option_copied c.args.after) in
-    IsPartitionPoint-from_clause (λ x. p (changed_at x)) _ _ c.partition_point.ensures.partitioned (parted-by p (passed-ends c.args.table c.args.range.now (option_copied c.args.after)) c.args.changes.now.items c.requires) (λ a r f k. search rules)
+    let p = is_passed c.args.table c.args.range.now in
+    IsPartitionPoint-from_clause (λ x. p (changed_at x)) _ _ c.partition_point.ensures.partitioned (parted-by p (passed-ends c.args.table c.args.range.now) c.args.changes.now.items c.requires) (λ a r f k. search rules)
