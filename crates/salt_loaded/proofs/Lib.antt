@@ -1,0 +1,9 @@
+mod Columns
+mod Counted
+mod Fronts
+mod Grown
+mod Meeting
+mod Ordered
+mod Rising
+mod Tables
+mod Viewed

@@ -1,0 +1,87 @@
+//! Where rows stand among bytes, and the order of their keys.
+
+ghost use Rattle.salt_loaded.specs.Order.{spot_against, spot_order, spot_text};
+ghost use Rattle.salt_loaded.specs.Spots.{IsSpot, is_spelled};
+ghost use Rattle.std.specs.Prelude.{List, drop, true, ℕ, ◌≡◌};
+
+use crate::key::{KeyIn, key_in, key_text};
+use salt_values::{Key, Value};
+use std::cmp::Ordering;
+
+/// The kinds of keys, in their order.
+pub const NUMBER: u8 = 0;
+
+pub const TEXT: u8 = 1;
+
+pub const NULL: u8 = 2;
+
+/// Where a row stands among bytes, and what tells its key from most others without a look at the bytes.
+#[derive(Clone, Copy, Debug)]
+pub struct Spot {
+    /// The key, where it is a number, and else 0.
+    pub number: i64,
+    pub at: u32,
+    pub kind: u8,
+}
+
+/// The spot of a row that is spelled at the front of bytes, which stand there.
+pub fn spot_of(row: &[u8], at: u32) -> Spot
+    requires { is_spelled row.now ≡ true }
+    ensures spot { (bytes : List ℕ) → drop at bytes ≡ row.now → IsSpot bytes result }
+    ensures at { result.at ≡ at }
+{
+    match key_in(row) {
+        KeyIn::Number(number) => Spot {
+            number,
+            at,
+            kind: NUMBER,
+        },
+        KeyIn::Text(_) => Spot {
+            number: 0,
+            at,
+            kind: TEXT,
+        },
+        KeyIn::Null => Spot {
+            number: 0,
+            at,
+            kind: NULL,
+        },
+    }
+}
+
+/// The bytes of the text that is the key of a spot's row; none where it is none.
+fn spot_text<'a>(bytes: &'a [u8], spot: &Spot) -> &'a [u8]
+    ensures { result.now ≡ spot_text bytes.now spot.now }
+{
+    let at = spot.at as usize;
+    if spot.kind == TEXT && at <= bytes.len() {
+        key_text(&bytes[at..])
+    } else {
+        &[]
+    }
+}
+
+/// Two spots by the keys of their rows.
+#[inline(always)]
+pub fn spot_cmp(bytes: &[u8], a: &Spot, b: &Spot) -> Ordering
+    ensures { result ≡ spot_order bytes.now a.now b.now }
+{
+    let first = a.kind.cmp(&b.kind).then(a.number.cmp(&b.number));
+    if first.is_eq() && a.kind == TEXT {
+        spot_text(bytes, a).cmp(spot_text(bytes, b))
+    } else {
+        first
+    }
+}
+
+/// The key of a spot's row against another one.
+pub fn spot_against(bytes: &[u8], spot: &Spot, key: &Key) -> Ordering
+    ensures { result ≡ spot_against bytes.now spot.now key.now }
+{
+    match key {
+        Value::Int(number) => spot.kind.cmp(&NUMBER).then(spot.number.cmp(number)),
+        Value::Text(text) if spot.kind == TEXT => spot_text(bytes, spot).cmp(text.as_bytes()),
+        Value::Text(_) => spot.kind.cmp(&TEXT),
+        Value::Null => spot.kind.cmp(&NULL),
+    }
+}
