@@ -1,0 +1,165 @@
+-- Tags: that of a key where it is spelled, those that a page keeps, and which rows a search goes past.
+use Rattle.memchr.specs.Find.{NoneBefore, Nowhere, Passes, is_byte}
+use Rattle.salt_bytes.proofs.Only.{only_value, pair_only}
+use Rattle.salt_bytes.proofs.Values.{takes_value}
+use Rattle.salt_bytes.specs.Page.{TableRow}
+use Rattle.salt_bytes.specs.Spellable.{AreBytes, IsSpellableValue}
+use Rattle.salt_bytes.specs.Values.{is_row_length, spell_value, take_value}
+use Rattle.salt_pages.proofs.Found.{IsPast, key_at, past_all}
+use Rattle.salt_pages.proofs.Inserted.{row_of}
+use Rattle.salt_pages.proofs.Spelled.{as_many, own_rows, read_back}
+use Rattle.salt_pages.proofs.Taken.{drop_to_end}
+use Rattle.salt_pages.specs.Pages.{IsFound, IsRowOf, IsSpelled, IsSpelledSo, page_rows}
+use Rattle.salt_pages.specs.Tags.{IsTagged, row_tag, tag_of, tags_of}
+use Rattle.salt_values.specs.Value.{key_of}
+use Rattle.salt_values.specs.declared.value.Value.TheVariants.{Int, Null, Text}
+use Rattle.salt_values.specs.declared.value.Value.{Value}
+use Rattle.std.proofs.Common.{List, None, Option, Some, [], ap, arith, drop, get_or, inl, inr, length, length-append, length-drop, refl, subst, suc, sym, take, true, zero, ℕ, ◌+◌, ◌++◌, ◌-◌, ◌<◌, ◌≡◌, ◌≤◌, ◌∙◌, ◌∷◌, ◌⊎◌}
+use Rattle.std.proofs.Math.Seq.{take-suc}
+use Rattle.std.proofs.lemmas.List.{get_or-drop, get_or_append_left, map-append, take_all}
+use Rattle.std.specs.List.{remove}
+use Rattle.std.specs.Prelude.{nat_eq, slice_get}
+
+-- A KEY'S TAG
+
+pub some_bytes : (v : Value) → 1 ≤ length (spell_value v)
+some_bytes (Int z) = omega arith
+some_bytes (Text t) = omega arith
+some_bytes Null = omega arith
+
+module _ (bytes : List ℕ) (small : AreBytes bytes) (v : Value) (behind : List ℕ) (taken : take_value true bytes ≡ Some (v, behind)) where
+  spelled : bytes ≡ spell_value v ++ behind
+  spelled = (only_value true).only bytes small v behind taken
+
+  pub shorter : length behind + 1 ≤ length bytes
+  shorter = omega (arith, ap length spelled, length-append (spell_value v) behind, some_bytes v)
+
+  last : get_or bytes (length bytes - length behind - 1) 0 ≡ tag_of v
+  last =
+      let place : length bytes - length behind - 1 ≡ length (spell_value v) - 1 = omega (arith, ap length spelled, length-append (spell_value v) behind) in
+      (λ i. get_or (spelled i) (place i) 0) ∙ get_or_append_left (spell_value v) behind 0 (length (spell_value v) - 1) (omega (arith, some_bytes v))
+
+  -- of the key that is spelled there
+  pub last_of : (key : Value) (rest : List ℕ) → IsSpellableValue true key → bytes ≡ spell_value key ++ rest → get_or bytes (length bytes - length behind - 1) 0 ≡ tag_of key
+  last_of key rest good is = last ∙ ap tag_of (pair_only v key behind rest (sym taken ∙ ap (take_value true) is ∙ (takes_value true key good).taken rest)).0
+
+pub none_there : (bytes : List ℕ) → take_value true bytes ≡ None → (key : Value) (rest : List ℕ) → IsSpellableValue true key → bytes ≡ spell_value key ++ rest → 0 ≡ tag_of key
+none_there bytes none key rest good is = absurd (never (sym none ∙ ap (take_value true) is ∙ (takes_value true key good).taken rest))
+  where
+    never : ◌≡◌ {A = Option (Value × List ℕ)} None (Some (key, rest)) → ⊥
+    never e = cc
+
+-- THE TAGS OF ROWS
+
+pub tag_at_row : (rows : List TableRow) (i : ℕ) (r : TableRow) → slice_get rows i ≡ Some r → get_or (tags_of rows) i 0 ≡ row_tag r
+tag_at_row [] i r e = cc
+tag_at_row (x ∷ rows) zero r e = ap row_tag same
+  where
+    same : x ≡ r
+    same = cc
+tag_at_row (x ∷ rows) (suc i) r e = tag_at_row rows i r e
+
+pub as_many_tags : (rows : List TableRow) → length (tags_of rows) ≡ length rows
+as_many_tags [] = refl
+as_many_tags (r ∷ rows) = ap suc (as_many_tags rows)
+
+pub tags_removed : (rows : List TableRow) (i : ℕ) → remove (tags_of rows) i ≡ tags_of (remove rows i)
+tags_removed [] zero = refl
+tags_removed [] (suc i) = refl
+tags_removed (r ∷ rows) zero = refl
+tags_removed (r ∷ rows) (suc i) = ap (λ (l : List ℕ). row_tag r ∷ l) (tags_removed rows i)
+
+-- a page whose bytes spell these rows
+pub tagged_so : (bytes places tags : List ℕ) (free : ℕ) (rows : List TableRow) → IsSpelled bytes places free rows → tags ≡ tags_of rows → IsTagged bytes places tags free
+tagged_so bytes places tags free rows h is = record { spelled = own_rows bytes places free rows h; tagged = is ∙ ap tags_of (sym (read_back bytes places free rows h)) }
+
+module _ (bytes places : List ℕ) (h : IsSpelledSo bytes places) where
+  many : length (tags_of (page_rows bytes)) ≡ length places
+  many = as_many_tags (page_rows bytes) ∙ sym (as_many bytes places h.free (page_rows bytes) h.is)
+
+  -- the tags of the rows before this one, as they are collected
+  pub tags_next : (tags more : List ℕ) (tag i : ℕ) (low : i < length places) (key : List ℕ) → key ≡ drop (get_or places i 0 + 3) bytes
+      → ((k : Value) (rest : List ℕ) → IsSpellableValue true k → key ≡ spell_value k ++ rest → tag ≡ tag_of k)
+      → tags ≡ take i (tags_of (page_rows bytes)) → more ≡ tags ++ tag ∷ [] → more ≡ take (i + 1) (tags_of (page_rows bytes))
+  tags_next tags more tag i low key is says so put =
+      let at = key_at bytes places h i low in
+      let here : tag ≡ get_or (tags_of (page_rows bytes)) i 0 = says (key_of at.row.row) at.rest at.good (is ∙ at.spelled) ∙ sym (tag_at_row (page_rows bytes) i at.row at.is) in
+      let next : suc i ≡ i + 1 = omega arith in
+      put ∙ (λ j. so j ++ here j ∷ []) ∙ sym (take-suc (tags_of (page_rows bytes)) i 0 (omega (arith, low, many))) ∙ ap (λ (n : ℕ). take n (tags_of (page_rows bytes))) next
+
+  pub tags_all : (tags : List ℕ) (i : ℕ) → length places ≤ i → tags ≡ take i (tags_of (page_rows bytes)) → tags ≡ tags_of (page_rows bytes)
+  tags_all tags i end so = so ∙ take_all i (tags_of (page_rows bytes)) (omega (arith, end, many))
+
+  pub many_tags : (tags : List ℕ) → tags ≡ tags_of (page_rows bytes) → length tags ≡ length places
+  many_tags tags is = ap length is ∙ many
+
+-- A SEARCH
+
+own_number : (a : ℕ) → nat_eq a a ≡ true
+own_number a = grind (arith)
+
+-- no byte before the one that is found is this tag
+pub passed_over : (tag : ℕ) (tags hay : List ℕ) (from ahead : ℕ) → hay ≡ drop from tags → Nowhere (Passes (is_byte tag) hay) 0 ahead → (j : ℕ) → from ≤ j → j < from + ahead → get_or tags j 0 ≡ tag → ⊥
+passed_over tag tags hay from ahead is none j low high same =
+    let place : from + (j - from) ≡ j = omega (arith, low) in
+    let there : get_or hay (j - from) 0 ≡ tag = ap (λ (l : List ℕ). get_or l (j - from) 0) is ∙ get_or-drop from tags (j - from) 0 ∙ ap (λ (n : ℕ). get_or tags n 0) place ∙ same in
+    none (j - from) (omega arith) (omega (arith, low, high)) (subst (λ (n : ℕ). nat_eq n tag ≡ true) (sym there) (own_number tag))
+
+below_or_from : (from j : ℕ) → (j < from) ⊎ (from ≤ j)
+below_or_from from j = grind arith
+
+-- a row whose tag is not the key's last byte is no row with this key
+pub past_over : (table : ℕ) (key : List ℕ) (rows : List TableRow) (tags : List ℕ) (from to : ℕ) → tags ≡ tags_of rows → ((j : ℕ) → from ≤ j → j < to → get_or tags j 0 ≡ get_or key (length key - 1) 0 → ⊥) → IsPast table key rows from → IsPast table key rows to
+past_over table key rows tags from to are none past = record { past = λ k fits is j r low e of'. by k fits is j r low e of' (below_or_from from j) }
+  where
+    by : (k : Value) → IsSpellableValue true k → key ≡ spell_value k → (j : ℕ) (r : TableRow) → j < to → slice_get rows j ≡ Some r → IsRowOf table k r → (j < from) ⊎ (from ≤ j) → ⊥
+    by k fits is j r low e of' (inl before) = past.past k fits is j r before e of'
+    by k fits is j r low e of' (inr behind) = none j behind low (ap (λ (l : List ℕ). get_or l j 0) are ∙ tag_at_row rows j r e ∙ ap tag_of of'.1 ∙ ap (λ (l : List ℕ). get_or l (length l - 1) 0) (sym is))
+
+module _ (bytes places tags : List ℕ) (h : IsSpelledSo bytes places) (are : tags ≡ tags_of (page_rows bytes)) (from : ℕ) (within : from ≤ length tags) where
+  -- the tags that are left
+  abbrev left : List ℕ
+  left = take (length tags - from) (drop from tags)
+
+  whole : left ≡ drop from tags
+  whole = drop_to_end from tags within
+
+  size : from + length left ≡ length places
+  size = omega (arith, within, ap length whole, length-drop from tags, many_tags bytes places h tags are)
+
+  module _ (table : ℕ) (key : List ℕ) (past : IsPast table key (page_rows bytes) from) where
+    abbrev tag : ℕ
+    tag = get_or key (length key - 1) 0
+
+    gone_past : (ahead : ℕ) → Nowhere (Passes (is_byte tag) left) 0 ahead → IsPast table key (page_rows bytes) (from + ahead)
+    gone_past ahead none = past_over table key (page_rows bytes) tags from (from + ahead) are (passed_over tag tags left from ahead whole none) past
+
+    module _ (ahead : ℕ) (first : NoneBefore (Passes (is_byte tag) left) 0 (length left) ahead) where
+      pub in_places : from + ahead < length places
+      in_places = omega (arith, size, first.high)
+
+      pub within_next : from + ahead + 1 ≤ length tags
+      within_next = omega (arith, in_places, many_tags bytes places h tags are)
+
+      pub past_so_far : IsPast table key (page_rows bytes) (from + ahead)
+      past_so_far = gone_past ahead first.before
+
+    pub nowhere : Nowhere (Passes (is_byte tag) left) 0 (length left) → (k : Value) → IsSpellableValue true k → key ≡ spell_value k → IsFound table k (page_rows bytes) None
+    nowhere none = past_all table key bytes places (from + length left) h (omega (arith, size)) (gone_past (length left) none)
+
+-- A ROW MORE
+
+some_values : (row : List Value) → is_row_length (length row) ≡ true → 1 ≤ length row
+some_values [] some = cc
+some_values (v ∷ row) some = omega arith
+
+first_value : (row : List Value) (d : Value) → 1 ≤ length row → get_or row 0 d ≡ key_of row
+first_value [] d some = absurd (omega (arith, some))
+first_value (v ∷ row) d some = refl
+
+-- the tag of the row that is put behind the others, as its first value says it
+pub tags_push : (rows : List TableRow) (table : ℕ) (row seen : List Value) (d : Value) (tags more : List ℕ) (tag : ℕ) → is_row_length (length row) ≡ true → seen ≡ row → tag ≡ tag_of (get_or seen 0 d) → tags ≡ tags_of rows → more ≡ tags ++ tag ∷ []
+    → more ≡ tags_of (rows ++ row_of table row ∷ [])
+tags_push rows table row seen d tags more tag some same says are put =
+    let here : tag ≡ tag_of (key_of row) = says ∙ ap (λ (l : List Value). tag_of (get_or l 0 d)) same ∙ ap tag_of (first_value row d (some_values row some)) in
+    put ∙ (λ i. are i ++ here i ∷ []) ∙ sym (map-append row_tag rows (row_of table row ∷ []))
