@@ -9,14 +9,16 @@ use Rattle.salt_pages.specs.Pages.{used_by}
 use Rattle.salt_directory.proofs.Alike.{turned}
 use Rattle.salt_directory.specs.Bytes.{IsWithin, bytes_of_entries, bytes_put, row_bytes}
 use Rattle.salt_directory.specs.Pages.{AreRowsOf, all_rows, free_on}
-use Rattle.salt_directory.specs.Space.{HasRoom}
+use Rattle.salt_directory.specs.Space.{HasRoom, may_grow}
 use Rattle.salt_stands.proofs.Booleans.{left, right}
 use Rattle.salt_stands.proofs.Places.{row_at_set}
 use Rattle.salt_stands.specs.Partition.{is_at_other}
 use Rattle.salt_stands.specs.Tables.{change_of_row}
 use Rattle.salt_values.specs.declared.change.Change.{Change}
 use Rattle.salt_values.specs.declared.value.Value.{Value}
-use Rattle.std.proofs.Common.{Bool, Equal, Greater, Less, List, None, Option, Ordering, Some, [], ap, arith, cond, false, get_or, length, length-append, map, not, refl, subst, suc, sym, true, ℕ, ◌*◌, ◌+◌, ◌++◌, ◌/◌, ◌-◌, ◌<◌, ◌≡◌, ◌≤◌, ◌∙◌, ◌∷◌}
+use Rattle.std.proofs.Common.{Bool, Equal, Greater, Less, List, None, Option, Ordering, Some, [], ap, arith, cond, false, get_or, length, length-append, map, not, refl, subst, suc, sum, sym, true, ℕ, ◌*◌, ◌+◌, ◌++◌, ◌/◌, ◌-◌, ◌<◌, ◌≡◌, ◌≤◌, ◌∙◌, ◌∷◌}
+use Rattle.std.proofs.lemmas.Bool.{leb-true}
+use Rattle.std.proofs.lemmas.List.Sums.{sum_by-cons}
 use Rattle.std.proofs.lemmas.List.{get_or-map, length-map}
 use Rattle.std.specs.FinMap.Entries.{by_order, find, put, where_key}
 use Rattle.std.specs.List.{flat_map}
@@ -132,6 +134,22 @@ few pages free size is small none =
     (full_page (get_or pages i []) size (subst (λ n. n < size) (ap (λ (l : List ℕ). get_or l i 0) is ∙ get_or-map free_on pages i [] 0 within) (none i (omega (arith, within, ap length is, length-map pages free_on)))))) in
     let sum : 4076 * length (map used_by pages) ≤ sum_of (map used_by pages) = few_pages size small (map used_by pages) each in
     omega (arith, sum, length-map pages used_by, pages_bytes pages)
+
+-- bytes that are not free are used
+least_used : (pages : List (List TableRow)) → 8190 * length pages ≤ sum (map free_on pages) + rows_bytes (all_rows pages)
+unfolding rows_bytes
+least_used [] = omega arith
+least_used (rows ∷ pages) = omega (arith, least_used pages, own rows, used_is rows, bytes_append rows (all_rows pages), sum_by-cons (λ n. n) (free_on rows) (map free_on pages))
+  where
+    own : (rows : List TableRow) → 8190 ≤ free_on rows + used_by rows
+    own rows = omega arith
+
+-- where there may be one page more, they are few
+pub few_grown : (pages : List (List TableRow)) (free : List ℕ) → free ≡ map free_on pages → may_grow free ≡ true → 4076 * length pages ≤ rows_bytes (all_rows pages)
+few_grown pages free is grows =
+    let most : sum free ≤ length free * 4114 = leb-true (sum free) (length free * 4114) grows in
+    let least = least_used pages in
+    omega (arith, subst (λ (l : List ℕ). sum l ≤ length l * 4114) is most, length-map pages free_on, least)
 
 -- WITHIN
 

@@ -1,9 +1,11 @@
 -- A directory with one change has the places of the tables with one change.
 use Rattle.salt_model.specs.Tables.{Entry, is_other, place_cmp, place_total}
 use Rattle.salt_model.specs.declared.places.Place.{Place}
+use Rattle.salt_directory.proofs.Alike.{turned}
 use Rattle.salt_directory.specs.Pages.{page_of}
+use Rattle.salt_stands.proofs.Places.{equal_is, place_same}
 use Rattle.salt_values.specs.declared.value.Value.{Value}
-use Rattle.std.proofs.Common.{Bool, Equal, Greater, Less, List, None, Ordering, Some, [], ap, cond, false, is_some, not, refl, sym, true, ℕ, ◌&&◌, ◌≡◌, ◌∙◌, ◌∷◌}
+use Rattle.std.proofs.Common.{Bool, Equal, Greater, Less, List, None, Option, Ordering, Some, [], ap, cond, false, is_some, not, refl, sym, true, ℕ, ◌&&◌, ◌≡◌, ◌∙◌, ◌∷◌}
 use Rattle.std.specs.BTreeMap.{insert_entry, is_at}
 use Rattle.std.specs.FinMap.Entries.{below_all, by_order, find, find-put, is_sorted, put, where_key}
 use Rattle.std.specs.Map.{keys_of, lookup, remove_entry}
@@ -138,3 +140,49 @@ keys_stay q row (e ∷ es) sorted some = by (place_cmp q e.0) refl some (λ h. k
       where
         clash : {b : Bool} → b ≡ false → b ≡ true → ⊥
         clash x y = cc
+
+-- WITHOUT A PLACE
+
+own_none : (k : Place) (es : List Entry) → T (below_all place_cmp k es) → find place_cmp k es ≡ None
+own_none k [] h = refl
+own_none k (e ∷ es) h =
+    ap (λ o. cond (is_eq o) (Some e.1) (find place_cmp k es)) (less (place_cmp k e.0) (first (is_lt (place_cmp k e.0)) _ h))
+    ∙ own_none k es (second (is_lt (place_cmp k e.0)) _ h)
+
+none_of : {X : Type 0} (o : Option X) → is_some o ≡ false → o ≡ None
+none_of None h = refl
+none_of (Some x) h = cc
+
+pub page_gone : (q p : Place) (ds : List (Place × ℕ)) (es : List Entry) → T (is_sorted place_cmp es) → keys_of ds ≡ keys_of es → page_of (remove_entry (is_at (place_cmp q)) ds) p ≡ cond (is_eq (place_cmp q p)) None (page_of ds p)
+page_gone q p [] [] sorted same = by (is_eq (place_cmp q p))
+  where
+    by : (b : Bool) → ◌≡◌ {A = Option ℕ} None (cond b None None)
+    by true = refl
+    by false = refl
+page_gone q p [] (e ∷ es) sorted same = cc
+page_gone q p (d ∷ ds) [] sorted same = cc
+page_gone q p (d ∷ ds) (e ∷ es) sorted same = by (is_eq (place_cmp q d.0)) refl (is_eq (place_cmp q p)) refl (page_gone q p ds es (second (below_all place_cmp e.0 es) _ sorted) tail)
+  where
+    head : d.0 ≡ e.0
+    head = cc
+
+    tail : keys_of ds ≡ keys_of es
+    tail = cc
+
+    is_one : (k : Place) → is_eq (place_cmp q k) ≡ true → q ≡ k
+    is_one k at = place_same q k (equal_is (place_cmp q k) at)
+
+    by : (a : Bool) → is_eq (place_cmp q d.0) ≡ a → (b : Bool) → is_eq (place_cmp q p) ≡ b → page_of (remove_entry (is_at (place_cmp q)) ds) p ≡ cond (is_eq (place_cmp q p)) None (page_of ds p)
+        → page_of (cond a ds (d ∷ remove_entry (is_at (place_cmp q)) ds)) p ≡ cond b None (page_of (d ∷ ds) p)
+    by true at true here rest = none_of (page_of ds p) (page_alike p ds es tail ∙ ap (λ (k : Place). is_some (find place_cmp k es)) own ∙ ap is_some (own_none e.0 es (first (below_all place_cmp e.0 es) _ sorted)))
+      where
+        own : p ≡ e.0
+        own = sym (is_one p here) ∙ is_one d.0 at ∙ head
+    by true at false there rest = sym (ap (λ c. cond c (Some d.1) (page_of ds p)) other)
+      where
+        other : is_eq (place_cmp p d.0) ≡ false
+        other = turned p d.0 ∙ ap (λ (k : Place). is_eq (place_cmp k p)) (sym (is_one d.0 at)) ∙ there
+    by false at true here rest =
+        ap (λ c. cond c (Some d.1) (page_of (remove_entry (is_at (place_cmp q)) ds) p)) (ap (λ (k : Place). is_eq (place_cmp k d.0)) (sym (is_one p here)) ∙ at)
+        ∙ rest ∙ ap (λ c. cond c None (page_of ds p)) here
+    by false at false there rest = ap (λ o. cond (is_eq (place_cmp p d.0)) (Some d.1) o) (rest ∙ ap (λ c. cond c None (page_of ds p)) there)

@@ -1,11 +1,17 @@
 pub mod Alike
 pub mod Bounds
 pub mod Changed
+pub mod Halved
 pub mod Keys
+pub mod Lengths
 pub mod Listed
+pub mod Loading
+pub mod Marking
 pub mod Nexts
 pub mod PageAt
+pub mod Parts
 pub mod Placed
 pub mod Rooms
 pub mod Split
+pub mod Totals
 pub mod Wider

@@ -4,3 +4,5 @@ pub mod Listing
 pub mod Pages
 pub mod Rows
 pub mod Space
+pub mod Loading
+pub mod Halves

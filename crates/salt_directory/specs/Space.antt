@@ -2,8 +2,9 @@
 use Rattle.salt_directory.specs.declared.space.Room.{Room}
 use Rattle.std.specs.BTreeSet.{BTreeSet, contains}
 use Rattle.std.specs.Cmp.{IsTotalOrder, nat_cmp_total, on_total, then_total}
+use Rattle.std.specs.List.{All}
 use Rattle.std.specs.Ordering.{is_gt, nat_cmp, on, then_cmp}
-use Rattle.std.specs.Prelude.{List, None, Option, Some, false, get_or, length, true, ℕ, ◌<◌, ◌↔◌, ◌≡◌, ◌≤◌}
+use Rattle.std.specs.Prelude.{Bool, List, None, Option, Some, false, get_or, length, nat_le, sum, true, ℕ, ◌*◌, ◌<◌, ◌↔◌, ◌≡◌, ◌≤◌}
 use Rattle.std.specs.declared.cmp.Ordering.{Ordering}
 
 abbrev pub free_in : Room → ℕ
@@ -36,3 +37,12 @@ IsFirstFrom order least (Some found) = (contains room_cmp order found ≡ true) 
 abbrev pub HasRoom : List ℕ → ℕ → Option ℕ → Type 0
 HasRoom free n None = (page : ℕ) → page < length free → get_or free page 0 < n
 HasRoom free n (Some page) = (page < length free) × (n ≤ get_or free page 0)
+
+-- the free bytes of all pages, of which none has 65,536
+pub record IsSumOf (free : List ℕ) (total : ℕ) : Type 0 where
+  pub is : total ≡ sum free
+  pub small : All (λ n. n ≤ 65535) free
+
+-- of each page 4,076 bytes at least are used on the whole, so that there may be one more
+abbrev pub may_grow : List ℕ → Bool
+may_grow free = nat_le (sum free) (length free * 4114)

@@ -1,19 +1,21 @@
 //! The page of each row, by its place.
 
 ghost use Rattle.salt_directory.specs.Directories.{HasPagesBelow, IsNextPlace, first_behind};
+ghost use Rattle.salt_directory.specs.Loading.{HaveAllOf, count_in};
 ghost use Rattle.salt_directory.specs.Pages.{page_of};
 ghost use Rattle.std.specs.BTreeMap.Range.{entries_between};
+ghost use Rattle.std.specs.List.{slice_set};
 ghost use Rattle.std.specs.List.Sorted.{IsStrictlySortedBy};
 ghost use Rattle.std.specs.Map.{keys_of};
 ghost use Rattle.std.specs.Map.Iter.{deref_pair};
 ghost use Rattle.std.specs.Option.{option_copied};
-ghost use Rattle.std.specs.Prelude.{IfOk, IfSome, OnOk, Some, option_map, ◌<◌, ◌≡◌};
+ghost use Rattle.std.specs.Prelude.{IfOk, IfSome, OnOk, Some, length, option_map, true, ◌<◌, ◌≡◌};
 ghost use Rattle.std.specs.declared.ops.Bound.TheVariants.{Unbounded};
 ghost use Rattle.salt_model.specs.Tables.{place, place_cmp};
 ghost use Rattle.salt_model.specs.Words.{first_of_list};
 
 use salt_eval::start_of;
-use salt_model::Place;
+use salt_model::{Place, first_place};
 use salt_ranges::KeyRange;
 use salt_values::{Key, TryCopy};
 use std::alloc::{AllocError, Global};
@@ -39,6 +41,15 @@ pub fn page_before(directory: &Directory, place: &Place) -> Option<u32>
 {
     let (_place, page) = directory.range(..place).next_back()?;
     Some(*page)
+}
+
+/// Whether no row of the place's table is above it: so it is of rows that come in rising order.
+pub fn is_last(directory: &Directory, place: &Place) -> bool {
+    let mut above = directory.range((Bound::Excluded(place), Bound::Unbounded));
+    match above.next() {
+        Some((next, _page)) => next.table != place.table,
+        None => true,
+    }
 }
 
 /// The first place from there on, with its page.
@@ -71,4 +82,45 @@ pub fn next_place(
     } else {
         Ok(None)
     }
+}
+
+/// The rows of a range: which pages have some, and how many there are.
+#[derive(Drop)]
+pub struct Extent {
+    pub pages: Vec<bool>,
+    pub rows: usize,
+}
+
+/// A page is marked, where it is one of these.
+fn mark(pages: &mut Vec<bool>, page: u32)
+    ensures { pages.new.items ≡ slice_set pages.old.items page true }
+{
+    if (page as usize) < pages.len() {
+        pages[page as usize] = true;
+    }
+}
+
+/// Which of so many pages have a row of the table whose key is in the range, and how many such rows there are.
+pub fn extent_of(
+    alloc: Global,
+    directory: &Directory,
+    table: u16,
+    range: &KeyRange,
+    count: usize,
+) -> Result<Extent, AllocError>
+    ensures count { IfOk result (λ extent. length extent.pages.items ≡ count) }
+    ensures all { IfOk result (λ extent. HaveAllOf table range.now directory.now.entries extent.pages.items) }
+    ensures rows { IfOk result (λ extent. extent.rows ≡ count_in table range.now directory.now.entries) }
+{
+    let mut pages = vec![in alloc; false; count]?;
+    let mut rows = 0;
+    let start = first_place(alloc, table, &range.lo)?;
+    for (place, page) in directory.range((start, Bound::Unbounded)) {
+        if place.table != table || !range.has(&place.key) {
+            break;
+        }
+        mark(&mut pages, *page);
+        rows += 1;
+    }
+    Ok(Extent { pages, rows })
 }

@@ -3,14 +3,16 @@
 
 mod directory;
 mod error;
+mod halving;
 mod judge;
 mod listing;
 mod page;
 mod space;
 
-pub use directory::{Directory, next_place, page_before, page_of};
+pub use directory::{Directory, Extent, extent_of, is_last, next_place, page_before, page_of};
 pub use error::ListErr;
+pub use halving::{Half, put_places, split_page};
 pub use judge::{AnyRow, RowJudge};
 pub use listing::list_page;
-pub use page::{Replaced, new_page, put_on, replace_on, row_of};
+pub use page::{Replaced, load_page, load_row, new_page, put_on, replace_on, row_of};
 pub use space::Space;

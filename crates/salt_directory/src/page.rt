@@ -1,13 +1,20 @@
 //! Rows of one page are found, put and replaced by their keys.
 
-ghost use Rattle.salt_bytes.specs.Values.{HasRowTo, is_row_length, spell_values};
+ghost use Rattle.salt_bytes.specs.Page.{TableRow, take_table_row};
+ghost use Rattle.salt_bytes.specs.Values.{HasRowTo, is_row_length, spell_values, take_row};
+ghost use Rattle.salt_directory.specs.Loading.{rows_within};
 ghost use Rattle.salt_directory.specs.Pages.{free_on};
 ghost use Rattle.salt_directory.specs.Rows.{IsPut, IsReplaced, IsRowFound, one_row};
+ghost use Rattle.salt_eval.specs.Scans.{row_list};
+ghost use Rattle.salt_loaded.specs.Rows.{with_rows};
 ghost use Rattle.salt_pages.specs.Pages.{used_by};
+ghost use Rattle.salt_values.specs.declared.value.Value.{Value};
 ghost use Rattle.std.specs.Option.{option_copied};
-ghost use Rattle.std.specs.Prelude.{IfOk, IsTrue, Some, false, is_some, length, true, ◌+◌, ◌++◌, ◌<◌, ◌≡◌};
+ghost use Rattle.std.specs.Prelude.{IfOk, IsTrue, List, OnOk, Option, Some, [], false, is_some, length, true, ◌+◌, ◌++◌, ◌<◌, ◌==◌, ◌≡◌};
 
+use salt_loaded::Loading;
 use salt_pages::{Page, PageErr, row_room};
+use salt_ranges::KeyRange;
 use salt_values::{Key, Row};
 use std::alloc::{AllocError, Global};
 
@@ -36,14 +43,14 @@ pub fn row_of(alloc: Global, page: &Page, table: u16, key: &Key) -> Result<Optio
 }
 
 /// How many bytes are free on a page.
-fn free_bytes(page: &Page) -> u16
+pub(crate) fn free_bytes(page: &Page) -> u16
     ensures { result ≡ free_on page.now }
 {
     page.free() as u16
 }
 
 /// Puts a row behind the others, where it has room. Whether it had.
-fn put_if_room(page: &mut Page, table: u16, row: &Row) -> Result<bool, AllocError>
+pub(crate) fn put_if_room(page: &mut Page, table: u16, row: &Row) -> Result<bool, AllocError>
     requires { is_row_length (length row.now) ≡ true }
     ensures put { IfOk result (λ put. IsTrue put → page.new ≡ page.old ++ one_row table (Some row.now)) }
     ensures same { IfOk result (λ put. put ≡ false → page.new ≡ page.old) }
@@ -114,5 +121,50 @@ pub fn new_page(alloc: Global, table: u16, row: &Row) -> Result<(Page, u16), All
         Some(free) => Ok((page, free)),
         // the longest row has room on a page of its own
         None => unreachable!(),
+    }
+}
+
+/// Whether a row that is spelled behind its table's number is of this table.
+fn is_of_table(spelled: &[u8], table: u16) -> bool
+    ensures { (r : TableRow) → take_table_row true spelled.now ≡ Some (r, []) → result ≡ (table == r.table) }
+{
+    match spelled {
+        [high, low, ..] => u16::from_be_bytes([*high, *low]) == table,
+        _ => false,
+    }
+}
+
+/// A row without its table's number, behind which it is spelled.
+fn behind_number(spelled: &[u8]) -> &[u8]
+    requires { (r : TableRow) × take_table_row true spelled.now ≡ Some (r, []) }
+    ensures { (r : TableRow) → take_table_row true spelled.now ≡ Some (r, []) → take_row true result.now ≡ Some (r.row, []) }
+{
+    &spelled[2..]
+}
+
+/// The rows of a page that are of the table and in the range are loaded.
+pub fn load_page(page: &Page, range: &KeyRange, out: &mut Loading) -> Result<(), AllocError>
+    ensures { OnOk result (out.new ≡ with_rows (rows_within out.old.table range.now page.now) out.old) }
+{
+    let table = out.table();
+    for i in 0..page.count() {
+        let spelled = page.spelled(i);
+        if is_of_table(spelled, table) {
+            out.push_within(range, behind_number(spelled))?;
+        }
+    }
+    Ok(())
+}
+
+/// The row of a key is loaded. Whether the page has it.
+pub fn load_row(page: &Page, key: &Key, out: &mut Loading) -> Result<bool, AllocError>
+    ensures { IfOk result (λ found. (row : Option (List Value)) × IsRowFound out.old.table key.now page.now row × (found ≡ is_some row) × (out.new ≡ with_rows (row_list row) out.old)) }
+{
+    match page.find(out.table(), key) {
+        Some(i) => {
+            out.push(behind_number(page.spelled(i)))?;
+            Ok(true)
+        }
+        None => Ok(false),
     }
 }

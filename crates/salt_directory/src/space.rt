@@ -1,6 +1,6 @@
 //! The free bytes of pages, by page and by how many.
 
-ghost use Rattle.salt_directory.specs.Space.{HasRoom, IsFirstFrom, room_cmp, room_total};
+ghost use Rattle.salt_directory.specs.Space.{HasRoom, IsFirstFrom, may_grow, room_cmp, room_total};
 ghost use Rattle.std.specs.Cmp.{eq_by_cmp_equiv, partial_equiv_from_equiv, partial_order_from_total};
 ghost use Rattle.std.specs.Ordering.{as_partial_cmp, eq_by_cmp};
 ghost use Rattle.std.specs.Prelude.{OnErr, OnOk, [], get_or, length, refl, slice_set, ◌+◌, ◌++◌, ◌<◌, ◌^◌, ◌∷◌, ◌≡◌};
@@ -68,17 +68,19 @@ fn first_from(order: &BTreeSet<Room>, least: Room) -> Option<Room>
 pub struct Space {
     free: Vec<u16>,
     order: BTreeSet<Room>,
+    // the free bytes of all pages
+    total: u64,
 }
 
 impl Model for Space {
     ghost use Rattle.std.specs.Prelude.{List, ℕ};
-    ghost use Rattle.salt_directory.specs.Space.{IsOrderOf};
+    ghost use Rattle.salt_directory.specs.Space.{IsOrderOf, IsSumOf};
 
     ghost Value = { List ℕ };
 
     ghost view = { λ s. s.free.items };
 
-    ghost invariant = { λ s. IsOrderOf s.free.items s.order };
+    ghost invariant = { λ s. IsOrderOf s.free.items s.order × IsSumOf s.free.items s.total };
 }
 
 impl Space {
@@ -89,6 +91,7 @@ impl Space {
         Space {
             free: Vec::new(alloc),
             order: BTreeSet::new(alloc),
+            total: 0,
         }
     }
 
@@ -109,6 +112,7 @@ impl Space {
         self.free.reserve(1)?;
         self.order.insert(Room { free, page })?;
         self.free.push(free)?;
+        self.total += u64::from(free);
         Ok(())
     }
 
@@ -125,7 +129,16 @@ impl Space {
         self.order.insert(Room { free, page })?;
         self.order.remove(&Room { free: before, page });
         self.free[page as usize] = free;
+        self.total = self.total + u64::from(free) - u64::from(before);
         Ok(())
+    }
+
+    /// Whether the rows fill half of the pages: of each page 4,076 bytes at least are used on the whole.
+    pub fn may_grow(&self) -> bool
+        ensures { result ≡ may_grow self.now }
+    {
+        let count = self.free.as_slice().len() as u64;
+        self.total <= count * 4114
     }
 
     /// A page with at least so many free bytes, of those the fullest.

@@ -11,7 +11,7 @@ ghost use Rattle.salt_pool.specs.contracts.pool.Pool.{the_row};
 ghost use Rattle.salt_pool.specs.declared.error.PoolErr.TheVariants.{Disk, NotPage, PoolFull};
 ghost use Rattle.std.specs.Borrow.{LendsIf, LendsSoOk, sem};
 ghost use Rattle.std.specs.Option.{option_copied_mut};
-ghost use Rattle.std.specs.Prelude.{Err, IfErr, IfOk, IsTrue, None, OnErr, OnOk, Some, [], is_some, length, true, ◌<◌, ◌↔◌, ◌==◌, ◌≡◌, ◌≤◌, ◌⊎◌};
+ghost use Rattle.std.specs.Prelude.{Err, IfErr, IfOk, IsTrue, None, OnErr, OnOk, Some, [], is_some, length, true, ◌-◌, ◌<◌, ◌↔◌, ◌==◌, ◌≡◌, ◌≤◌, ◌⊎◌};
 ghost use Rattle.std.specs.Result.{result_err};
 
 use crate::codec::PageCodec;
@@ -65,6 +65,13 @@ impl<P: Drop, C: PageCodec<P>> Pool<P, C> {
         ensures { result ≡ (length (dirty_of self.now) == frame_count) }
     {
         self.dirty.is_full()
+    }
+
+    /// How many pages more may be dirty.
+    pub fn room(&self) -> usize
+        ensures { result ≡ frame_count - length (dirty_of self.now) }
+    {
+        FRAMES - self.dirty.len()
     }
 
     /// The page, in its frame, for reading and writing. Where it has none it is read from this side, and the least recently used

@@ -4,9 +4,12 @@ pub mod Changing
 pub mod Device
 pub mod Few
 pub mod Flushed
+pub mod Halved
 pub mod Kept
+pub mod Loads
 pub mod OneChange
 pub mod Opened
+pub mod Parting
 pub mod Pool
 pub mod Put
 pub mod Read

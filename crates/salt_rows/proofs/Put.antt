@@ -2,24 +2,24 @@
 use Rattle.salt_bytes.specs.Page.{TableRow}
 use Rattle.salt_checkpoint.proofs.Torn.{keeps_all, keeps_more}
 use Rattle.salt_checkpoint.specs.Sides.{KeepsNamed, NamedSame}
-use Rattle.salt_directory.proofs.Bounds.{removed_most, within_more, within_one}
+use Rattle.salt_directory.proofs.Bounds.{removed_most, within_more, within_on, within_one}
 use Rattle.salt_directory.specs.Bytes.{IsWithin, bytes_of_entries, row_bytes}
 use Rattle.salt_directory.specs.Pages.{free_on}
 use Rattle.salt_directory.specs.Rows.{one_row}
-use Rattle.salt_directory.specs.Space.{HasRoom}
+use Rattle.salt_directory.specs.Space.{HasRoom, may_grow}
 use Rattle.salt_disk.specs.Disks.{KeepsAll, View}
 use Rattle.salt_disk.specs.declared.disks.DiskErr.{DiskErr}
 use Rattle.salt_model.specs.Tables.{Tables, place_cmp, put_row, remove_at, row_at}
 use Rattle.salt_model.specs.declared.places.Place.{Place}
 use Rattle.salt_pool.specs.Pools.{IsPool, with_dirty, with_frame}
-use Rattle.salt_rows.proofs.Bounded.{few_in}
+use Rattle.salt_rows.proofs.Bounded.{few_growing, few_in}
 use Rattle.salt_rows.proofs.Changing.{gone_there, put_again, standing_fresh}
 use Rattle.salt_rows.specs.Changing.{IsFresh}
 use Rattle.salt_rows.specs.Stores.{IsRowStore, IsStanding, HasRowsStanding, StandsOnPages, page_count}
 use Rattle.salt_rows.specs.declared.store.RowStore.{RowStore}
 use Rattle.salt_values.specs.Value.{key_of}
 use Rattle.salt_values.specs.declared.value.Value.{Value}
-use Rattle.std.proofs.Common.{IsTrue, List, None, Option, Some, [], ap, length, refl, subst, sym, ℕ, ◌+◌, ◌++◌, ◌≡◌, ◌≤◌, ◌∙◌, ◌∷◌}
+use Rattle.std.proofs.Common.{IsTrue, List, None, Option, Some, [], ap, length, refl, subst, sym, true, ℕ, ◌+◌, ◌++◌, ◌≡◌, ◌≤◌, ◌∙◌, ◌∷◌}
 use Rattle.std.specs.BTreeMap.{insert_entry}
 
 -- ON A NEW PAGE
@@ -74,3 +74,13 @@ named_kept named d e1 e2 dev same kept = subst (λ (bytes : List ℕ). NamedSame
 pub within_taken : (q : Place) (t : Tables) (n m k : ℕ) → n ≡ m → IsWithin n (bytes_of_entries (remove_at q t).list) k → IsWithin m (bytes_of_entries t.list) k
 within_taken q t n m k same within =
     within_more m (bytes_of_entries (remove_at q t).list) (bytes_of_entries t.list) k (removed_most q t) (subst (λ c. IsWithin c (bytes_of_entries (remove_at q t).list) k) same within)
+
+-- nor are there more behind a row that is put where one was taken out
+pub within_put : (q : Place) (t : Tables) (n k m : ℕ) → IsWithin n (bytes_of_entries t.list) k → IsWithin k (bytes_of_entries (remove_at q t).list) m → IsWithin n (bytes_of_entries t.list) m
+within_put q t n k m first second =
+    within_on n k m (bytes_of_entries t.list) first (within_more k (bytes_of_entries (remove_at q t).list) (bytes_of_entries t.list) m (removed_most q t) second)
+
+-- a page is split only where there may be one more
+pub split_within : (d : View) (x z : RowStore) (dev : ℕ) (named : List ℕ) (t : Tables) → IsRowStore d x dev named t → IsTrue d.told → may_grow x.space ≡ true → page_count z ≤ page_count x + 1 → IsWithin (page_count x) (bytes_of_entries t.list) (page_count z)
+split_within d x z dev named t is told grows more =
+    within_one (page_count x) (bytes_of_entries t.list) (page_count z) (few_growing (d.bytes dev) x.pool x.sides.items x.space x.directory.entries t (is.is.told told) grows) more

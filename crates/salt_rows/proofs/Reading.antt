@@ -18,6 +18,7 @@ use Rattle.salt_rows.proofs.Kept.{kept_framed}
 use Rattle.salt_directory.proofs.PageAt.{no_page, page_is}
 use Rattle.salt_rows.proofs.Standing.{pages_framed, side_low}
 use Rattle.salt_rows.specs.Frames.{CanFrame, Frames, or_read, shown_page}
+use Rattle.salt_rows.specs.Sides.{ArePages}
 use Rattle.salt_directory.specs.Pages.{page_of}
 use Rattle.salt_directory.specs.Rows.{IsRowFound}
 use Rattle.salt_rows.specs.Stores.{HavePages, IsStanding}
@@ -30,15 +31,15 @@ use Rattle.std.proofs.lemmas.Bool.{cases_lt}
 use Rattle.std.specs.Map.{lookup}
 use Rattle.std.specs.Prelude.{slice_get}
 
-some_same : {A : Type 0} (x y : A) → Some x ≡ Some y → x ≡ y
+pub some_same : {A : Type 0} (x y : A) → Some x ≡ Some y → x ≡ y
 some_same x y e = cc
 
 -- SHOWN
 
 -- each page is shown, with its rows
-pub shows : (bytes : List ℕ) (x : Frames) (sides space : List ℕ) (directory : List (Place × ℕ)) (t : Tables) (has : HavePages bytes x sides space directory t) → IsPool x → (page : ℕ) → page < length sides
-    → shown_page bytes x.frames.entries page (get_or sides page 0) ≡ Some (get_or has.pages page [])
-shows bytes x sides space directory t has pool page low = by (lookup (nat_eq page) x.frames.entries) refl
+pub shows_on : (bytes : List ℕ) (x : Frames) (sides : List ℕ) (pages : List (List TableRow)) → ArePages bytes x.frames.entries x.dirty.items sides pages → IsPool x → (page : ℕ) → page < length sides
+    → shown_page bytes x.frames.entries page (get_or sides page 0) ≡ Some (get_or pages page [])
+shows_on bytes x sides pages are pool page low = by (lookup (nat_eq page) x.frames.entries) refl
   where
     clean : (b : Bool) → is_dirty x.dirty.items page ≡ b → lookup (nat_eq page) x.frames.entries ≡ None → is_dirty x.dirty.items page ≡ false
     clean false e none = e
@@ -47,9 +48,13 @@ shows bytes x sides space directory t has pool page low = by (lookup (nat_eq pag
         clash : true ≡ false → ⊥
         clash h = cc
 
-    by : (o : Option (List TableRow)) → lookup (nat_eq page) x.frames.entries ≡ o → or_read (lookup (nat_eq page) x.frames.entries) (page_at true bytes page (get_or sides page 0)) ≡ Some (get_or has.pages page [])
-    by None e = ap (λ o. or_read o (page_at true bytes page (get_or sides page 0))) e ∙ has.are.stand page low (clean (is_dirty x.dirty.items page) refl e)
-    by (Some own) e = ap (λ o. or_read o (page_at true bytes page (get_or sides page 0))) e ∙ ap (λ (rows : List TableRow). Some rows) (has.are.framed page own low e)
+    by : (o : Option (List TableRow)) → lookup (nat_eq page) x.frames.entries ≡ o → or_read (lookup (nat_eq page) x.frames.entries) (page_at true bytes page (get_or sides page 0)) ≡ Some (get_or pages page [])
+    by None e = ap (λ o. or_read o (page_at true bytes page (get_or sides page 0))) e ∙ are.stand page low (clean (is_dirty x.dirty.items page) refl e)
+    by (Some own) e = ap (λ o. or_read o (page_at true bytes page (get_or sides page 0))) e ∙ ap (λ (rows : List TableRow). Some rows) (are.framed page own low e)
+
+pub shows : (bytes : List ℕ) (x : Frames) (sides space : List ℕ) (directory : List (Place × ℕ)) (t : Tables) (has : HavePages bytes x sides space directory t) → IsPool x → (page : ℕ) → page < length sides
+    → shown_page bytes x.frames.entries page (get_or sides page 0) ≡ Some (get_or has.pages page [])
+shows bytes x sides space directory t has = shows_on bytes x sides has.pages has.are
 
 -- what a pool shows
 pub shown_is : (told : Bool) (bytes : List ℕ) (frames : List (ℕ × List TableRow)) (page side : ℕ) (rows : List TableRow) → IsShown told (rows_in_page true) (side_bytes bytes page side) (lookup (nat_eq page) frames) rows → IsTrue told → shown_page bytes frames page side ≡ Some rows

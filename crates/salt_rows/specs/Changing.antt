@@ -1,7 +1,9 @@
 -- What one change makes of a store.
 use Rattle.salt_values.specs.Value.{key_of}
+use Rattle.salt_directory.specs.Halves.{placed_on}
 use Rattle.salt_directory.specs.Pages.{free_on}
 use Rattle.salt_directory.specs.Rows.{one_row}
+use Rattle.salt_directory.specs.declared.halving.Half.{Half}
 use Rattle.salt_model.specs.Tables.{place_cmp}
 use Rattle.salt_model.specs.declared.places.Place.{Place}
 use Rattle.salt_pool.specs.Pools.{IsPool, with_dirty, with_frame}
@@ -36,3 +38,12 @@ pub record IsFresh (old new : RowStore) (q : Place) (row : List Value) : Type 0 
   pub space : new.space ≡ old.space ++ free ∷ []
   pub named : new.named ≡ old.named
   pub directory : new.directory.entries ≡ insert_entry place_cmp old.directory.entries q (length old.sides.items)
+
+-- a new page behind the others has the half of another one; all else is as it was
+pub record IsHalfPut (half : Half) (old new : RowStore) : Type 0 where
+  pub pool : new.pool ≡ with_dirty (with_frame old.pool (length old.sides.items) half.page) (record { page = length old.sides.items; side = 0 })
+  pub is_pool : IsPool new.pool
+  pub sides : new.sides.items ≡ old.sides.items ++ 0 ∷ []
+  pub space : new.space ≡ old.space ++ half.free ∷ []
+  pub named : new.named ≡ old.named
+  pub directory : new.directory.entries ≡ placed_on (length old.sides.items) half.places.items old.directory.entries

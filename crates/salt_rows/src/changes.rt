@@ -33,7 +33,7 @@ use std::alloc::AllocError;
 
 impl RowStore {
     /// A page whose frame has other rows than before is to be written, and has so many free bytes.
-    fn mark(&mut self, page: u32, free: u16) -> Result<(), AllocError>
+    pub(crate) fn mark(&mut self, page: u32, free: u16) -> Result<(), AllocError>
         requires frame { is_some (frame_of self.old.pool page) ≡ true }
         requires pool { IsPool self.old.pool }
         requires named { Every IsSide self.old.named }
@@ -99,7 +99,7 @@ impl RowStore {
 
     /// The row at a place goes, where there is one; the new one comes on the page of the old one, where it has room. Whether all is
     /// done: else no row stands at the place, and a new one is to come.
-    fn take_out<D: Disks>(
+    pub(crate) fn take_out<D: Disks>(
         &mut self,
         disks: &mut D,
         place: &Place,
@@ -253,7 +253,7 @@ impl RowStore {
             key: change.key.copy(self.alloc)?,
         };
         let row = change.row.as_ref();
-        let done = self.take_out(disks, &place, row)?;
+        let done = self.make_way(disks, &place, row)?;
         match row {
             Some(row) if !done => {
                 self.put(disks, place, row)?;

@@ -4,8 +4,10 @@ ghost use Rattle.salt_bytes.specs.Page.{page_place};
 ghost use Rattle.salt_checkpoint.specs.Sides.{KeepsNamed, NamedSame};
 ghost use Rattle.salt_disk.specs.Disks.{FullOnly, HasCause, KeepsOthers};
 ghost use Rattle.salt_model.specs.Tables.{Tables};
-ghost use Rattle.salt_rows.specs.Stores.{HaveRows, IsClean, IsRowStore, IsStanding, HasRowsStanding, device_of, page_count, sides_of};
-ghost use Rattle.std.specs.Prelude.{IfOk, IsTrue, List, OnOk, true, ℕ, ◌≡◌};
+ghost use Rattle.salt_pool.specs.Frames.{frame_count};
+ghost use Rattle.salt_pool.specs.Pools.{dirty_of};
+ghost use Rattle.salt_rows.specs.Stores.{HaveRows, IsClean, IsRowStore, IsStanding, HasRowsStanding, StandsOnPages, device_of, page_count, sides_of};
+ghost use Rattle.std.specs.Prelude.{IfOk, IsTrue, List, OnOk, length, true, ℕ, ◌+◌, ◌≡◌, ◌≤◌};
 ghost use Rattle.std.specs.Result.{result_err};
 
 use crate::store::RowStore;
@@ -49,6 +51,27 @@ impl RowStore {
         ensures full { FullOnly (device_of self.old) ((D.view disks.old).limit (device_of self.old)) (page_place (page_count self.old) 0) (result_err result) }
     {
         if self.pool.is_full() {
+            self.flush(disks)
+        } else {
+            Ok(())
+        }
+    }
+
+    /// The same, where 63 pages or more are to be written: then two more can be.
+    pub(crate) fn make_room_for_two<D: Disks>(&mut self, disks: &mut D) -> Result<(), DiskErr>
+        requires { StandsOnPages (D.view disks.old) self.old }
+        ensures rows { (dev : ℕ) (named : List ℕ) (t : Tables) → IsRowStore (D.view disks.old) self.old dev named t → OnOk result (IsRowStore (D.view disks.new) self.new dev named t) }
+        ensures room { OnOk result (length (dirty_of self.new.pool) + 2 ≤ frame_count) }
+        ensures sides { sides_of self.new ≡ sides_of self.old }
+        ensures device { device_of self.new ≡ device_of self.old }
+        ensures images { (dev : ℕ) (named : List ℕ) (t : Tables) → IsRowStore (D.view disks.old) self.old dev named t → KeepsNamed named (D.view disks.old) (D.view disks.new) dev }
+        ensures named { (dev : ℕ) (named : List ℕ) (t : Tables) → IsRowStore (D.view disks.old) self.old dev named t → IsTrue (D.view disks.old).told
+            → OnOk result (NamedSame named ((D.view disks.old).bytes dev) ((D.view disks.new).bytes dev)) }
+        ensures others { KeepsOthers (device_of self.old) (D.view disks.old) (D.view disks.new) (result_err result) }
+        ensures cause { HasCause (D.view disks.old) (D.view disks.new) (result_err result) }
+        ensures full { FullOnly (device_of self.old) ((D.view disks.old).limit (device_of self.old)) (page_place (page_count self.old) 0) (result_err result) }
+    {
+        if self.pool.room() < 2 {
             self.flush(disks)
         } else {
             Ok(())

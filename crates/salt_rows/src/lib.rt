@@ -7,6 +7,7 @@ mod flush;
 mod frame;
 mod open;
 mod reads;
+mod split;
 mod store;
 
 pub use error::RowsErr;

@@ -1,20 +1,27 @@
 //! Rows are read.
 
+ghost use Rattle.salt_bytes.specs.Page.{TableRow};
+ghost use Rattle.salt_directory.specs.Loading.{HasLoaded, HaveOthersNone, rows_within};
+ghost use Rattle.salt_directory.specs.Pages.{all_rows, page_of};
 ghost use Rattle.salt_disk.specs.Disks.{HasCause, KeepsAll, OnlyFails, UnlessDown};
+ghost use Rattle.salt_eval.specs.Scans.{point_of};
 ghost use Rattle.salt_eval.specs.Views.{next_row};
+ghost use Rattle.salt_loaded.specs.Rows.{with_rows};
 ghost use Rattle.salt_model.specs.Tables.{Tables, place, row_at};
-ghost use Rattle.salt_directory.specs.Pages.{page_of};
-ghost use Rattle.salt_rows.specs.Stores.{IsRowStore, StandsOnPages, places_of};
+ghost use Rattle.salt_rows.specs.Reads.{HasOnPages, LooksOn};
+ghost use Rattle.salt_rows.specs.Stores.{IsRowStore, StandsOnPages, page_count, places_of};
 ghost use Rattle.salt_values.specs.Value.{key_of};
 ghost use Rattle.std.specs.Option.{option_copied};
-ghost use Rattle.std.specs.Prelude.{IfOk, IsTrue, List, Some, option_map, ℕ, ◌≡◌};
+ghost use Rattle.std.specs.Prelude.{IfOk, IsTrue, List, OnOk, Some, [], get_or, length, option_map, ℕ, ◌<◌, ◌≡◌};
 ghost use Rattle.std.specs.Result.{result_err};
 
-use crate::frame::row_on;
+use crate::frame::{load_key, load_range, row_on};
 use crate::store::RowStore;
-use salt_directory::{next_place, page_of};
+use salt_directory::{extent_of, next_place, page_of};
 use salt_disk::{DiskErr, Disks};
+use salt_eval::point_of;
 use salt_gatelog::rejected;
+use salt_loaded::Loading;
 use salt_model::Place;
 use salt_ranges::KeyRange;
 use salt_values::{Key, Row, TryCopy};
@@ -104,6 +111,131 @@ impl RowStore {
                 Ok(Some(row))
             }
             None => Ok(None),
+        }
+    }
+
+    /// The row of a range of one key is loaded, where there is one. Where its page lacks it, which only disks can give that don't tell
+    /// their bytes, the disks have failed.
+    fn load_one<D: Disks>(
+        &mut self,
+        disks: &mut D,
+        range: &KeyRange,
+        key: &Key,
+        out: &mut Loading,
+    ) -> Result<(), DiskErr>
+        requires stands { StandsOnPages (D.view disks.old) self.old }
+        requires point { point_of range.now ≡ Some key.now }
+        ensures rows { (dev : ℕ) (named : List ℕ) (t : Tables) → IsRowStore (D.view disks.old) self.old dev named t → IsTrue (D.view disks.old).told
+            → OnOk result (HasLoaded range.now t out.old out.new) }
+        ensures stands { (dev : ℕ) (named : List ℕ) (t : Tables) → IsRowStore (D.view disks.old) self.old dev named t
+            → UnlessDown (result_err result) (IsRowStore (D.view disks.new) self.new dev named t) }
+        ensures places { places_of self.new ≡ places_of self.old }
+        ensures kept { KeepsAll (D.view disks.old) (D.view disks.new) (result_err result) }
+        ensures cause { HasCause (D.view disks.old) (D.view disks.new) (result_err result) }
+        ensures answers { OnlyFails (result_err result) }
+    {
+        let place = Place {
+            table: out.table(),
+            key: key.copy(self.alloc)?,
+        };
+        let Some(page) = page_of(&self.directory, &place) else {
+            return Ok(());
+        };
+        let side = self.sides[page as usize];
+        let found = load_key(&mut self.pool, self.alloc, disks, page, side, key, out)?;
+        if found { Ok(()) } else { Err(rejected(disks)) }
+    }
+
+    /// The rows of a range that stand on a page are loaded.
+    fn load_on<D: Disks>(
+        &mut self,
+        disks: &mut D,
+        page: u32,
+        range: &KeyRange,
+        out: &mut Loading,
+    ) -> Result<(), DiskErr>
+        requires stands { StandsOnPages (D.view disks.old) self.old }
+        requires page { page < page_count self.old }
+        ensures rows { (pages : List (List TableRow)) → HasOnPages (D.view disks.old) self.old pages → IsTrue (D.view disks.old).told
+            → OnOk result (out.new ≡ with_rows (rows_within out.old.table range.now (get_or pages page [])) out.old) }
+        ensures pages { (pages : List (List TableRow)) → HasOnPages (D.view disks.old) self.old pages → OnOk result (HasOnPages (D.view disks.new) self.new pages) }
+        ensures stands { (dev : ℕ) (named : List ℕ) (t : Tables) → IsRowStore (D.view disks.old) self.old dev named t
+            → UnlessDown (result_err result) (IsRowStore (D.view disks.new) self.new dev named t) }
+        ensures same { LooksOn self.old self.new }
+        ensures kept { KeepsAll (D.view disks.old) (D.view disks.new) (result_err result) }
+        ensures cause { HasCause (D.view disks.old) (D.view disks.new) (result_err result) }
+        ensures answers { OnlyFails (result_err result) }
+    {
+        let side = self.sides[page as usize];
+        load_range(&mut self.pool, self.alloc, disks, page, side, range, out)
+    }
+
+    /// The rows of a range are loaded from the pages that are marked: each is looked at once.
+    fn load_marked<D: Disks>(
+        &mut self,
+        disks: &mut D,
+        marks: &[bool],
+        range: &KeyRange,
+        out: &mut Loading,
+    ) -> Result<(), DiskErr>
+        requires stands { StandsOnPages (D.view disks.old) self.old }
+        requires count { length marks.now ≡ page_count self.old }
+        ensures rows { (pages : List (List TableRow)) → HasOnPages (D.view disks.old) self.old pages → HaveOthersNone out.old.table range.now marks.now pages → IsTrue (D.view disks.old).told
+            → OnOk result (out.new ≡ with_rows (rows_within out.old.table range.now (all_rows pages)) out.old) }
+        ensures stands { (dev : ℕ) (named : List ℕ) (t : Tables) → IsRowStore (D.view disks.old) self.old dev named t
+            → UnlessDown (result_err result) (IsRowStore (D.view disks.new) self.new dev named t) }
+        ensures same { LooksOn self.old self.new }
+        ensures kept { KeepsAll (D.view disks.old) (D.view disks.new) (result_err result) }
+        ensures cause { HasCause (D.view disks.old) (D.view disks.new) (result_err result) }
+        ensures answers { OnlyFails (result_err result) }
+    {
+        // pages have numbers of 32 bits
+        if u32::MAX as usize <= marks.len() {
+            return Err(DiskErr::Memory);
+        }
+        for page in 0..marks.len() {
+            if marks[page] {
+                self.load_on(disks, page as u32, range, out)?;
+            }
+        }
+        Ok(())
+    }
+
+    /// The rows of a range are loaded: each page that has some is looked at once. It writes nothing. Where memory runs out the store
+    /// stands as before. Where pages have another number of rows of the range than the directory, which only disks can give that don't
+    /// tell their bytes, the disks have failed; of all rows of a table none are counted.
+    pub fn load<D: Disks>(
+        &mut self,
+        disks: &mut D,
+        range: &KeyRange,
+        out: &mut Loading,
+    ) -> Result<(), DiskErr>
+        requires { StandsOnPages (D.view disks.old) self.old }
+        ensures rows { (dev : ℕ) (named : List ℕ) (t : Tables) → IsRowStore (D.view disks.old) self.old dev named t → IsTrue (D.view disks.old).told
+            → OnOk result (HasLoaded range.now t out.old out.new) }
+        ensures stands { (dev : ℕ) (named : List ℕ) (t : Tables) → IsRowStore (D.view disks.old) self.old dev named t
+            → UnlessDown (result_err result) (IsRowStore (D.view disks.new) self.new dev named t) }
+        ensures places { places_of self.new ≡ places_of self.old }
+        ensures kept { KeepsAll (D.view disks.old) (D.view disks.new) (result_err result) }
+        ensures cause { HasCause (D.view disks.old) (D.view disks.new) (result_err result) }
+        ensures answers { OnlyFails (result_err result) }
+    {
+        if let Some(key) = point_of(range) {
+            return self.load_one(disks, range, key, out);
+        }
+        let count = self.page_count();
+        if range.lo.is_none() && range.hi.is_none() {
+            let marks = vec![in self.alloc; true; count]?;
+            return self.load_marked(disks, marks.as_slice(), range, out);
+        }
+        let extent = extent_of(self.alloc, &self.directory, out.table(), range, count)?;
+        let before = out.count();
+        self.load_marked(disks, extent.pages.as_slice(), range, out)?;
+        let came = out.count().saturating_sub(before);
+        if came == extent.rows {
+            Ok(())
+        } else {
+            Err(rejected(disks))
         }
     }
 }

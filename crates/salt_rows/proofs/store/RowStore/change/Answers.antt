@@ -1,7 +1,8 @@
 use Rattle.salt_directory.specs.Bytes.{IsWithin, bytes_of_entries}
-use Rattle.salt_model.specs.Tables.{place, remove_at}
-use Rattle.salt_rows.proofs.OneChange.{all_done, images_put, images_room, lacks, named_room, rows_room}
-use Rattle.salt_rows.proofs.Put.{put_some, put_stands, stands_in, within_taken}
+use Rattle.salt_model.specs.Tables.{place, put_row, remove_at}
+use Rattle.salt_rows.proofs.OneChange.{all_done, lacks, rows_room}
+use Rattle.salt_rows.proofs.Parting.{images_put, images_room, named_room}
+use Rattle.salt_rows.proofs.Put.{put_some, put_stands, stands_in, within_put}
 use Rattle.salt_rows.proofs.store.RowStore.change.Goals as goal
 use Rattle.salt_rows.proofs.store.RowStore.change.Goals.{in_default-via-in-Some+else-not-done, in_default-via-in_default}
 use Rattle.salt_rows.specs.Stores.{page_count}
@@ -10,27 +11,27 @@ use Rattle.std.proofs.Common.{List, None, Some, ap, false, length, option_copied
 pub put-requires-clause-stands : goal.put-requires-clause-stands
 put-requires-clause-stands g c =
     let d = g.D.Disks.view c.args.disks.now in
-    let e1 = g.D.Disks.view c.take_out.new.disks in
+    let e1 = g.D.Disks.view c.make_way.new.disks in
     let x = c.args.self.now in
-    let x1 = c.take_out.new.self in
+    let x1 = c.make_way.new.self in
     let q = place c.args.change.now.table c.in_ok-copy.field-0 in
     let no : c.in_ok-done.done ≡ false = cc in
     stands_in d e1 x x1 (remove_at q) (λ dev named t is. c.in_ok-done.ensures.left dev named t is no) c.requires.stands
 
 pub returns-in_err-put-in-Some-clause-images : goal.returns-in_err-put-in-Some-clause-images
 returns-in_err-put-in-Some-clause-images g c =
-    images_put (g.D.Disks.view c.args.disks.now) (g.D.Disks.view c.take_out.new.disks) (g.D.Disks.view c.put.new.disks) c.args.self.now c.in_ok-done.ensures.others (Some c.in_err-put-in-Some.field-0.0) c.in_err-put-in-Some.ensures.kept c.in_ok-done.ensures.images
+    images_put (g.D.Disks.view c.args.disks.now) (g.D.Disks.view c.make_way.new.disks) (g.D.Disks.view c.put.new.disks) c.args.self.now c.in_ok-done.ensures.others (Some c.in_err-put-in-Some.field-0.0) c.in_err-put-in-Some.ensures.kept c.in_ok-done.ensures.images
 
 pub returns-in_err-put-in-Some-clause-pages : goal.returns-in_err-put-in-Some-clause-pages
 returns-in_err-put-in-Some-clause-pages g c =
     let d = g.D.Disks.view c.args.disks.now in
-    let e1 = g.D.Disks.view c.take_out.new.disks in
+    let e1 = g.D.Disks.view c.make_way.new.disks in
     let x = c.args.self.now in
-    let x1 = c.take_out.new.self in
+    let x1 = c.make_way.new.self in
     let q = place c.args.change.now.table c.in_ok-copy.field-0 in
     let no : c.in_ok-done.done ≡ false = cc in
     λ dev named t is told.
-    within_taken q t (page_count x1) (page_count x) (page_count c.put.new.self) c.in_ok-done.ensures.count
+    within_put q t (page_count x) (page_count x1) (page_count c.put.new.self) (c.in_ok-done.ensures.pages dev named t is told)
     (c.in_err-put-in-Some.ensures.pages dev named (remove_at q t) (c.in_ok-done.ensures.left dev named t is no) (c.in_ok-done.ensures.others.shape.told ∙ told))
 
 -- ROOM IS MADE
@@ -38,9 +39,9 @@ returns-in_err-put-in-Some-clause-pages g c =
 pub make_room-requires : goal.make_room-requires
 make_room-requires g c =
     let d = g.D.Disks.view c.args.disks.now in
-    let e1 = g.D.Disks.view c.take_out.new.disks in
+    let e1 = g.D.Disks.view c.make_way.new.disks in
     let x = c.args.self.now in
-    let x1 = c.take_out.new.self in
+    let x1 = c.make_way.new.self in
     let q = place c.args.change.now.table c.in_ok-copy.field-0 in
     let no : c.in_ok-done.done ≡ false = cc in
     let e2 = g.D.Disks.view c.put.new.disks in
@@ -51,9 +52,9 @@ make_room-requires g c =
 pub returns-in_ok-put-in-Some-clause-rows : goal.returns-in_ok-put-in-Some-clause-rows
 returns-in_ok-put-in-Some-clause-rows g c =
     let d = g.D.Disks.view c.args.disks.now in
-    let e1 = g.D.Disks.view c.take_out.new.disks in
+    let e1 = g.D.Disks.view c.make_way.new.disks in
     let x = c.args.self.now in
-    let x1 = c.take_out.new.self in
+    let x1 = c.make_way.new.self in
     let q = place c.args.change.now.table c.in_ok-copy.field-0 in
     let no : c.in_ok-done.done ≡ false = cc in
     let e2 = g.D.Disks.view c.put.new.disks in
@@ -62,15 +63,15 @@ returns-in_ok-put-in-Some-clause-rows g c =
     let e3 = g.D.Disks.view c.make_room.new.disks in
     let x3 = c.make_room.new.self in
     let stands = put_stands d e1 e2 x x1 x2 q row (λ dev named t is. c.in_ok-done.ensures.left dev named t is no) c.in_ok-put-in-Some.ensures.rows in
-    rows_room d e1 e2 e3 x x2 x3 q row stands c.in_ok-done.ensures.others c.in_ok-put-in-Some.ensures.kept c.make_room.result c.make_room.ensures.rows c.args.change.now (ap (place c.args.change.now.table) c.in_ok-copy.ensures)
+    rows_room d e2 e3 x x2 x3 q row stands c.make_room.result c.make_room.ensures.rows c.args.change.now (ap (place c.args.change.now.table) c.in_ok-copy.ensures)
     (ap option_copied (sym c.in-Some.is) ∙ c.as_ref-row.ensures.value)
 
 pub returns-in_ok-put-in-Some-clause-images : goal.returns-in_ok-put-in-Some-clause-images
 returns-in_ok-put-in-Some-clause-images g c =
     let d = g.D.Disks.view c.args.disks.now in
-    let e1 = g.D.Disks.view c.take_out.new.disks in
+    let e1 = g.D.Disks.view c.make_way.new.disks in
     let x = c.args.self.now in
-    let x1 = c.take_out.new.self in
+    let x1 = c.make_way.new.self in
     let q = place c.args.change.now.table c.in_ok-copy.field-0 in
     let no : c.in_ok-done.done ≡ false = cc in
     let e2 = g.D.Disks.view c.put.new.disks in
@@ -79,14 +80,14 @@ returns-in_ok-put-in-Some-clause-images g c =
     let e3 = g.D.Disks.view c.make_room.new.disks in
     let x3 = c.make_room.new.self in
     let stands = put_stands d e1 e2 x x1 x2 q row (λ dev named t is. c.in_ok-done.ensures.left dev named t is no) c.in_ok-put-in-Some.ensures.rows in
-    images_room d e1 e2 e3 x x2 x3 q row stands c.in_ok-done.ensures.others c.in_ok-put-in-Some.ensures.kept c.in_ok-done.ensures.images c.make_room.ensures.images
+    images_room d e1 e2 e3 x x2 x3 (put_row q row) stands c.in_ok-done.ensures.others c.in_ok-put-in-Some.ensures.kept c.in_ok-done.ensures.images c.make_room.ensures.images
 
 pub returns-in_ok-put-in-Some-clause-named : goal.returns-in_ok-put-in-Some-clause-named
 returns-in_ok-put-in-Some-clause-named g c =
     let d = g.D.Disks.view c.args.disks.now in
-    let e1 = g.D.Disks.view c.take_out.new.disks in
+    let e1 = g.D.Disks.view c.make_way.new.disks in
     let x = c.args.self.now in
-    let x1 = c.take_out.new.self in
+    let x1 = c.make_way.new.self in
     let q = place c.args.change.now.table c.in_ok-copy.field-0 in
     let no : c.in_ok-done.done ≡ false = cc in
     let e2 = g.D.Disks.view c.put.new.disks in
@@ -95,29 +96,29 @@ returns-in_ok-put-in-Some-clause-named g c =
     let e3 = g.D.Disks.view c.make_room.new.disks in
     let x3 = c.make_room.new.self in
     let stands = put_stands d e1 e2 x x1 x2 q row (λ dev named t is. c.in_ok-done.ensures.left dev named t is no) c.in_ok-put-in-Some.ensures.rows in
-    named_room d e1 e2 e3 x x2 x3 q row stands c.in_ok-done.ensures.others c.in_ok-put-in-Some.ensures.kept c.make_room.result c.in_ok-done.ensures.named c.make_room.ensures.named
+    named_room d e1 e2 e3 x x2 x3 (put_row q row) stands c.in_ok-done.ensures.others c.in_ok-put-in-Some.ensures.kept c.make_room.result c.in_ok-done.ensures.named c.make_room.ensures.named
 
 pub returns-in_ok-put-in-Some-clause-pages : goal.returns-in_ok-put-in-Some-clause-pages
 returns-in_ok-put-in-Some-clause-pages g c =
     let d = g.D.Disks.view c.args.disks.now in
-    let e1 = g.D.Disks.view c.take_out.new.disks in
+    let e1 = g.D.Disks.view c.make_way.new.disks in
     let x = c.args.self.now in
-    let x1 = c.take_out.new.self in
+    let x1 = c.make_way.new.self in
     let q = place c.args.change.now.table c.in_ok-copy.field-0 in
     let no : c.in_ok-done.done ≡ false = cc in
     λ dev named t is told.
     subst (λ n. IsWithin (page_count x) (bytes_of_entries t.list) n) (sym (ap (λ (l : List ℕ). length l) c.make_room.ensures.sides))
-    (within_taken q t (page_count x1) (page_count x) (page_count c.put.new.self) c.in_ok-done.ensures.count
+    (within_put q t (page_count x) (page_count x1) (page_count c.put.new.self) (c.in_ok-done.ensures.pages dev named t is told)
     (c.in_ok-put-in-Some.ensures.pages dev named (remove_at q t) (c.in_ok-done.ensures.left dev named t is no) (c.in_ok-done.ensures.others.shape.told ∙ told)))
 
 -- NOTHING IS LEFT TO DO
 
 pub returns-in_default-clause-rows : goal.returns-in_default-clause-rows
 returns-in_default-clause-rows g c =
-    let e1 = g.D.Disks.view c.take_out.new.disks in
+    let e1 = g.D.Disks.view c.make_way.new.disks in
     let q = place c.args.change.now.table c.in_ok-copy.field-0 in
     let row = option_copied c.as_ref-row.result in
     let none : c.in_ok-done.done ≡ false → row ≡ None = λ no. elim c.in_default.branch [ in_default-via-in-Some+else-not-done w ↦ (let yes = w.if-not-done.false in cc) | in_default-via-in_default w ↦ lacks c.as_ref-row.result w.in_default.not-Some ] in
     λ dev named t is.
-    all_done e1 c.take_out.new.self dev named t q c.in_ok-done.done row (c.in_ok-done.ensures.done dev named t is) (c.in_ok-done.ensures.left dev named t is) none c.args.change.now
+    all_done e1 c.make_way.new.self dev named t q c.in_ok-done.done row (c.in_ok-done.ensures.done dev named t is) (c.in_ok-done.ensures.left dev named t is) none c.args.change.now
     (ap (place c.args.change.now.table) c.in_ok-copy.ensures) c.as_ref-row.ensures.value
