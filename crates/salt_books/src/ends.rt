@@ -5,7 +5,6 @@ ghost use Rattle.salt_books.specs.Held.{seen};
 ghost use Rattle.salt_books.specs.Done.{AnswersTo, HasBranched, HasCommitted, HasDone, IsMoveOfBranch, IsMoveOfCommit};
 ghost use Rattle.salt_books.specs.Ends.{IsUndecided};
 ghost use Rattle.salt_eval.specs.Scans.{IsKeyed};
-ghost use Rattle.salt_eval.specs.Views.{tables_of};
 ghost use Rattle.law_states.specs.OpenUnits.{UnitState, names_in, unit_named};
 ghost use Rattle.law_states.specs.Rising.{Rising};
 ghost use Rattle.law_states.specs.Steps.{units_after};
@@ -19,7 +18,7 @@ use crate::held::Held;
 use crate::places::{named_among, place_named};
 use salt_ast::Statement;
 use salt_cont::Move;
-use salt_eval::Tables;
+use salt_loaded::Loaded;
 use salt_model::Answer;
 use salt_values::Id;
 use sqlite_items::Boxed;
@@ -30,14 +29,14 @@ impl Books {
     pub fn act(
         &mut self,
         unit: Id,
-        rows: &Tables,
+        rows: &Loaded,
         statement: &Boxed<Statement>,
     ) -> Result<Answer, AllocError>
         requires there { HaveUnit self.old unit }
         requires leaves_keys { leaves_keys (tables_in self.old) statement.now ≡ true }
-        requires keyed { IsKeyed (tables_of rows.now.entries) }
-        ensures answer { IfOk result (AnswersTo unit statement.now (tables_of rows.now.entries) self.old) }
-        ensures state { OnOk result (HasDone unit statement.now (tables_of rows.now.entries) self.old self.new) }
+        requires keyed { IsKeyed rows.now }
+        ensures answer { IfOk result (AnswersTo unit statement.now rows.now self.old) }
+        ensures state { OnOk result (HasDone unit statement.now rows.now self.old self.new) }
     {
         let at = place_named(self.units.as_slice(), self.rising, unit);
         let schema = self.known.schema();

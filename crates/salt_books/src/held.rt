@@ -1,7 +1,6 @@
 //! Units that run or wait.
 
 ghost use Rattle.salt_eval.specs.Scans.{IsKeyed};
-ghost use Rattle.salt_eval.specs.Views.{tables_of};
 ghost use Rattle.law_states.specs.OpenUnits.{count_on};
 ghost use Rattle.salt_model.specs.Kept.{Kept, schema_of};
 ghost use Rattle.salt_model.specs.Reaches.{reach};
@@ -13,7 +12,8 @@ ghost use Rattle.std.specs.Prelude.{IfOk, if◌then◌else◌, is_some, nat_lt, 
 use crate::kinds::program_begun;
 use law_states::statements_are_done_under_edits;
 use salt_ast::Statement;
-use salt_eval::{MapView, Tables, ViewErr};
+use salt_eval::ViewErr;
+use salt_loaded::{Loaded, LoadedView};
 use salt_model::{Answer, UnitKind};
 use salt_schema::Schema;
 use salt_units::OpenUnit;
@@ -82,19 +82,19 @@ impl Held {
     pub fn act(
         &mut self,
         alloc: Global,
-        rows: &Tables,
+        rows: &Loaded,
         schema: &Schema,
         statement: &Statement,
     ) -> Result<Answer, AllocError>
-        requires keyed { IsKeyed (tables_of rows.now.entries) }
+        requires keyed { IsKeyed rows.now }
         requires leaves_keys { leaves_keys schema.now statement.now ≡ true }
         ensures done { IfOk result (λ answer. (k : Kept) → schema.now ≡ schema_of k
-            → AreLoaded (reach (schema_of k) self.old.open.vars statement.now) (tables_of rows.now.entries) k.tables
+            → AreLoaded (reach (schema_of k) self.old.open.vars statement.now) rows.now k.tables
             → HasActed k statement.now (seen self.old) answer (seen self.new)) }
         ensures unit { self.new.open.unit ≡ self.old.open.unit }
     {
         statements_are_done_under_edits();
-        let mut view = MapView::new(alloc, rows);
+        let mut view = LoadedView::new(rows);
         let done = count_on(&self.kind, self.done)?;
         match self.open.act(alloc, &mut view, schema, statement) {
             Ok(answer) => {

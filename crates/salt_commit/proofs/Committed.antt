@@ -23,7 +23,7 @@ use Rattle.salt_decisions.specs.Decisions as decisions
 use Rattle.salt_decisions.specs.Decisions.{IsBeforeOrWith, IsDecisions, decided, device_in}
 use Rattle.salt_decisions.specs.declared.decisions.Decisions.{Decisions}
 use Rattle.salt_disk.proofs.CallAfterCall.{keeps_on, keeps_wider, kept_on}
-use Rattle.salt_disk.specs.Disks.{EachImage, FullExactly, IsUnchanged, KeepsBut, KeepsOthers, SameShape, View}
+use Rattle.salt_disk.specs.Disks.{EachImage, FullExactly, FullWhere, IsUnchanged, KeepsBut, KeepsOthers, SameShape, View}
 use Rattle.salt_disk.specs.declared.disks.DiskErr.TheVariants.{Failed, Full, Memory, Stopped}
 use Rattle.salt_disk.specs.declared.disks.DiskErr.{DiskErr}
 use Rattle.salt_paged.specs.Partitions.{ArePartitions, IsPartition}
@@ -32,7 +32,7 @@ use Rattle.salt_parts.proofs.Lists.{if_some}
 use Rattle.salt_parts.specs.Openings.{IsPagesOf, decided_in}
 use Rattle.salt_shares.proofs.Sharing.{full_maps}
 use Rattle.salt_shares.specs.Applies.{AreSharesLast}
-use Rattle.salt_shares.specs.Prepares.{FullWhere, IsLogOfShares, MayPrepareEach, OnePassesLimit, with_shares}
+use Rattle.salt_shares.specs.Prepares.{IsLogOfShares, MayPrepareEach, OnePassesLimit, with_shares}
 use Rattle.salt_shares.specs.Shares.{applied_with, share_at, with_share}
 use Rattle.salt_stands.proofs.Booleans.{left}
 use Rattle.salt_stands.proofs.OpenedPart.{sound_is}

@@ -12,7 +12,7 @@ use Rattle.salt_commit.specs.Stores.{IsStore, IsStoreDevice, coordinator_device,
 use Rattle.salt_commit.specs.declared.store.Store.{Store}
 use Rattle.salt_decisions.proofs.Contents.{log_bytes}
 use Rattle.salt_decisions.specs.Decisions as decisions
-use Rattle.salt_disk.specs.Disks.{FullExactly, IsUnchanged, KeepsBut, KeepsOthers, SameShape, View}
+use Rattle.salt_disk.specs.Disks.{FullExactly, FullWhere, IsUnchanged, KeepsBut, KeepsOthers, SameShape, View}
 use Rattle.salt_disk.specs.declared.disks.DiskErr.TheVariants.{Failed, Full, Memory, Stopped}
 use Rattle.salt_disk.specs.declared.disks.DiskErr.{DiskErr}
 use Rattle.salt_gatelog.specs.Log as gates
@@ -25,7 +25,7 @@ use Rattle.salt_paged.specs.declared.partition.Partition.{Partition}
 use Rattle.salt_partition.specs.Partitions.{prepared}
 use Rattle.salt_parts.proofs.Lists.{if_some}
 use Rattle.salt_promise.specs.Filling.{EntryFills, IsTooLong, ShareFills}
-use Rattle.salt_shares.specs.Prepares.{FullWhere, IsLogOfShares}
+use Rattle.salt_shares.specs.Prepares.{IsLogOfShares}
 use Rattle.salt_shares.specs.Shares.{has_changes, share_at}
 use Rattle.salt_stands.proofs.Pairs.{pair_same}
 use Rattle.salt_stands.specs.Coordinator.{Coordinator, coordinator_pair, device_of}

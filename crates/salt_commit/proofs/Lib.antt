@@ -1,7 +1,6 @@
 pub mod Beginning
 mod Committed
 mod Decided
-mod Ended
 mod Fields
 pub mod Filled
 mod Entered

@@ -3,13 +3,12 @@ use Rattle.salt_bytes.specs.Generations.{BothBlank}
 use Rattle.salt_bytes.specs.Partition.{spell_partition_header}
 use Rattle.salt_commit.proofs.Beginning.{still_blank}
 use Rattle.salt_commit.specs.Openings.{PartPassesLimit, StorePassesLimit}
-use Rattle.salt_shares.specs.Prepares.{FullWhere}
 use Rattle.salt_stands.specs.LogDevices.{IsPartLog}
 use Rattle.salt_gatelog.specs.Answers.{open_disk_err_of}
 use Rattle.salt_decisions.specs.Opened.{FullAtFirst, first_payload}
 use Rattle.salt_gatelog.specs.declared.unopened.OpenErr.TheVariants as opening
 use Rattle.salt_gatelog.specs.declared.unopened.OpenErr.{OpenErr}
-use Rattle.salt_disk.specs.Disks.{KeepsBut, View}
+use Rattle.salt_disk.specs.Disks.{FullWhere, KeepsBut, View}
 use Rattle.salt_disk.specs.declared.disks.DiskErr.TheVariants.{Failed, Full, Memory, Stopped}
 use Rattle.salt_disk.specs.declared.disks.DiskErr.{DiskErr}
 use Rattle.salt_partition.specs.Openings.{FullAtLogs}

@@ -1,106 +1,276 @@
--- The rows of a reach, put one after another.
+-- The rows of a range that are loaded: of one partition, or of all.
 use Rattle.salt_ast.specs.declared.trees.TableDef.{TableDef}
 use Rattle.salt_bytes.specs.Generations.{WhichLog}
-use Rattle.salt_commit.proofs.Reading.{asked_keyed, asked_stay}
-use Rattle.salt_commit.proofs.Sound.{is_row_at, store_keyed}
+use Rattle.salt_commit.proofs.OnePart.{one_of_all, or_none}
+use Rattle.salt_commit.proofs.Sound.{is_row_at}
 use Rattle.salt_commit.proofs.Standing.{partitions_kept}
-use Rattle.salt_commit.specs.Loads.{IsPartOf, IsRowAt}
-use Rattle.salt_commit.specs.Messages.{messages_of}
-use Rattle.salt_commit.specs.Reads.{places_asked, places_in}
-use Rattle.salt_commit.specs.Stores.{IsStore, StandsOnDevices, decided_by, numbers_in, reading, shape_of_store}
+use Rattle.salt_commit.specs.Loads.{AreRowsOf, IsPartOf, IsRowAt}
+use Rattle.salt_commit.specs.Stores.{IsStore, decided_by, reading}
 use Rattle.salt_commit.specs.declared.store.Store.{Store}
 use Rattle.salt_decisions.proofs.Framed.{decisions_kept}
-use Rattle.salt_disk.proofs.CallAfterCall.{cause_on, cause_none, keeps_on, same_shape}
-use Rattle.salt_disk.specs.Disks.{HasCause, IsUnchanged, KeepsAll, SameShape, UnlessDown, View}
+use Rattle.salt_directory.specs.Directories.{is_in}
+use Rattle.salt_directory.specs.Loading.{HasLoaded, part_of}
+use Rattle.salt_disk.specs.Disks.{IsUnchanged, KeepsAll, SameShape, UnlessDown, View}
 use Rattle.salt_disk.specs.declared.disks.DiskErr.TheVariants.{Failed, Full, Memory, Stopped}
 use Rattle.salt_disk.specs.declared.disks.DiskErr.{DiskErr}
-use Rattle.salt_eval.proofs.InOrder.{less_is, parted, tables_of-list}
-use Rattle.salt_eval.proofs.Scanning.{fewer, rows_after-next, rows_after-none}
+use Rattle.salt_eval.proofs.InOrder.{less_is, parted}
 use Rattle.salt_eval.specs.Meets.{meets_table}
-use Rattle.salt_eval.specs.Views.{is_next, next_row, rows_after, tables_of}
+use Rattle.salt_eval.specs.Scans.{IsKeyed}
+use Rattle.salt_loaded.specs.Meets.{all_meet}
+use Rattle.salt_loaded.specs.Rows.{RowsOf, are_apart, tables_in, with_rows}
 use Rattle.salt_model.specs.Kept.{Definition}
 use Rattle.salt_model.specs.Tables.{Entry, Tables, is_within, place, place_cmp, place_total, row_at}
 use Rattle.salt_model.specs.Words.{Every}
 use Rattle.salt_model.specs.declared.locks.Reach.{Reach}
 use Rattle.salt_model.specs.declared.places.Place.{Place}
+use Rattle.salt_parts.specs.Loading.{HaveAllLoaded, all_of}
+use Rattle.salt_place.specs.declared.placement.Shape.{Shape}
 use Rattle.salt_ranges.specs.Ranges.{has_key}
 use Rattle.salt_ranges.specs.declared.range.KeyRange.{KeyRange}
-use Rattle.salt_stands.proofs.Places.{place_same}
-use Rattle.salt_stands.specs.Commits.{found_of}
+use Rattle.salt_stands.proofs.Booleans.{join, left, right}
+use Rattle.salt_stands.proofs.Places.{equal_is, or_row, place_same, row_at_entries, same_tables}
 use Rattle.salt_stands.specs.Coordinator.{Coordinator}
-use Rattle.salt_stands.specs.Partition.{pages_device, part_device}
-use Rattle.salt_stands.specs.Pieces.{PartView}
+use Rattle.salt_stands.specs.Partition.{pages_device, part_device, part_of_key}
+use Rattle.salt_stands.specs.Pieces.{PartView, listed}
+use Rattle.salt_stands.specs.Placed.{IsPlaced}
+use Rattle.salt_stands.specs.Tables.{joined}
+use Rattle.salt_values.specs.Value.{is_same_value, key_of, value_cmp}
 use Rattle.salt_values.specs.declared.value.Value.{Value}
-use Rattle.std.proofs.Common.{IsTrue, List, None, Option, Some, [], ap, append_assoc, length, refl, subst, sym, true, ℕ, ◌+◌, ◌++◌, ◌<◌, ◌≡◌, ◌∙◌, ◌∷◌}
-use Rattle.std.proofs.lemmas.List.{append-nil}
-use Rattle.std.specs.BTreeMap.{insert_entry}
-use Rattle.std.specs.FinMap.Entries.{below_all, by_order, find, find-where_key, is_sorted, is_sorted-where_key, put}
-use Rattle.std.specs.Ordering.{match_ordering, ordering_reverse}
-use Rattle.std.specs.Prelude.{Bool, cond, false, if◌then◌else◌, option_map, ◌&&◌, ◌==◌}
+use Rattle.std.proofs.Common.{Bool, List, None, Option, Some, [], ap, arith, false, refl, subst, sym, true, ℕ, ◌+◌, ◌++◌, ◌<◌, ◌≡◌, ◌∙◌, ◌∷◌}
+use Rattle.std.proofs.lemmas.Cmp.{tied_itself}
+use Rattle.std.proofs.lemmas.List.Folds.{list_all-append}
+use Rattle.std.specs.FinMap.Entries.{below_all, find, find-put, find-where_key, is_sorted}
+use Rattle.std.specs.List.{list_all}
+use Rattle.std.specs.Ordering.{is_eq}
+use Rattle.std.specs.Prelude.{Err, IfSome, Ok, OnOk, Result, cond, if◌then◌else◌, not, suc, zero, ◌&&◌, ◌==◌}
 use Rattle.std.specs.declared.cmp.Ordering.TheVariants.{Equal, Greater, Less}
 use Rattle.std.specs.declared.cmp.Ordering.{Ordering}
-use Rattle.salt_values.specs.Value.{key_of}
 use lib.Dec.{T}
 
--- ROWS IN ORDER
+every_both : {A : Type 0} (P : A → Type 0) (xs ys : List A) → Every P xs → Every P ys → Every P (xs ++ ys)
+every_both P [] ys h k = k
+every_both P (x ∷ xs) ys h k = (h.0, every_both P xs ys h.1 k)
 
-below_in : (x : Place) (es : List Entry) (p : Place) (row : List Value) (rest : List Entry) → T (below_all place_cmp x (es ++ (p, row) ∷ rest)) → place_cmp x p ≡ Less
-below_in x [] p row rest h = less_is _ (parted _ _ h).0
-below_in x (e ∷ es) p row rest h = below_in x es p row rest (parted _ _ h).1
+every_weaker : {A : Type 0} (P Q : A → Type 0) → ((x : A) → P x → Q x) → (xs : List A) → Every P xs → Every Q xs
+every_weaker P Q weaker [] h = tt
+every_weaker P Q weaker (x ∷ xs) h = (weaker x h.0, every_weaker P Q weaker xs h.1)
 
--- one that is behind all others is put last
-put_last : (p : Place) (row : List Value) (es rest : List Entry) → T (is_sorted place_cmp (es ++ (p, row) ∷ rest)) → insert_entry place_cmp es p row ≡ es ++ (p, row) ∷ []
-put_last p row [] rest h = refl
-put_last p row (e ∷ es) rest h =
-    let more = parted _ _ h in
-    let above : place_cmp p e.0 ≡ Greater = place_total.antisymm p e.0 ∙ ap ordering_reverse (below_in e.0 es p row rest more.0) in
-    ap (λ o. match_ordering o ((p, row) ∷ e ∷ es) ((e.0, row) ∷ es) (e ∷ insert_entry place_cmp es p row)) above ∙ ap (λ l. e ∷ l) (put_last p row es rest more.1)
+-- ENTRIES in order are found at their places
 
-rows_sorted : (t : ℕ) (range : KeyRange) (after : Option Value) (es : Tables) → T (is_sorted place_cmp (rows_after t range after es))
-rows_sorted t range after es = is_sorted-where_key place_cmp (is_next t range after) es.list es.sorted
+below_none : (q : Place) (es : List Entry) → T (below_all place_cmp q es) → find place_cmp q es ≡ None
+below_none q [] h = refl
+below_none q (e ∷ es) h = ap (λ o. cond (is_eq o) (Some e.1) (find place_cmp q es)) (less_is _ (parted _ _ h).0) ∙ below_none q es (parted _ _ h).1
 
-also : (b : Bool) → (b && true) ≡ b
-also true = refl
-also false = refl
+pub each_found : (P : Place → List Value → Type 0) (es : List Entry) → T (is_sorted place_cmp es) → ((q : Place) (row : List Value) → find place_cmp q es ≡ Some row → P q row) → Every (λ (e : Entry). P e.0 e.1) es
+each_found P [] sorted h = tt
+each_found P (e ∷ es) sorted h =
+    (h e.0 e.1 (ap (λ o. cond (is_eq o) (Some e.1) (find place_cmp e.0 es)) (tied_itself place_total e.0)), each_found P es (parted _ _ sorted).1 (λ q row is. h q row (behind q row is)))
+  where
+    behind : (q : Place) (row : List Value) → find place_cmp q es ≡ Some row → find place_cmp q (e ∷ es) ≡ Some row
+    behind q row is = by (is_eq (place_cmp q e.0)) refl
+      where
+        by : (b : Bool) → is_eq (place_cmp q e.0) ≡ b → cond b (Some e.1) (find place_cmp q es) ≡ Some row
+        by false tied = is
+        by true tied =
+            let none : find place_cmp q es ≡ None = ap (λ (p : Place). find place_cmp p es) (place_same q e.0 (equal_is _ tied)) ∙ below_none e.0 es (parted _ _ sorted).0 in
+            absurd cc
+
+-- ROWS AS TABLES
+
+row_put : (t : ℕ) (q : Place) (x : List Value) (xs : List (List Value)) → row_at q (tables_in t (x ∷ xs)) ≡ cond (is_eq (place_cmp q (place t (key_of x)))) (Some x) (row_at q (tables_in t xs))
+row_put t q x xs = find-put place_cmp place_total q (place t (key_of x)) x (tables_in t xs).list
+
+-- of rows one behind the other the first one of a key counts
+row_of_both : (t : ℕ) (q : Place) (xs ys : List (List Value)) → row_at q (tables_in t (xs ++ ys)) ≡ or_row (row_at q (tables_in t xs)) (row_at q (tables_in t ys))
+row_of_both t q [] ys = refl
+row_of_both t q (x ∷ xs) ys =
+    row_put t q x (xs ++ ys) ∙ by (is_eq (place_cmp q (place t (key_of x)))) (row_of_both t q xs ys)
+    ∙ ap (λ o. or_row o (row_at q (tables_in t ys))) (sym (row_put t q x xs))
+  where
+    by : (b : Bool) → row_at q (tables_in t (xs ++ ys)) ≡ or_row (row_at q (tables_in t xs)) (row_at q (tables_in t ys))
+        → cond b (Some x) (row_at q (tables_in t (xs ++ ys))) ≡ or_row (cond b (Some x) (row_at q (tables_in t xs))) (row_at q (tables_in t ys))
+    by true h = refl
+    by false h = h
+
+pub rows_keyed : (t : ℕ) (rows : List (List Value)) → IsKeyed (tables_in t rows)
+rows_keyed t [] q = tt
+rows_keyed t (x ∷ xs) q = subst (λ o. IfSome o (λ row. key_of row ≡ q.key)) (sym (row_put t q x xs)) (by (is_eq (place_cmp q (place t (key_of x)))) refl (rows_keyed t xs q))
+  where
+    by : (b : Bool) → is_eq (place_cmp q (place t (key_of x))) ≡ b → IfSome (row_at q (tables_in t xs)) (λ row. key_of row ≡ q.key) → IfSome (cond b (Some x) (row_at q (tables_in t xs))) (λ row. key_of row ≡ q.key)
+    by true tied h = ap (λ (p : Place). p.key) (sym (place_same q (place t (key_of x)) (equal_is _ tied)))
+    by false tied h = h
+
+-- what holds of each key at which there is a row, holds of each row's key
+each_key : (P : Value → Type 0) (t : ℕ) (rows : List (List Value)) → ((q : Place) (row : List Value) → row_at q (tables_in t rows) ≡ Some row → P q.key) → Every (λ row. P (key_of row)) rows
+each_key P t [] h = tt
+each_key P t (x ∷ xs) h =
+    let own = place t (key_of x) in
+    (h own x (row_put t own x xs ∙ ap (λ o. cond (is_eq o) (Some x) (row_at own (tables_in t xs))) (tied_itself place_total own)), each_key P t xs later)
+  where
+    later : (q : Place) (row : List Value) → row_at q (tables_in t xs) ≡ Some row → P q.key
+    later q row is = by (is_eq (place_cmp q (place t (key_of x)))) refl
+      where
+        by : (b : Bool) → is_eq (place_cmp q (place t (key_of x))) ≡ b → P q.key
+        by true tied = h q x (row_put t q x xs ∙ ap (λ b. cond b (Some x) (row_at q (tables_in t xs))) tied)
+        by false tied = h q row (row_put t q x xs ∙ ap (λ b. cond b (Some x) (row_at q (tables_in t xs))) tied ∙ is)
+
+row_of_part : (t : ℕ) (range : KeyRange) (q : Place) (es : Tables) → row_at q (part_of t range es) ≡ cond (is_in t range q) (row_at q es) None
+row_of_part t range q es = find-where_key place_cmp (is_in t range) q (λ x tied. ap (is_in t range) (sym (place_same q x tied))) es.list
+
+-- ROWS APART, as some stand in parts below n, and the others in part n
+module _ (part : Value → ℕ) (n : ℕ) where
+  other_key : (a b : Value) → part a < n → part b ≡ n → is_same_value a b ≡ false
+  other_key a b low at = by (value_cmp a b) refl
+    where
+      by : (o : Ordering) → value_cmp a b ≡ o → is_eq o ≡ false
+      by Less is = refl
+      by Greater is = refl
+      by Equal is = absurd (omega (arith, low, at, ap (λ (p : Place). part p.key) (place_same (place 0 a) (place 0 b) is)))
+
+  apart_from : (x : List Value) (ys : List (List Value)) → part (key_of x) < n → Every (λ row. part (key_of row) ≡ n) ys → list_all (λ other. not (is_same_value (key_of x) (key_of other))) ys ≡ true
+  apart_from x [] low at = refl
+  apart_from x (y ∷ ys) low at =
+      ap (λ b. not b && list_all (λ other. not (is_same_value (key_of x) (key_of other))) ys) (other_key (key_of x) (key_of y) low at.0) ∙ apart_from x ys low at.1
+
+  apart_both : (xs ys : List (List Value)) → are_apart xs ≡ true → are_apart ys ≡ true → Every (λ row. part (key_of row) < n) xs → Every (λ row. part (key_of row) ≡ n) ys → are_apart (xs ++ ys) ≡ true
+  apart_both [] ys first second low at = second
+  apart_both (x ∷ xs) ys first second low at =
+      let other = λ (y : List Value). not (is_same_value (key_of x) (key_of y)) in
+      join (list_all other (xs ++ ys)) (are_apart (xs ++ ys))
+      (list_all-append other xs ys ∙ join (list_all other xs) (list_all other ys) (left (list_all other xs) (are_apart xs) first) (apart_from x ys low.0 at))
+      (apart_both xs ys (right (list_all other xs) (are_apart xs) first) second low.1 at)
+
+-- what comes with an answer that is none
+pub on_ok : {A E P Q : Type 0} (result : Result A E) → (P → Q) → OnOk result P → OnOk result Q
+on_ok (Ok x) f h = f h
+on_ok (Err e) f h = tt
+
+-- OF ALL PARTITIONS
+
+or_or : (a b c : Option (List Value)) → or_row a (or_row b c) ≡ or_row (or_row a b) c
+or_or None b c = refl
+or_or (Some x) b c = refl
+
+row_pushed : (q : Place) (T : ℕ → Tables) (from n : ℕ) → row_at q (joined (listed T from (suc n))) ≡ or_row (row_at q (joined (listed T from n))) (row_at q (T (from + n)))
+unfolding joined
+row_pushed q T from zero =
+    let same : from ≡ from + 0 = omega arith in
+    row_at_entries q (T from).list (joined []) ∙ or_none (row_at q (T from)) ∙ ap (λ k. row_at q (T k)) same
+row_pushed q T from (suc n) =
+    let same : suc from + n ≡ from + suc n = omega arith in
+    row_at_entries q (T from).list (joined (listed T (suc from) (suc n))) ∙ ap (or_row (row_at q (T from))) (row_pushed q T (suc from) n)
+    ∙ or_or (row_at q (T from)) (row_at q (joined (listed T (suc from) n))) (row_at q (T (suc from + n)))
+    ∙ ap (λ o. or_row o (row_at q (T (suc from + n)))) (sym (row_at_entries q (T from).list (joined (listed T (suc from) n))))
+    ∙ ap (λ k. or_row (row_at q (joined (listed T from (suc n)))) (row_at q (T k))) same
+
+module _ (t : ℕ) (range : KeyRange) (T : ℕ → Tables) (more : ℕ → List (List Value)) where
+  row_of_all : (q : Place) (n : ℕ) → ((p : ℕ) → p < n → tables_in t (more p) ≡ part_of t range (T p)) → row_at q (tables_in t (all_of more n)) ≡ cond (is_in t range q) (row_at q (joined (listed T 0 n))) None
+  unfolding joined
+  row_of_all q zero each = none (is_in t range q)
+    where
+      none : (b : Bool) → ◌≡◌ {A = Option (List Value)} None (cond b None None)
+      none true = refl
+      none false = refl
+  row_of_all q (suc n) each =
+      let b = is_in t range q in
+      let last : 0 + n ≡ n = omega arith in
+      row_of_both t q (all_of more n) (more n)
+      ∙ ap (λ o. or_row o (row_at q (tables_in t (more n)))) (row_of_all q n (λ p low. each p (omega (arith, low))))
+      ∙ ap (or_row (cond b (row_at q (joined (listed T 0 n))) None)) (ap (row_at q) (each n (omega arith)) ∙ row_of_part t range q (T n))
+      ∙ by b (row_pushed q T 0 n ∙ ap (λ k. or_row (row_at q (joined (listed T 0 n))) (row_at q (T k))) last)
+    where
+      by : (b : Bool) → row_at q (joined (listed T 0 (suc n))) ≡ or_row (row_at q (joined (listed T 0 n))) (row_at q (T n))
+          → or_row (cond b (row_at q (joined (listed T 0 n))) None) (cond b (row_at q (T n)) None) ≡ cond b (row_at q (joined (listed T 0 (suc n)))) None
+      by true h = sym h
+      by false h = refl
+
+  module _ (part : Value → ℕ) where
+    all_apart : (n : ℕ) → ((p : ℕ) → p < n → (are_apart (more p) ≡ true) × Every (λ row. part (key_of row) ≡ p) (more p)) → (are_apart (all_of more n) ≡ true) × Every (λ row. part (key_of row) < n) (all_of more n)
+    all_apart zero each = (refl, tt)
+    all_apart (suc n) each =
+        let before = all_apart n (λ p low. each p (omega (arith, low))) in
+        let last = each n (omega arith) in (
+          apart_both part n (all_of more n) (more n) before.0 last.0 before.1 last.1,
+          every_both (λ row. part (key_of row) < suc n) (all_of more n) (more n)
+              (every_weaker (λ row. part (key_of row) < n) (λ row. part (key_of row) < suc n) (λ row low. omega (arith, low)) (all_of more n) before.1)
+              (every_weaker (λ row. part (key_of row) ≡ n) (λ row. part (key_of row) < suc n) (λ row at. omega (arith, at)) (more n) last.1),
+        )
+
+module _ (shape : Shape) (range : KeyRange) (T : ℕ → Tables) (n : ℕ) (placed : (p : ℕ) → p < n → IsPlaced shape p (T p)) (old new : RowsOf) where
+  abbrev t : ℕ
+  t = old.table
+
+  abbrev all : Tables
+  all = joined (listed T 0 n)
+
+  -- the rows of each partition are loaded: those of all are, each once
+  pub all_loaded : HaveAllLoaded range T n old new → HasLoaded range all old new
+  all_loaded loaded = record {
+    more = all_of loaded.more n;
+    came = loaded.came;
+    apart = (all_apart t range T loaded.more (part_of_key shape) n (λ p low. ((loaded.each p low).0, in_part p low))).0;
+    rows = same_tables (tables_in t (all_of loaded.more n)) (part_of t range all)
+        (λ q. row_of_all t range T loaded.more q n (λ p low. (loaded.each p low).1) ∙ sym (row_of_part t range q all));
+  }
+    where
+      in_part : (p : ℕ) → p < n → Every (λ row. part_of_key shape (key_of row) ≡ p) (loaded.more p)
+      in_part p low = each_key (λ key. part_of_key shape key ≡ p) t (loaded.more p) (λ q row is. by q row (is_in t range q) (sym (row_of_part t range q (T p)) ∙ ap (row_at q) (sym (loaded.each p low).1) ∙ is))
+        where
+          by : (q : Place) (row : List Value) (b : Bool) → cond b (row_at q (T p)) None ≡ Some row → part_of_key shape q.key ≡ p
+          by q row true is = placed p low q row is
+          by q row false is = absurd cc
+
+  -- the rows of the one partition are loaded in which the keys of the range stand: those of all are
+  pub one_loaded : (p : ℕ) → p < n → ((key : Value) (k : ℕ) → k < n → has_key range key ≡ true → part_of_key shape key ≡ k → k ≡ p) → HasLoaded range (T p) old new → HasLoaded range all old new
+  one_loaded p low alone loaded = record {
+    more = loaded.more;
+    came = loaded.came;
+    apart = loaded.apart;
+    rows = loaded.rows ∙ same_tables (part_of t range (T p)) (part_of t range all)
+        (λ q. row_of_part t range q (T p) ∙ by q (is_in t range q) refl ∙ sym (row_of_part t range q all));
+  }
+    where
+      by : (q : Place) (b : Bool) → is_in t range q ≡ b → cond b (row_at q (T p)) None ≡ cond b (row_at q all) None
+      by q true inside = sym (one_of_all range shape T n p low placed alone q (right (t == q.table) (has_key range q.key) inside))
+      by q false inside = refl
+
+-- THE ROWS OF A REACH
 
 if_same : {X : Type 0} (b : Bool) (x y : X) → cond b x y ≡ (if b then x else y)
 if_same true x y = refl
 if_same false x y = refl
 
--- the rows of a range are the part of a reach
-pub whole_part : (r : Reach) (rows : List Entry) (es : Tables) → rows ≡ rows_after r.table r.range None es → IsPartOf r (tables_of rows) es
-whole_part r rows es is q =
-    let p = is_next r.table r.range None in
-    let sorted : T (is_sorted place_cmp rows) = subst (λ (l : List Entry). T (is_sorted place_cmp l)) (sym is) (rows_sorted r.table r.range None es) in
-    ap (find place_cmp q) (tables_of-list rows sorted ∙ is)
-    ∙ find-where_key place_cmp p q (λ x e. ap p (sym (place_same q x e))) es.list
-    ∙ ap (λ b. cond b (row_at q es) None) (also ((r.table == q.table) && has_key r.range q.key))
-    ∙ if_same (is_within r q) (row_at q es) None
+is_part : (r : Reach) (rows whole : Tables) → rows ≡ part_of r.table r.range whole → IsPartOf r rows whole
+is_part r rows whole is q = ap (row_at q) is ∙ row_of_part r.table r.range q whole ∙ if_same (is_within r q) (row_at q whole) None
 
--- EACH ROW, wherever it is put
-module _ (P : Place → List Value → Type 0) where
-  pub every_insert : (es : List Entry) (k : Place) (row : List Value) → Every (λ (e : Entry). P e.0 e.1) es → P k row → Every (λ (e : Entry). P e.0 e.1) (insert_entry place_cmp es k row)
-  every_insert [] k row h one = (one, tt)
-  every_insert (e ∷ es) k row h one = by (place_cmp k e.0) refl (every_insert es k row h.1 one)
-    where
-      by : (o : Ordering) → place_cmp k e.0 ≡ o → Every (λ (e : Entry). P e.0 e.1) (insert_entry place_cmp es k row) → Every (λ (e : Entry). P e.0 e.1) (match_ordering o ((k, row) ∷ e ∷ es) ((e.0, row) ∷ es) (e ∷ insert_entry place_cmp es k row))
-      by Less is more = (one, h)
-      by Equal is more = (subst (λ (q : Place). P q row) (place_same k e.0 is) one, h.1)
-      by Greater is more = (h.0, more)
+module _ (r : Reach) (whole : Tables) (old new : RowsOf) (none : old ≡ record { table = r.table; rows = [] }) (loaded : HasLoaded r.range whole old new) where
+  came : new ≡ record { table = r.table; rows = loaded.more }
+  came = loaded.came ∙ ap (with_rows loaded.more) none
 
-  every_put : (es : List Entry) (k : Place) (row : List Value) → Every (λ (e : Entry). P e.0 e.1) es → P k row → Every (λ (e : Entry). P e.0 e.1) (put place_cmp k row es)
-  every_put [] k row h one = (one, tt)
-  every_put (e ∷ es) k row h one = by (place_cmp k e.0) refl (every_put es k row h.1 one)
-    where
-      by : (o : Ordering) → place_cmp k e.0 ≡ o → Every (λ (e : Entry). P e.0 e.1) (put place_cmp k row es) → Every (λ (e : Entry). P e.0 e.1) (by_order o ((k, row) ∷ e ∷ es) ((e.0, row) ∷ es) (e ∷ put place_cmp k row es))
-      by Less is more = (one, h)
-      by Equal is more = (subst (λ (q : Place). P q row) (place_same k e.0 is) one, h.1)
-      by Greater is more = (h.0, more)
+  pub loaded_apart : are_apart new.rows ≡ true
+  loaded_apart = ap (λ (l : RowsOf). are_apart l.rows) came ∙ loaded.apart
 
-  -- also as tables
-  pub every_row : (es : List Entry) → Every (λ (e : Entry). P e.0 e.1) es → Every (λ (e : Entry). P e.0 e.1) (tables_of es).list
-  every_row [] h = tt
-  every_row (e ∷ es) h = every_put (tables_of es).list e.0 e.1 (every_row es h.1) h.0
+  pub loaded_part : (rows : Tables) → rows ≡ tables_in new.table new.rows → IsPartOf r rows whole
+  loaded_part rows is = is_part r rows whole
+      (is ∙ ap (λ (l : RowsOf). tables_in l.table l.rows) came ∙ ap (λ (l : RowsOf). tables_in l.table loaded.more) (sym none) ∙ loaded.rows ∙ ap (λ (l : RowsOf). part_of l.table r.range whole) none)
+
+-- they fit their tables, where all rows do
+pub part_fits : (schema : List TableDef) (r : Reach) (part whole : Tables) → IsPartOf r part whole → ((q : Place) (row : List Value) → row_at q whole ≡ Some row → IsRowAt schema q row) → AreRowsOf schema part
+part_fits schema r part whole is fit = each_found (IsRowAt schema) part.list part.sorted (λ q row found. by q row (is_within r q) (sym (is q) ∙ found))
+  where
+    by : (q : Place) (row : List Value) (b : Bool) → (if b then row_at q whole else None) ≡ Some row → IsRowAt schema q row
+    by q row true found = fit q row found
+    by q row false found = absurd cc
+
+-- and where each meets its table, and stands at the place of its key
+pub met_fit : (schema : List TableDef) (es : Tables) → all_meet schema es ≡ true → IsKeyed es → AreRowsOf schema es
+met_fit schema es met keyed = by es.list met (each_found (λ q row. key_of row ≡ q.key) es.list es.sorted (λ q row found. subst (λ o. IfSome o (λ row. key_of row ≡ q.key)) found (keyed q)))
+  where
+    by : (l : List Entry) → list_all (λ (e : Entry). meets_table schema e.0.table e.1) l ≡ true → Every (λ (e : Entry). key_of e.1 ≡ e.0.key) l → Every (λ (e : Entry). IsRowAt schema e.0 e.1) l
+    by [] m k = tt
+    by (e ∷ l) m k =
+        let rest = list_all (λ (e : Entry). meets_table schema e.0.table e.1) l in
+        ((is_row_at schema e.0.table e.1 (left (meets_table schema e.0.table e.1) rest m), sym k.0), by l (right (meets_table schema e.0.table e.1) rest m) k.1)
 
 -- A STORE is as it was after calls that write nothing
 store_same : (d e : View) (x : Store) (which : WhichLog) (c : Coordinator Definition) (v : ℕ → PartView) → SameShape d e → ((dev : ℕ) → IsUnchanged d e dev) → IsStore reading d x which c v → IsStore reading e x which c v
@@ -117,88 +287,6 @@ store_unless d e x which c v (Some Failed) k is = tt
 store_unless d e x which c v (Some Stopped) k is = tt
 store_unless d e x which c v (Some (Full n)) k is = store_same d e x which c v k.shape (λ dev. k.kept dev (λ none. none)) is
 store_unless d e x which c v (Some Memory) k is = store_same d e x which c v k.shape (λ dev. k.kept dev (λ none. none)) is
-
-abbrev pub rows_of : Coordinator Definition → (ℕ → PartView) → Tables
-rows_of c v = (found_of c v).kept.tables
-
--- how far the rows of a range are loaded
-pub record LoadedSoFar (d0 d : View) (x0 x : Store) (t : ℕ) (range : KeyRange) (schema : List TableDef) (rows : List Entry) (after : Option Value) : Type 0 where
-  pub is : (which : WhichLog) (c : Coordinator Definition) (v : ℕ → PartView) → IsStore reading d0 x0 which c v → IsStore reading d x which c v
-  pub keeps : KeepsAll d0 d None
-  pub cause : HasCause d0 d None
-  pub rest : IsTrue d0.told → (which : WhichLog) (c : Coordinator Definition) (v : ℕ → PartView) → IsStore reading d0 x0 which c v → rows ++ rows_after t range after (rows_of c v) ≡ rows_after t range None (rows_of c v)
-  pub typed : Every (λ (e : Entry). IsRowAt schema e.0 e.1) rows
-  pub numbers : numbers_in x ≡ numbers_in x0
-  pub messages : messages_of x ≡ messages_of x0
-
-pub none_loaded : (d : View) (x : Store) (t : ℕ) (range : KeyRange) (schema : List TableDef) (rows : List Entry) → rows ≡ [] → LoadedSoFar d d x x t range schema rows None
-none_loaded d x t range schema rows none = subst (λ (l : List Entry). LoadedSoFar d d x x t range schema l None) (sym none) (record {
-  is = λ which c v is. is;
-  keeps = record { shape = same_shape d; kept = λ dev other. record { bytes = refl; images = λ c left. left }; images = λ dev other c left. left };
-  cause = cause_none d;
-  rest = λ told which c v is. refl;
-  typed = tt;
-  numbers = refl;
-  messages = refl;
-})
-
-module _ (d0 d : View) (x0 x : Store) (t : ℕ) (range : KeyRange) (schema : List TableDef) (rows : List Entry) (after : Option Value) (so_far : LoadedSoFar d0 d x0 x t range schema rows after) where
-  pub still_stands : StandsOnDevices d0 x0 → StandsOnDevices d x
-  still_stands s = record { which = s.which; c = s.c; v = s.v; is = so_far.is s.which s.c s.v s.is }
-
-  -- with one row more
-  module _ (row : List Value) (next : (which : WhichLog) (c : Coordinator Definition) (v : ℕ → PartView) → IsStore reading d x which c v → IsTrue d.told → Some row ≡ next_row t range after (rows_of c v)) where
-    module _ (told : IsTrue d0.told) (which : WhichLog) (c : Coordinator Definition) (v : ℕ → PartView) (is : IsStore reading d0 x0 which c v) where
-      one_next : rows_after t range after (rows_of c v) ≡ (place t (key_of row), row) ∷ rows_after t range (Some (key_of row)) (rows_of c v)
-      one_next =
-          let now = so_far.is which c v is in
-          rows_after-next t range after (rows_of c v) row (next which c v now (so_far.keeps.shape.told ∙ told)) (store_keyed reading d x which c v now)
-
-      one_more : insert_entry place_cmp rows (place t (key_of row)) row ≡ rows ++ (place t (key_of row), row) ∷ []
-      one_more =
-          let es = rows_of c v in
-          put_last (place t (key_of row)) row rows (rows_after t range (Some (key_of row)) es)
-          (subst (λ (l : List Entry). T (is_sorted place_cmp l)) (sym (so_far.rest told which c v is) ∙ ap (λ l. rows ++ l) one_next) (rows_sorted t range None es))
-
-    pub one_loaded : (e f : View) (y : Store) (key : Value) (now : List Entry)
-        → KeepsAll d e None → HasCause d e None → ((which : WhichLog) (c : Coordinator Definition) (v : ℕ → PartView) → IsStore reading d x which c v → IsStore reading e y which c v)
-        → KeepsAll e f None → HasCause e f None → meets_table schema t row ≡ true
-        → key ≡ key_of row → now ≡ insert_entry place_cmp rows (place t (key_of row)) row → numbers_in y ≡ numbers_in x → messages_of y ≡ messages_of x → LoadedSoFar d0 f x0 y t range schema now (Some key)
-    one_loaded e f y key now keeps cause is keeps' cause' meets is_key put_in counted net = record {
-      is = λ which c v stood. store_unless e f y which c v None keeps' (is which c v (so_far.is which c v stood));
-      keeps = keeps_on (λ _. ⊥) d0 e f None (keeps_on (λ _. ⊥) d0 d e None so_far.keeps keeps) keeps';
-      cause = cause_on d0 e f None (cause_on d0 d e None so_far.cause cause) cause';
-      rest = λ told which c v stood.
-          let es = rows_of c v in
-          ap (λ l. l ++ rows_after t range (Some key) es) (put_in ∙ one_more told which c v stood)
-          ∙ ap (λ k. (rows ++ (place t (key_of row), row) ∷ []) ++ rows_after t range (Some k) es) is_key
-          ∙ append_assoc rows ((place t (key_of row), row) ∷ []) (rows_after t range (Some (key_of row)) es)
-          ∙ ap (λ l. rows ++ l) (sym (one_next told which c v stood))
-          ∙ so_far.rest told which c v stood;
-      typed = subst (Every (λ (e : Entry). IsRowAt schema e.0 e.1)) (sym put_in) (every_insert (IsRowAt schema) rows (place t (key_of row)) row so_far.typed (is_row_at schema t row meets, refl));
-      numbers = counted ∙ so_far.numbers;
-      messages = net ∙ so_far.messages;
-    }
-
-  -- where no row is next, all are loaded
-  pub all_loaded : IsTrue d0.told → (which : WhichLog) (c : Coordinator Definition) (v : ℕ → PartView) → IsStore reading d0 x0 which c v → None ≡ next_row t range after (rows_of c v) → rows ≡ rows_after t range None (rows_of c v)
-  all_loaded told which c v is none = sym (append-nil rows) ∙ ap (λ l. rows ++ l) (sym (rows_after-none t range after (rows_of c v) none)) ∙ so_far.rest told which c v is
-
--- behind the row that was put fewer places are left, whatever the disks tell
-pub fewer_left : (x y : Store) (t : ℕ) (range : KeyRange) (after : Option Value) (row : List Value) (key : Value) → Some (key_of row) ≡ option_map key_of (next_row t range after (places_asked x range)) → key ≡ key_of row
-    → places_in y ≡ places_in x → shape_of_store y ≡ shape_of_store x
-    → length (rows_after t range (Some key) (places_asked y range)) < length (rows_after t range after (places_asked x range))
-fewer_left x y t range after row key next is_key same shape = by (next_row t range after (places_asked x range)) refl next
-  where
-    by : (o : Option (List Value)) → next_row t range after (places_asked x range) ≡ o → Some (key_of row) ≡ option_map key_of o → length (rows_after t range (Some key) (places_asked y range)) < length (rows_after t range after (places_asked x range))
-    by None is none = absurd (clash none)
-      where
-        clash : Some (key_of row) ≡ None → ⊥
-        clash wrong = cc
-    by (Some other) is some = fewer t range after (places_asked x range) other key (places_asked y range) (sym is) (asked_keyed x range) (is_key ∙ keys some) (asked_stay x y range same shape)
-      where
-        keys : Some (key_of row) ≡ Some (key_of other) → key_of row ≡ key_of other
-        keys e = cc
 
 pub none_left : {A : Type 0} (o : Option A) → ((x : A) → o ≡ Some x → ⊥) → None ≡ o
 none_left None not_some = refl

@@ -4,13 +4,12 @@ use Rattle.salt_commit.specs.Migrations.{HasMigrated}
 use Rattle.salt_commit.specs.Stores.{IsStoreDevice, reading, shape_of_store}
 use Rattle.salt_commit.specs.declared.store.Store.{Store}
 use Rattle.salt_disk.proofs.CallAfterCall.{keeps_wider}
-use Rattle.salt_disk.specs.Disks.{View}
+use Rattle.salt_disk.specs.Disks.{FullWhere, View}
 use Rattle.salt_disk.specs.declared.disks.DiskErr.TheVariants.{Failed, Full, Memory, Stopped}
 use Rattle.salt_disk.specs.declared.disks.DiskErr.{DiskErr}
 use Rattle.salt_promise.specs.Filling.{MigrationFills}
 use Rattle.salt_room.specs.Migrations.{FullAtMigration, MigrationPassesLimit, Migrates}
 use Rattle.salt_room.specs.Renewals.{IsOfStore}
-use Rattle.salt_shares.specs.Prepares.{FullWhere}
 use Rattle.std.proofs.Common.{IsTrue, None, Option, Some, length, ℕ, ◌≡◌, ◌∙◌}
 
 migration_fills : (e : View) (x : Store) (dev : ℕ) → length x.parts ≡ (shape_of_store x).parts → IsTrue e.told → MigrationPassesLimit e x.decisions x.parts dev → MigrationFills e (shape_of_store x) dev

@@ -9,7 +9,7 @@ use Rattle.salt_commit.specs.Stores.{decided_by}
 use Rattle.salt_decisions.specs.Kept.{IsKept}
 use Rattle.salt_decisions.specs.declared.kept.Kept.{Kept}
 use Rattle.salt_disk.proofs.CallAfterCall.{keeps_on, keeps_wider}
-use Rattle.salt_disk.specs.Disks.{KeepsAll, KeepsBut, View}
+use Rattle.salt_disk.specs.Disks.{FullWhere, KeepsAll, KeepsBut, View}
 use Rattle.salt_disk.specs.declared.disks.DiskErr.TheVariants.{Failed, Full, Memory, Stopped}
 use Rattle.salt_disk.specs.declared.disks.DiskErr.{DiskErr}
 use Rattle.salt_gatelog.specs.Answers.{open_err_of, open_err_of_pair}
@@ -24,7 +24,6 @@ use Rattle.salt_parts.specs.Judging.{HasTables}
 use Rattle.salt_parts.specs.Openings.{HaveUnits, IsPagesOf, IsRulingOf, PagesAreFull, PartsRefuse, ReadsAll, WereRead, decided_in}
 use Rattle.salt_parts.specs.declared.ruling.Ruling.{Ruling}
 use Rattle.salt_place.specs.declared.placement.Shape.{Shape}
-use Rattle.salt_shares.specs.Prepares.{FullWhere}
 use Rattle.salt_stands.specs.Coordinator.{Coordinator}
 use Rattle.salt_stands.specs.CoordinatorLog.{CoordinatorLog}
 use Rattle.salt_stands.specs.Partition.{pages_device}

@@ -9,7 +9,6 @@ use Rattle.salt_decisions.proofs.Framed.{decisions_kept}
 use Rattle.salt_parts.proofs.Reading.{all_settled, same_bytes}
 use Rattle.salt_parts.specs.Judging.{HasTables}
 use Rattle.salt_parts.specs.Openings.{HasRoom, IsFirstFault, IsPagesOf}
-use Rattle.salt_shares.specs.Prepares.{FullWhere}
 use Rattle.salt_stands.specs.LogDevices.{IsCoordinatorLog}
 use Rattle.salt_commit.specs.Stores.{IsStoreDevice, reading}
 use Rattle.salt_commit.specs.declared.store.Store.{Store}
@@ -25,7 +24,7 @@ use Rattle.salt_checkpoint.proofs.Torn.{keeps_all, keeps_more}
 use Rattle.salt_checkpoint.specs.Checkpoints.{IsReady}
 use Rattle.law_definitions.specs.Texts.{definition_in}
 use Rattle.salt_disk.proofs.CallAfterCall.{keeps_on, keeps_wider}
-use Rattle.salt_disk.specs.Disks.{IsSettled, KeepsAll, KeepsBut, View}
+use Rattle.salt_disk.specs.Disks.{FullWhere, IsSettled, KeepsAll, KeepsBut, View}
 use Rattle.salt_disk.specs.declared.disks.DiskErr.TheVariants as disk
 use Rattle.salt_disk.specs.declared.disks.DiskErr.{DiskErr}
 use Rattle.salt_model.specs.Kept.{Definition}

@@ -1,4 +1,5 @@
 -- What a pair of logs answers, as an opening of the store answers it.
+use Rattle.salt_disk.specs.Disks.{FullWhere}
 use Rattle.salt_bytes.specs.Generations.{BothBlank, Pair}
 use Rattle.salt_commit.specs.Openings.{OpeningFails}
 use Rattle.salt_commit.specs.Stores.{reading}
@@ -11,7 +12,6 @@ use Rattle.salt_gatelog.specs.Pair.{pair_err_of}
 use Rattle.salt_gatelog.specs.declared.pair.PairErr.TheVariants.{Disk, NotSalt}
 use Rattle.salt_gatelog.specs.declared.pair.PairErr.{PairErr}
 use Rattle.salt_place.specs.declared.placement.Shape.{Shape}
-use Rattle.salt_shares.specs.Prepares.{FullWhere}
 use Rattle.salt_stands.specs.Coordinator.{coordinator_pair, judge_coordinator}
 use Rattle.salt_stands.specs.CoordinatorLog.{CoordinatorLog}
 use Rattle.salt_stands.specs.Stands as opening

@@ -1,25 +1,18 @@
 -- A partition of a store is read.
 use Rattle.salt_bytes.specs.Generations.{WhichLog}
 use Rattle.salt_commit.proofs.Standing.{stood}
-use Rattle.salt_commit.specs.Reads.{of_asked, places_asked, places_in, table_at}
-use Rattle.salt_commit.specs.Stores.{IsStore, decided_by, shape_of_store}
+use Rattle.salt_commit.specs.Stores.{IsStore, decided_by}
 use Rattle.salt_commit.specs.declared.store.Store.{Store}
 use Rattle.salt_decisions.proofs.Framed.{decisions_kept}
 use Rattle.salt_decisions.specs.Decisions.{IsDecisions}
 use Rattle.salt_disk.specs.Disks.{IsUnchanged, KeepsAll, SameShape, UnlessDown, View}
 use Rattle.salt_disk.specs.declared.disks.DiskErr.TheVariants.{Failed, Full, Memory, Stopped}
 use Rattle.salt_disk.specs.declared.disks.DiskErr.{DiskErr}
-use Rattle.salt_eval.specs.Scans.{IsKeyed}
-use Rattle.salt_model.specs.Tables.{Tables, place, row_at}
+use Rattle.salt_model.specs.Tables.{place, row_at}
 use Rattle.salt_paged.proofs.Framed.{partition_kept}
-use Rattle.salt_paged.proofs.Keyed.{part_places_keyed}
-use Rattle.salt_paged.specs.Partitions.{ArePartitions, IsPartition, places_of}
+use Rattle.salt_paged.specs.Partitions.{ArePartitions, IsPartition}
 use Rattle.salt_paged.specs.declared.partition.Partition.{Partition}
-use Rattle.salt_parts.proofs.Lists.{if_some, make_some, map_set, set_other, set_same}
-use Rattle.salt_parts.proofs.Scanned.{all_keyed}
-use Rattle.salt_place.specs.OneParts.{one_part}
-use Rattle.salt_place.specs.declared.placement.Shape.{Shape}
-use Rattle.salt_ranges.specs.declared.range.KeyRange.{KeyRange}
+use Rattle.salt_parts.proofs.Lists.{if_some, make_some, set_other, set_same}
 use Rattle.salt_stands.proofs.Joined.{row_at_joined}
 use Rattle.salt_stands.proofs.PlacedParts.{placed_part}
 use Rattle.salt_stands.specs.Commits.{each_tables, found_of, partition_count}
@@ -29,11 +22,11 @@ use Rattle.salt_stands.specs.Pieces.{PartView, tables_at_part}
 use Rattle.salt_stands.specs.Reading.{Reading}
 use Rattle.salt_stands.specs.Stands.{logs_of}
 use Rattle.salt_values.specs.declared.value.Value.{Value}
-use Rattle.std.proofs.Common.{IsTrue, List, None, Option, Some, [], ap, arith, get_or, inl, inr, length, refl, slice_set, subst, suc, sym, zero, ℕ, ◌+◌, ◌<◌, ◌≡◌, ◌≢◌, ◌⊎◌, ◌∙◌, ◌∷◌}
+use Rattle.std.proofs.Common.{IsTrue, List, None, Option, Some, ap, arith, get_or, inl, inr, length, refl, slice_set, subst, sym, ℕ, ◌+◌, ◌<◌, ◌≡◌, ◌≢◌, ◌⊎◌, ◌∙◌}
 use Rattle.std.proofs.lemmas.Bool.{cases_eq}
 use Rattle.std.proofs.lemmas.List.{length-set}
 use Rattle.std.proofs.lemmas.Option.{slice_get_read}
-use Rattle.std.specs.Prelude.{IfSome, map, slice_get}
+use Rattle.std.specs.Prelude.{IfSome, slice_get}
 
 module _ {D : Type 0} (r : Reading D) (d : View) (x : Store) (which : WhichLog) (c : Coordinator D) (v : ℕ → PartView) (is : IsStore r d x which c v)
     (p : ℕ) (q : Partition) (within : p < length x.parts) (read : q ≡ get_or x.parts p q) where
@@ -85,39 +78,6 @@ store_after_reads r d e x y which c v answer is keeps same size are = by answer 
     by (Some Stopped) k h = tt
     by (Some (Full dev)) k h = go k.shape (λ n. k.kept n (λ none. none)) h
     by (Some Memory) k h = go k.shape (λ dev. k.kept dev (λ none. none)) h
-
--- THE PLACES of rows stay, whatever the disks tell
-
-table_is : (xs : List Partition) (p : ℕ) (q : Partition) → slice_get xs p ≡ Some q → table_at (map places_of xs) p ≡ places_of q
-table_is [] p q at = cc
-table_is (x ∷ xs) zero q at = let same : x ≡ q = cc in ap places_of same
-table_is (x ∷ xs) (suc p) q at = table_is xs p q at
-
-module _ (x : Store) (p : ℕ) (q : Partition) (within : p < length x.parts) (read : q ≡ get_or x.parts p q) where
-  at : slice_get x.parts p ≡ Some q
-  at = slice_get_read x.parts (length x.parts) p q refl within read
-
-  pub places_stay : (q' : Partition) → places_of q' ≡ places_of q → map places_of (slice_set x.parts p q') ≡ places_in x
-  places_stay q' same = map_set places_of x.parts p q q' at same
-
-  pub places_there : table_at (places_in x) p ≡ places_of q
-  places_there = table_is x.parts p q at
-
-at_keyed : (xs : List Partition) (p : ℕ) → IsKeyed (table_at (map places_of xs) p)
-at_keyed [] p q = tt
-at_keyed (x ∷ xs) zero q = part_places_keyed x q
-at_keyed (x ∷ xs) (suc p) q = at_keyed xs p q
-
--- those that are asked have their keys
-pub asked_keyed : (x : Store) (range : KeyRange) → IsKeyed (places_asked x range)
-asked_keyed x range = by (one_part (shape_of_store x) range)
-  where
-    by : (o : Option ℕ) → IsKeyed (of_asked (places_in x) o)
-    by None = all_keyed x.parts
-    by (Some p) = at_keyed x.parts p
-
-pub asked_stay : (x y : Store) (range : KeyRange) → places_in y ≡ places_in x → shape_of_store y ≡ shape_of_store x → places_asked y range ≡ places_asked x range
-asked_stay x y range same shape = ap (λ (s : Shape). of_asked (places_in y) (one_part s range)) shape ∙ ap (λ (ts : List Tables). of_asked ts (one_part (shape_of_store x) range)) same
 
 -- A ROW OF ALL TABLES is the one of its partition
 pub row_of_all : {D : Type 0} (r : Reading D) (d : View) (x : Store) (which : WhichLog) (c : Coordinator D) (v : ℕ → PartView) → IsStore r d x which c v → IsTrue d.told

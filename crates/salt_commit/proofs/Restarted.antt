@@ -7,7 +7,7 @@ use Rattle.salt_decisions.specs.Opened.{Peeks}
 use Rattle.salt_decisions.specs.Said.{mask_of}
 use Rattle.salt_decisions.specs.declared.decisions.Decisions.{Decisions}
 use Rattle.salt_decisions.specs.declared.kept.Kept.{Kept}
-use Rattle.salt_disk.specs.Disks.{IsSettled, IsUnchanged, KeepsAll, OnlyFails, View}
+use Rattle.salt_disk.specs.Disks.{FullWhere, IsSettled, IsUnchanged, KeepsAll, OnlyFails, View}
 use Rattle.salt_disk.specs.declared.disks.DiskErr.TheVariants.{Failed, Full, Memory, Stopped}
 use Rattle.salt_disk.specs.declared.disks.DiskErr.{DiskErr}
 use Rattle.salt_gatelog.proofs.Entries.{not_told}
@@ -17,7 +17,6 @@ use Rattle.salt_paged.specs.Reopening.{AreDecided, StandsToReopen}
 use Rattle.salt_paged.specs.declared.partition.Partition.{Partition}
 use Rattle.salt_parts.specs.Openings.{decided_in}
 use Rattle.salt_place.specs.declared.placement.Shape.{Shape}
-use Rattle.salt_shares.specs.Prepares.{FullWhere}
 use Rattle.salt_stands.specs.Coordinator.{coordinator_pair, device_of, unit_of}
 use Rattle.salt_stands.specs.CoordinatorLog.{CoordinatorLog}
 use Rattle.salt_stands.specs.OpenedPart.{is_known_log}

@@ -17,7 +17,7 @@ use Rattle.salt_commit.specs.declared.store.Store.{Store}
 use Rattle.salt_bytes.specs.Page.{page_place}
 use Rattle.salt_decisions.specs.Decisions.{conts_in}
 use Rattle.salt_disk.proofs.CallAfterCall.{keeps_on, keeps_wider}
-use Rattle.salt_disk.specs.Disks.{KeepsBut, KeepsOthers, View}
+use Rattle.salt_disk.specs.Disks.{FullWhere, KeepsBut, KeepsOthers, View}
 use Rattle.salt_disk.specs.declared.disks.DiskErr.TheVariants.{Failed, Full, Memory, Stopped}
 use Rattle.salt_disk.specs.declared.disks.DiskErr.{DiskErr}
 use Rattle.salt_model.specs.Kept.{Definition}
@@ -32,7 +32,6 @@ use Rattle.salt_room.specs.Making as room
 use Rattle.salt_room.specs.Making.{CheckpointPassesLimit, FullAtRoom, RenewalPassesLimit, RoomPassesLimit, SnapshotPassesLimit}
 use Rattle.salt_room.specs.Renewals.{IsOfStore, IsStoreOf, StandAsStore}
 use Rattle.salt_shares.proofs.Sharing.{full_maps}
-use Rattle.salt_shares.specs.Prepares.{FullWhere}
 use Rattle.salt_shares.specs.Shares.{share_at}
 use Rattle.salt_stands.proofs.PlacedParts.{rows_sound}
 use Rattle.salt_stands.specs.Commits.{found_after, found_of, partition_count}

@@ -7,7 +7,7 @@ use Rattle.salt_commit.specs.Telling.{HaveTold, IsBehind}
 use Rattle.salt_commit.specs.Voting.{HaveVoted, IsVoteDevice, VotesPassLimit}
 use Rattle.salt_decisions.specs.Decisions.{IsBeforeOrWith}
 use Rattle.salt_disk.proofs.CallAfterCall.{cause_none, cause_on, keeps_on, keeps_wider, same_shape}
-use Rattle.salt_disk.specs.Disks.{EachImage, HasCause, IsUnchanged, KeepsBut, View}
+use Rattle.salt_disk.specs.Disks.{EachImage, FullWhere, HasCause, IsUnchanged, KeepsBut, View}
 use Rattle.salt_disk.specs.declared.disks.DiskErr.TheVariants.{Full}
 use Rattle.salt_disk.specs.declared.disks.DiskErr.{DiskErr}
 use Rattle.salt_paged.specs.Partitions.{ArePartitions, IsPartition, pages_of}
@@ -17,7 +17,7 @@ use Rattle.salt_parts.specs.Openings.{IsPagesOf, decided_in}
 use Rattle.salt_partition.specs.Partitions.{prepared}
 use Rattle.salt_shares.proofs.Sharing.{full_maps, pages_apart}
 use Rattle.salt_shares.specs.Applies.{AreSharesLast, IsPagesOfShares, OnePagesPassLimit, applied_with_shares}
-use Rattle.salt_shares.specs.Prepares.{FullWhere, IsLogOfShares, OnePassesLimit}
+use Rattle.salt_shares.specs.Prepares.{IsLogOfShares, OnePassesLimit}
 use Rattle.salt_shares.specs.Shares.{share_at}
 use Rattle.salt_stands.specs.Coordinator.{device_of}
 use Rattle.salt_stands.specs.CoordinatorLog.{CoordinatorLog}

@@ -1,24 +1,21 @@
 -- The rows of a store that stands on disks that tell their bytes meet their tables.
 use Rattle.salt_ast.specs.declared.trees.TableDef.{TableDef}
 use Rattle.salt_bytes.specs.Generations.{WhichLog}
-use Rattle.law_definitions.specs.Texts.{definition_in}
 use Rattle.salt_commit.proofs.Standing.{part_at}
+use Rattle.salt_commit.specs.Loads.{IsRowAt}
 use Rattle.salt_commit.specs.Stores.{IsStore, decided_by, reading}
 use Rattle.salt_commit.specs.declared.store.Store.{Store}
 use Rattle.salt_stands.specs.Fitting.{is_row_of, tables_defined}
 use Rattle.salt_disk.specs.Disks.{View}
-use Rattle.salt_eval.proofs.Scanning.{first-found, rows_after-next}
 use Rattle.salt_eval.specs.Meets.{meets_table}
 use Rattle.salt_eval.specs.Scans.{IsKeyed}
-use Rattle.salt_eval.specs.Views.{is_next, next_row, rows_after}
 use Rattle.salt_model.specs.Kept.{Definition}
 use Rattle.salt_model.specs.Tables.{Tables, changed_at, make_change, no_rows, place, place_cmp, row_at, with_changes}
 use Rattle.salt_model.specs.declared.places.Place.{Place}
-use Rattle.salt_ranges.specs.declared.range.KeyRange.{KeyRange}
 use Rattle.salt_stands.proofs.Booleans.{left, right}
 use Rattle.salt_paged.proofs.Keyed.{part_keyed}
-use Rattle.salt_parts.proofs.Fit.{row_fits, row_of}
-use Rattle.salt_parts.proofs.Scanned.{joined_keyed}
+use Rattle.salt_parts.proofs.Fit.{row_of}
+use Rattle.salt_parts.proofs.Keyed.{joined_keyed}
 use Rattle.salt_stands.proofs.PlacedParts.{decided_sound}
 use Rattle.salt_stands.proofs.Places.{equal_is, or_row, place_same, row_at_entries, row_at_set}
 use Rattle.salt_stands.proofs.Prepared.{sound_units}
@@ -34,7 +31,7 @@ use Rattle.std.proofs.Common.{Bool, IsTrue, List, None, Option, Some, [], ap, ar
 use Rattle.std.proofs.lemmas.List.Folds.{list_all-append}
 use Rattle.std.specs.List.{list_all}
 use Rattle.std.specs.Ordering.{is_eq}
-use Rattle.std.specs.Prelude.{cond, nat_lt, slice_get, suc, zero, ◌&&◌, ◌==◌}
+use Rattle.std.specs.Prelude.{IfSome, cond, nat_lt, slice_get, suc, zero, ◌&&◌, ◌==◌}
 use Rattle.salt_values.specs.Value.{key_of}
 
 -- THE ROWS of a store have their keys
@@ -101,11 +98,10 @@ part_is_fit r d x which c v is told k low =
 store_is_fit : {D : Type 0} (r : Reading D) (d : View) (x : Store) (which : WhichLog) (c : Coordinator D) (v : ℕ → PartView) → IsStore r d x which c v → IsTrue d.told → AreFit r c (found_of c v).kept.tables
 store_is_fit r d x which c v is told = joined_are_fit r c (each_tables c v) 0 (partition_count c) (λ k low. part_is_fit r d x which c v is told k (omega (arith, low)))
 
--- the next row of a range meets the range's table
-pub next_meets : (d : View) (x : Store) (which : WhichLog) (c : Coordinator Definition) (v : ℕ → PartView) → IsStore reading d x which c v → IsTrue d.told → (schema : List TableDef) → schema ≡ tables_defined c.definitions
-    → (t : ℕ) (range : KeyRange) (after : Option Value) (row : List Value) → Some row ≡ next_row t range after (found_of c v).kept.tables → meets_table schema t row ≡ true
-next_meets d x which c v is told schema same t range after row next =
-    let es = (found_of c v).kept.tables in
-    let all = rows_after-next t range after es row next (store_keyed reading d x which c v is) in
-    let found : row_at (place t (key_of row)) es ≡ Some row = first-found (is_next t range after) es.list es.sorted (place t (key_of row), row) (rows_after t range (Some (key_of row)) es) all in
-    row_fits definition_in schema c.log.header.shape c (record { tables = sym same; is_shape = refl }) t row ∙ store_is_fit reading d x which c v is told (place t (key_of row)) row found
+-- each row fits its table, and stands at the place of its key
+pub store_fits : (d : View) (x : Store) (which : WhichLog) (c : Coordinator Definition) (v : ℕ → PartView) → IsStore reading d x which c v → IsTrue d.told → (schema : List TableDef) → schema ≡ tables_defined c.definitions
+    → (q : Place) (row : List Value) → row_at q (found_of c v).kept.tables ≡ Some row → IsRowAt schema q row
+store_fits d x which c v is told schema same q row found = (
+  ap (λ (ts : List TableDef). is_row_of (slice_get ts q.table) row) same ∙ store_is_fit reading d x which c v is told q row found,
+  sym (subst (λ o. IfSome o (λ row. key_of row ≡ q.key)) found (store_keyed reading d x which c v is q)),
+)

@@ -10,7 +10,7 @@ use Rattle.salt_paged.specs.Partitions.{ArePartitions, IsPartition, log_device, 
 use Rattle.salt_parts.proofs.Lists.{if_some, make_some, set_other, set_same, some_at}
 use Rattle.salt_parts.specs.Openings.{decided_in}
 use Rattle.salt_shares.proofs.Sharing.{full_maps, one_device, pages_apart}
-use Rattle.salt_shares.specs.Prepares.{FullWhere, IsLogOfShares, IsShareLog, PassesLimit, StandsForShare, with_shares}
+use Rattle.salt_shares.specs.Prepares.{IsLogOfShares, IsShareLog, PassesLimit, StandsForShare, with_shares}
 use Rattle.salt_shares.specs.Shares.{has_changes, share_at, with_share}
 use Rattle.salt_turns.specs.Amid.{behind_next}
 use Rattle.salt_commit.specs.Again.{ReadsAs, StandsUnder}
@@ -19,7 +19,7 @@ use Rattle.salt_turns.specs.declared.coming.Next.TheVariants as next
 use Rattle.salt_turns.specs.declared.coming.Next.{Next}
 use Rattle.salt_decisions.specs.Decisions.{IsBeforeOrWith}
 use Rattle.salt_disk.proofs.CallAfterCall.{cause_memory, cause_none, cause_on, each_shrinks, keeps_on, keeps_wider, kept_on, same_shape}
-use Rattle.salt_disk.specs.Disks.{EachImage, HasCause, IsUnchanged, KeepsBut, KeepsOthers, View}
+use Rattle.salt_disk.specs.Disks.{EachImage, FullWhere, HasCause, IsUnchanged, KeepsBut, KeepsOthers, View}
 use Rattle.salt_disk.specs.declared.disks.DiskErr.TheVariants.{Failed, Full, Memory, Stopped}
 use Rattle.salt_disk.specs.declared.disks.DiskErr.{DiskErr}
 use Rattle.salt_net.specs.declared.kinds.NodeStatus.TheVariants.{Abort, Commit, Idle, Prepared, Started as Asking, Unknown}

@@ -6,7 +6,6 @@ pub mod Rooms
 pub mod Migrations
 pub mod Full
 pub mod Openings
-pub mod Reads
 pub mod Loads
 pub mod Again
 pub mod Messages

@@ -6,12 +6,11 @@ use Rattle.salt_commit.specs.Messages.{messages_of}
 use Rattle.salt_commit.specs.Stores.{IsStore, IsStoreDevice, StandForEither, numbers_in, reading, shape_of_store}
 use Rattle.salt_commit.specs.declared.store.Store.{Store}
 use Rattle.salt_decisions.specs.declared.header_payload.TheConstants.{FORMAT}
-use Rattle.salt_disk.specs.Disks.{HasCause, KeepsBut, View}
+use Rattle.salt_disk.specs.Disks.{FullWhere, HasCause, KeepsBut, View}
 use Rattle.salt_disk.specs.declared.disks.DiskErr.{DiskErr}
 use Rattle.salt_model.specs.Kept.{Definition}
 use Rattle.salt_promise.specs.Filling.{MigrationFills}
 use Rattle.salt_room.specs.Migrations.{GoUnder}
-use Rattle.salt_shares.specs.Prepares.{FullWhere}
 use Rattle.salt_stands.specs.Commits.{found_of, partition_count}
 use Rattle.salt_stands.specs.Coordinator.{Coordinator}
 use Rattle.salt_stands.specs.Pieces.{PartView}

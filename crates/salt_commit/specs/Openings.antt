@@ -12,6 +12,7 @@ use Rattle.salt_decisions.specs.declared.kept.Kept.{Kept}
 use Rattle.salt_disk.specs.Disks.{IsImage, KeepsAll, View}
 use Rattle.salt_disk.specs.declared.disks.DiskErr.TheVariants as disk
 use Rattle.salt_disk.specs.declared.disks.DiskErr.{DiskErr}
+pub use Rattle.salt_gatelog.specs.Answers.{IsRefusal}
 use Rattle.salt_gatelog.specs.declared.unopened.OpenErr.TheVariants.{Failed, Full, Memory, NotSalt, NumbersSpent, OtherShape, Stopped}
 use Rattle.salt_gatelog.specs.declared.unopened.OpenErr.{OpenErr}
 use Rattle.salt_model.specs.Kept.{Definition}
@@ -137,16 +138,6 @@ pub record StillStands (d e : View) (asked : Shape) : Type 0 where
 -- where nothing is begun, nothing is written, or that holds
 abbrev pub LeavesStanding : (d e : View) → Shape → Option DiskErr → Type 0
 LeavesStanding d e asked answer = KeepsAll d e answer ⊎ StillStands d e asked
-
--- it refuses what stands there
-abbrev pub IsRefusal : OpenErr → Type 0
-IsRefusal (NotSalt dev) = ⊤
-IsRefusal (OtherShape kept asked) = ⊤
-IsRefusal (NumbersSpent boot decisions) = ⊤
-IsRefusal Failed = ⊥
-IsRefusal Stopped = ⊥
-IsRefusal (Full dev) = ⊥
-IsRefusal Memory = ⊥
 
 -- WHAT AN OPENING ANSWERS
 

@@ -4,12 +4,11 @@ use Rattle.salt_checkpoint.specs.Checkpoints.{StandsAlways}
 use Rattle.salt_commit.specs.Stores.{Generation, IsStore, IsStoreDevice, numbers_in, reading, shape_of_store}
 use Rattle.salt_commit.specs.Messages.{messages_of}
 use Rattle.salt_commit.specs.declared.store.Store.{Store}
-use Rattle.salt_disk.specs.Disks.{HasCause, KeepsBut, View}
+use Rattle.salt_disk.specs.Disks.{FullWhere, HasCause, KeepsBut, View}
 use Rattle.salt_disk.specs.declared.disks.DiskErr.{DiskErr}
 use Rattle.salt_model.specs.Kept.{Definition}
 use Rattle.salt_room.specs.Making as room
 use Rattle.salt_promise.specs.Filling.{CheckpointFills, RenewalFills}
-use Rattle.salt_shares.specs.Prepares.{FullWhere}
 use Rattle.salt_stands.specs.Coordinator.{Coordinator}
 use Rattle.salt_stands.specs.Pieces.{PartView}
 use Rattle.salt_values.specs.declared.change.Change.{Change}

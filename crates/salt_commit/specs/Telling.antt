@@ -3,7 +3,7 @@ use Rattle.salt_bytes.specs.Generations.{WhichLog}
 use Rattle.salt_checkpoint.specs.Sides.{KeepsNamed}
 use Rattle.salt_commit.specs.Again.{ReadsAs}
 use Rattle.salt_commit.specs.Voting.{HasDoneNothing, HasReopenedAt, MayReopenAt}
-use Rattle.salt_disk.specs.Disks.{HasCause, KeepsBut, View}
+use Rattle.salt_disk.specs.Disks.{FullWhere, HasCause, KeepsBut, View}
 use Rattle.salt_disk.specs.declared.disks.DiskErr.{DiskErr}
 use Rattle.salt_net.specs.Paces.{Pace, turning_of}
 use Rattle.salt_net.specs.Turns.{commits}
@@ -11,7 +11,6 @@ use Rattle.salt_paged.specs.Partitions.{ArePartitions}
 use Rattle.salt_paged.specs.declared.partition.Partition.{Partition}
 use Rattle.salt_parts.specs.Openings.{IsPagesOf, decided_in}
 use Rattle.salt_shares.specs.Applies.{AreSharesLast}
-use Rattle.salt_shares.specs.Prepares.{FullWhere}
 use Rattle.salt_shares.specs.Shares.{applied_with, share_at}
 use Rattle.salt_stands.specs.CoordinatorLog.{CoordinatorLog}
 use Rattle.salt_stands.specs.OpenedPart.{is_known_log}

@@ -4,7 +4,7 @@ use Rattle.salt_bytes.specs.Partition.{spell_prepared}
 use Rattle.salt_checkpoint.specs.Sides.{KeepsNamed}
 use Rattle.salt_commit.specs.Again.{ReadsAs, StandsUnder}
 use Rattle.salt_decisions.specs.Decisions.{IsBeforeOrWith}
-use Rattle.salt_disk.specs.Disks.{EachImage, HasCause, IsUnchanged, KeepsAll, KeepsBut, KeepsOthers, View}
+use Rattle.salt_disk.specs.Disks.{EachImage, FullWhere, HasCause, IsUnchanged, KeepsAll, KeepsBut, KeepsOthers, View}
 use Rattle.salt_disk.specs.declared.disks.DiskErr.TheVariants.{Full}
 use Rattle.salt_disk.specs.declared.disks.DiskErr.{DiskErr}
 use Rattle.salt_paged.specs.Partitions.{ArePartitions, IsPartition, log_device, log_gate, pages_of}
@@ -12,7 +12,7 @@ use Rattle.salt_paged.specs.Reopening.{AreDecided}
 use Rattle.salt_paged.specs.declared.partition.Partition.{Partition}
 use Rattle.salt_partition.specs.Partitions.{prepared}
 use Rattle.salt_parts.specs.Openings.{IsPagesOf, decided_in}
-use Rattle.salt_shares.specs.Prepares.{FullWhere, IsLogOfShares, IsShareLog, MayPrepareEach, OnePassesLimit, PassesLimit, StandsForShare}
+use Rattle.salt_shares.specs.Prepares.{IsLogOfShares, IsShareLog, MayPrepareEach, OnePassesLimit, PassesLimit, StandsForShare}
 use Rattle.salt_shares.specs.Shares.{MayPrepareShare, share_at, with_share}
 use Rattle.salt_stands.specs.Coordinator.{device_of}
 use Rattle.salt_stands.specs.CoordinatorLog.{CoordinatorLog}

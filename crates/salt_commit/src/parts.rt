@@ -2,13 +2,12 @@
 
 ghost use Rattle.salt_commit.specs.Openings.{IsRefusal, OpensAll, PartsFail, UnitsPassUnder, WroteAtMost};
 ghost use Rattle.salt_decisions.specs.Kept.{IsKept};
-ghost use Rattle.salt_disk.specs.Disks.{HasCause, KeepsAll, KeepsBut};
+ghost use Rattle.salt_disk.specs.Disks.{FullWhere, HasCause, KeepsAll, KeepsBut};
 ghost use Rattle.salt_gatelog.specs.Answers.{open_disk_err};
 ghost use Rattle.salt_model.specs.Kept.{Definition};
 ghost use Rattle.salt_parts.specs.Judging.{HasTables};
 ghost use Rattle.salt_parts.specs.Openings.{HasRoom, IsPagesOf, IsRulingOf};
 ghost use Rattle.salt_place.specs.Placement.{GivesPlaceOf, IsParts, TakesEachKey};
-ghost use Rattle.salt_shares.specs.Prepares.{FullWhere};
 ghost use Rattle.salt_stands.specs.Coordinator.{Coordinator};
 ghost use Rattle.salt_stands.specs.CoordinatorLog.{CoordinatorLog};
 ghost use Rattle.std.specs.Prelude.{IfErr, IfOk, IsTrue, length, ◌≡◌, ◌≤◌};

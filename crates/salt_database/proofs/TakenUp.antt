@@ -30,14 +30,12 @@ use Rattle.law_states.specs.States.{State}
 use Rattle.law_states.specs.Told.{commits_in, does_in}
 use Rattle.salt_model.specs.Kept.{Kept}
 use Rattle.salt_model.specs.Next.{decision_in}
+use Rattle.salt_model.specs.Tables.{Tables}
 use Rattle.salt_model.specs.declared.events.Cause.{Cause}
 use Rattle.salt_model.specs.declared.events.Event.{Event}
-use Rattle.salt_model.specs.declared.places.Place.{Place}
 use Rattle.salt_values.specs.declared.id.Id.{Id}
-use Rattle.salt_values.specs.declared.value.Value.{Value}
 use Rattle.std.proofs.Common.{ap, subst, sym, ◌∙◌}
-use Rattle.std.specs.BTreeMap.{BTreeMap}
-use Rattle.std.specs.Prelude.{IsSome, List, None, Option, Some, refl, ℕ, ◌+◌, ◌≡◌}
+use Rattle.std.specs.Prelude.{IsSome, None, Option, Some, refl, ℕ, ◌+◌, ◌≡◌}
 
 -- of what was given in other words
 pub can-take : (x : Recovery) (g h : Given) (s : State) → g ≡ h → CanTakeUp x g s → CanTakeUp x h s
@@ -74,7 +72,7 @@ told-steps x e s can = can.ready.1.1
 
 -- A STATEMENT
 
-module _ (x : Recovery) (a : Asking) (rows : BTreeMap Place (List Value)) (s : State) (can : CanTakeUp x (given.Rows a rows) s) where
+module _ (x : Recovery) (a : Asking) (rows : Tables) (s : State) (can : CanTakeUp x (given.Rows a rows) s) where
   pub act-stands : recovering.StandsForState x s
   act-stands = can.ready.0
 

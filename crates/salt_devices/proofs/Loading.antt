@@ -1,26 +1,17 @@
--- Rows that are loaded, as tables, and under their keys.
+-- Rows that are loaded stand under their keys.
 use Rattle.salt_ast.specs.declared.trees.TableDef.{TableDef}
 use Rattle.salt_commit.specs.Loads.{AreRowsOf, IsRowAt}
-use Rattle.salt_eval.proofs.InOrder.{tables_of-list}
 use Rattle.salt_eval.specs.Scans.{IsKeyed}
-use Rattle.salt_eval.specs.Views.{tables_of}
 use Rattle.salt_model.specs.Tables.{Entry, Tables, place_cmp, row_at}
 use Rattle.salt_model.specs.Words.{Every}
 use Rattle.salt_model.specs.declared.places.Place.{Place}
 use Rattle.salt_stands.proofs.Places.{place_same}
 use Rattle.salt_values.specs.Value.{key_of}
 use Rattle.salt_values.specs.declared.value.Value.{Value}
-use Rattle.salt_model.specs.declared.locks.Reach.{Reach}
-use Rattle.salt_storage.specs.Storing.{IsPartOf}
-use Rattle.std.proofs.Common.{Equal, Greater, Less, List, None, Option, Ordering, Some, [], ap, refl, subst, sym, ◌≡◌, ◌∙◌, ◌∷◌}
+use Rattle.std.proofs.Common.{Equal, Greater, Less, List, None, Option, Ordering, Some, [], refl, subst, sym, ◌≡◌, ◌∷◌}
 use Rattle.std.specs.Ordering.{is_eq}
 use Rattle.std.specs.Prelude.{IfSome, cond}
 use Rattle.std.specs.FinMap.Entries.{find}
-
-pub same_part : (r : Reach) (rows : List Entry) (es whole : Tables) → rows ≡ es.list → IsPartOf r (tables_of rows) whole → IsPartOf r es whole
-same_part r rows es whole is h q =
-    let same : (tables_of rows).list ≡ es.list = ap (λ (l : List Entry). (tables_of l).list) is ∙ tables_of-list es.list es.sorted in
-    ap (λ (l : List Entry). find place_cmp q l) (sym same) ∙ h q
 
 -- what is found has what each entry has
 found_entry : (P : Place → List Value → Type 0) (es : List Entry) (q : Place) (row : List Value) → Every (λ (e : Entry). P e.0 e.1) es → find place_cmp q es ≡ Some row → P q row

@@ -13,14 +13,13 @@ use Rattle.salt_devices.specs.Opened.{LeavesKept, OpensAs, OpensIn, StandsYet}
 use Rattle.salt_devices.specs.Refusing.{RefusedAs}
 use Rattle.salt_devices.specs.Remembering.{AreNumbersOf, numbers_of}
 use Rattle.salt_disk.proofs.CallAfterCall.{keeps_on}
-use Rattle.salt_disk.specs.Disks.{IsImage, KeepsBut, SameShape, View}
+use Rattle.salt_disk.specs.Disks.{FullWhere, IsImage, KeepsBut, SameShape, View}
 use Rattle.salt_disk.specs.declared.disks.DiskErr.TheVariants.{Failed, Full, Memory, Stopped}
 use Rattle.salt_disk.specs.declared.disks.DiskErr.{DiskErr}
 use Rattle.salt_gatelog.specs.Answers.{open_err_of}
 use Rattle.salt_model.specs.Kept.{Definition}
 use Rattle.salt_place.specs.declared.placement.Shape.{Shape}
 use Rattle.salt_promise.specs.Filling.{MigrationFills}
-use Rattle.salt_shares.specs.Prepares.{FullWhere}
 use Rattle.salt_stands.specs.Commits.{found_of}
 use Rattle.salt_stands.specs.Fitting.{kept_in}
 use Rattle.salt_stands.specs.Stands as opening

@@ -1,7 +1,7 @@
 -- Devices are opened, by what the calls say one after another.
 use Rattle.salt_bytes.specs.Generations.{BothBlank, Counts, Faulty, Pair}
 use Rattle.salt_commit.proofs.Opening.{leaves_at}
-use Rattle.salt_commit.specs.Openings.{IsRefusal, LeavesStanding, MayWrite, OpeningFails, OpeningPassesLimit}
+use Rattle.salt_commit.specs.Openings.{LeavesStanding, MayWrite, OpeningFails, OpeningPassesLimit}
 use Rattle.salt_commit.specs.Stores.{reading}
 use Rattle.salt_decisions.specs.Kept.{IsKept}
 use Rattle.salt_decisions.specs.Opened.{IsPeeked}
@@ -12,18 +12,16 @@ use Rattle.salt_stands.specs.Fitting.{kept_in}
 use Rattle.salt_devices.specs.Filling.{FillsDevice, FillsIn}
 use Rattle.salt_devices.specs.Leaving.{StandsFor, StandsForSomething}
 use Rattle.salt_devices.specs.Refusing.{RefusedAs}
-use Rattle.salt_disk.specs.Disks.{IsImage, KeepsAll, KeepsBut, SameShape, Shrinks, View}
+use Rattle.salt_disk.specs.Disks.{FullWhere, IsImage, KeepsAll, KeepsBut, SameShape, Shrinks, View}
 use Rattle.salt_disk.specs.declared.disks.DiskErr.TheVariants as disk
 use Rattle.salt_disk.specs.declared.disks.DiskErr.{DiskErr}
 use Rattle.salt_parts.proofs.Reading.{same_bytes}
 use Rattle.salt_parts.specs.Openings.{HasRoom}
-use Rattle.salt_shares.specs.Prepares.{FullWhere}
 use Rattle.salt_stands.specs.Coordinator.{coordinator_of, coordinator_pair}
 use Rattle.salt_stands.specs.CoordinatorLog.{CoordinatorLog}
 use Rattle.salt_stands.specs.Partition.{pages_device}
 use Rattle.salt_stands.specs.Stands as opening
 use Rattle.salt_stands.specs.Stands.{stands_on, logs_of, nothing_found, opening_of}
-use Rattle.salt_storage.specs.Answers as answers
 use Rattle.salt_storage.specs.Answers.{open_disk_err_of}
 use Rattle.salt_storage.specs.Writing.{OfOpening}
 use Rattle.salt_storage.specs.OpenErr.TheVariants as storage
@@ -81,16 +79,6 @@ full_writes shape bytes Failed dev is h = absurd (cc is)
 full_writes shape bytes Stopped dev is h = absurd (cc is)
 full_writes shape bytes (Full k) dev is h = h
 full_writes shape bytes Memory dev is h = absurd (cc is)
-
--- what a refusal is
-pub refuses_as : (e : OpenErr) → answers.IsRefusal e → IsRefusal e
-refuses_as (NotSalt k) h = tt
-refuses_as (OtherShape kept asked) h = tt
-refuses_as (NumbersSpent boot numbers) h = tt
-refuses_as Failed h = h
-refuses_as Stopped h = h
-refuses_as (Full k) h = h
-refuses_as Memory h = h
 
 -- want of memory behind an opening leaves what it left
 pub keeps_memory : (touched : ℕ → Type 0) (d e : View) → KeepsBut touched d e None → KeepsBut touched d e (Some disk.Memory)

@@ -11,7 +11,7 @@ use crate::pending::{Pending, pending_opening};
 use salt_bytes::Move;
 use salt_commit::Store;
 use salt_disk::Disks;
-use salt_eval::Tables;
+use salt_loaded::Loaded;
 use salt_model::Reach;
 use salt_net::Net;
 use salt_place::{PlaceKind, Placement, Shape};
@@ -171,7 +171,7 @@ impl Storage for Devices {
         place: &Placement<F>,
         schema: &Schema,
         reach: &Reach,
-    ) -> Result<Tables, Halt> {
+    ) -> Result<Loaded, Halt> {
         let Some(store) = &mut self.store else {
             return Err(reject(disks));
         };

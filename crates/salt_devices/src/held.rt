@@ -10,9 +10,7 @@ ghost use Rattle.salt_devices.specs.Leaving.{LeavesEither};
 ghost use Rattle.salt_devices.specs.Writing.{CanBeWritten};
 ghost use Rattle.salt_disk.specs.Disks.{AreUnchanged, HasCause, KeepsAll};
 ghost use Rattle.salt_eval.specs.Scans.{IsKeyed};
-ghost use Rattle.salt_eval.specs.Views.{tables_of};
 ghost use Rattle.salt_model.specs.Kept.{Definition, Kept, schema_of};
-ghost use Rattle.salt_model.specs.Tables.{Tables};
 ghost use Rattle.salt_net.specs.Turns.{commits};
 ghost use Rattle.salt_stands.specs.Placed.{nodes_in};
 ghost use Rattle.salt_stands.specs.Turning.{no_turns};
@@ -37,7 +35,7 @@ use salt_codec::{spelled_move, told_changes};
 use salt_commit::Store;
 use salt_decisions::FORMAT;
 use salt_disk::Disks;
-use salt_eval::Tables;
+use salt_loaded::Loaded;
 use salt_model::Reach;
 use salt_place::{PlaceKind, Placement, Shape};
 use salt_schema::Schema;
@@ -89,14 +87,14 @@ pub fn load_rows<D: Disks, F: Fn(PlaceKind, &Key, u32) -> u32>(
     place: &Placement<F>,
     schema: &Schema,
     reach: &Reach,
-) -> Result<Tables, Halt>
+) -> Result<Loaded, Halt>
     requires callable { TakesEachKey (F.pre place.now.place) }
     requires answers { GivesPlaceOf (F.post place.now.place) }
     requires stands { (shape : Shape) × IsStanding (D.view disks.old) shape store.old }
     requires reach { IsTrue (D.view disks.old).told → (shape : Shape) × (k : Kept) × IsHeld (D.view disks.old) shape store.old k × (schema.now ≡ schema_of k) × (reach.now.table < length (schema_of k)) }
     ensures stands { OnOk result ((shape : Shape) → IsStanding (D.view disks.old) shape store.old → IsStanding (D.view disks.new) shape store.new) }
-    ensures keyed { IfOk result (λ rows. IsKeyed (tables_of rows.entries)) }
-    ensures rows { IfOk result (λ rows. (shape : Shape) (k : Kept) → IsHeld (D.view disks.old) shape store.old k → (es : Tables) → rows.entries ≡ es.list → IsPartOf reach.now es k.tables) }
+    ensures keyed { IfOk result (λ rows. IsKeyed rows) }
+    ensures rows { IfOk result (λ rows. (shape : Shape) (k : Kept) → IsHeld (D.view disks.old) shape store.old k → IsPartOf reach.now rows k.tables) }
     ensures holds { OnOk result ((shape : Shape) (k : Kept) → IsHeld (D.view disks.old) shape store.old k → IsHeld (D.view disks.new) shape store.new k) }
     ensures is_new { OnOk result ((u : Id) → IsNewTo (D.view disks.old) u → IsNewTo (D.view disks.new) u) }
     ensures leaves { OnErr result ((shape : Shape) (k : Kept) → IsHeld (D.view disks.old) shape store.old k → LeavesEither (D.view disks.new) shape k k) }

@@ -5,7 +5,6 @@ ghost use Rattle.salt_ast.specs.Texts.{table_text};
 ghost use Rattle.salt_ast.specs.declared.lines.Line.TheVariants.{Program, Table};
 ghost use Rattle.salt_books.specs.Books.{HaveUnit, programs_in, tables_in};
 ghost use Rattle.salt_eval.specs.Scans.{IsKeyed};
-ghost use Rattle.salt_eval.specs.Views.{tables_of};
 ghost use Rattle.salt_program.specs.Refusals.{parts_in, program_refusal};
 ghost use Rattle.salt_schema.specs.Refusals.{table_refusal};
 ghost use Rattle.salt_units.specs.Acting.{leaves_keys};
@@ -16,7 +15,7 @@ use crate::recovery::Recovery;
 use salt_ast::{ProgramDef, TableDef};
 use salt_books::{Asking, cause_of};
 use salt_cont::Move;
-use salt_eval::Tables;
+use salt_loaded::Loaded;
 use salt_model::{Cause, End, Event};
 use salt_values::{Id, Steps};
 use std::alloc::AllocError;
@@ -31,13 +30,13 @@ impl Recovery {
     pub fn done<L: Ledger>(
         &mut self,
         asking: Asking,
-        rows: &Tables,
+        rows: &Loaded,
         steps: &mut Steps<L>,
     ) -> Result<Event, AllocError>
         requires there { HaveUnit (books_of self.old) asking.unit }
         requires leaves_keys { leaves_keys (tables_in (books_of self.old)) asking.statement ≡ true }
-        requires keyed { IsKeyed (tables_of rows.now.entries) }
-        ensures gives { IfOk result (HasDone asking (tables_of rows.now.entries) self.old self.new) }
+        requires keyed { IsKeyed rows.now }
+        ensures gives { IfOk result (HasDone asking rows.now self.old self.new) }
         ensures ticks { steps.new ≡ steps.old + 1 }
     {
         let Asking {

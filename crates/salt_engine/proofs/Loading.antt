@@ -8,9 +8,7 @@ use Rattle.salt_books.specs.declared.asking.Asking.{Asking}
 use Rattle.salt_books.specs.declared.books.Books.{Books}
 use Rattle.salt_engine.proofs.Decided.{named-unit}
 use Rattle.salt_engine.specs.Deciding.{IsBefore, LeavesEventUndone}
-use Rattle.salt_eval.proofs.InOrder.{in_order, tables_of-list}
 use Rattle.salt_eval.specs.Scans.{IsKeyed}
-use Rattle.salt_eval.specs.Views.{tables_of}
 use Rattle.law_states.specs.OpenUnits.{OpenUnit, UnitState, unit_named}
 use Rattle.law_states.specs.Told.{at_devices_in, does_in}
 use Rattle.law_states.specs.UnitFacts.{reach_under}
@@ -37,7 +35,6 @@ use Rattle.law_types.specs.Typed.{AreRowsOf, IsRowAt}
 use Rattle.salt_values.specs.declared.id.Id.{Id}
 use Rattle.salt_values.specs.declared.value.Value.{Value}
 use Rattle.std.proofs.Common.{ap, arith, inl, inr, subst, sym, ◌∙◌}
-use Rattle.std.specs.BTreeMap.{BTreeMap, IsOrdered}
 use Rattle.std.specs.FinMap.Entries.{find}
 use Rattle.std.specs.Ordering.{is_eq}
 use Rattle.std.specs.Prelude.{Bool, Err, IfSome, List, None, Ok, Option, Result, Some, [], cond, false, is_some, length, option_and_then, refl, true, ℕ, ◌+◌, ◌<◌, ◌∷◌, ◌≡◌}
@@ -117,10 +114,6 @@ pub part-keyed : (r : Reach) (part whole : Tables) → IsPartOf r part whole →
 part-keyed r part whole is keyed p =
     subst (λ (o : Option (List Value)). IfSome o (λ row. key_of row ≡ p.key)) (sym (is p)) (some-or-none (row_at p whole) p.key (is_within r p) (keyed p))
 
--- the rows of a map are the tables of them
-pub rows-listed : (rows : BTreeMap Place (List Value)) → IsOrdered place_cmp rows → rows.entries ≡ (tables_of rows.entries).list
-rows-listed rows ordered = sym (tables_of-list rows.entries (in_order place_cmp rows.entries ordered))
-
 -- A STATEMENT THAT REACHES A TABLE is at the devices.
 
 pub reach-devices : (s : UnitState) (o : OpenUnit) (st : Statement) (r : Reach) → unit_named o.unit s.units ≡ Some o → reach_under s.kept o st ≡ Some r →
@@ -152,13 +145,9 @@ module _ (holds : Kept → Type 0) (is_new : Id → Type 0) (x : Books) (a : Ask
     full = λ dev h. absurd (full dev h);
   }
 
--- the rows of a map that a storage gave
-pub rows-loaded : (q : Option Reach) (r : Reach) (rows : BTreeMap Place (List Value)) (whole : Tables) → q ≡ Some r → IsOrdered place_cmp rows →
-    ((es : Tables) → rows.entries ≡ es.list → IsPartOf r es whole) → AreLoaded q (tables_of rows.entries) whole
-rows-loaded q r rows whole is ordered parts =
-    subst (λ (p : Option Reach). AreLoaded p (tables_of rows.entries) whole) (sym is) (parts (tables_of rows.entries) (rows-listed rows ordered))
+-- the rows that a storage gave
+pub rows-loaded : (q : Option Reach) (r : Reach) (rows whole : Tables) → q ≡ Some r → IsPartOf r rows whole → AreLoaded q rows whole
+rows-loaded q r rows whole is part = subst (λ (p : Option Reach). AreLoaded p rows whole) (sym is) part
 
-pub rows-keyed : (k : Kept) (r : Reach) (rows : BTreeMap Place (List Value)) → IsSoundKept k → IsOrdered place_cmp rows →
-    ((es : Tables) → rows.entries ≡ es.list → IsPartOf r es k.tables) → IsKeyed (tables_of rows.entries)
-rows-keyed k r rows sound ordered parts =
-    part-keyed r (tables_of rows.entries) k.tables (parts (tables_of rows.entries) (rows-listed rows ordered)) (typed-keyed (schema_of k) k.tables sound.typed.rows)
+pub rows-keyed : (k : Kept) (r : Reach) (rows : Tables) → IsSoundKept k → IsPartOf r rows k.tables → IsKeyed rows
+rows-keyed k r rows sound part = part-keyed r rows k.tables part (typed-keyed (schema_of k) k.tables sound.typed.rows)

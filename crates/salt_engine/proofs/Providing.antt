@@ -24,24 +24,21 @@ use Rattle.salt_engine.specs.declared.given.Given.{Given}
 use Rattle.salt_engine.specs.declared.stage.Stage.TheVariants as at
 use Rattle.salt_engine.specs.declared.stage.Stage.{Stage}
 use Rattle.salt_eval.specs.Scans.{IsKeyed}
-use Rattle.salt_eval.specs.Views.{tables_of}
 use Rattle.law_states.specs.OpenUnits.{OpenUnit, UnitState, unit_named}
 use Rattle.law_states.specs.States.{State}
 use Rattle.law_states.specs.Steps.{units_after}
 use Rattle.law_states.specs.Told.{commits_in, does_in}
+use Rattle.salt_model.specs.Tables.{Tables}
 use Rattle.salt_model.specs.Kept.{Kept}
 use Rattle.salt_model.specs.Next.{decision_in}
 use Rattle.salt_model.specs.declared.events.Cause.{Cause}
 use Rattle.salt_model.specs.declared.events.Event.{Event}
-use Rattle.salt_model.specs.declared.places.Place.{Place}
 use Rattle.salt_storage.specs.Writing.{ToWrite}
 use Rattle.salt_storage.specs.declared.halt.Halt.TheVariants.{Memory}
 use Rattle.salt_storage.specs.declared.halt.Halt.{Halt}
 use Rattle.salt_values.specs.declared.id.Id.{Id}
-use Rattle.salt_values.specs.declared.value.Value.{Value}
 use Rattle.std.proofs.Common.{inr, subst, sym}
-use Rattle.std.specs.BTreeMap.{BTreeMap}
-use Rattle.std.specs.Prelude.{List, None, Option, Some, refl, ℕ, ◌≡◌}
+use Rattle.std.specs.Prelude.{None, Option, Some, refl, ℕ, ◌≡◌}
 
 -- WHAT IS TO COME in other words
 
@@ -100,8 +97,8 @@ module _ (holds : Kept → Type 0) (is_new : Id → Type 0) (x : Books) (a : Ask
   pub act-before : IsBefore holds is_new x act-event s.units
   act-before = is-before holds is_new x act-event (event_meant s.units (coming.Act a)) s h.can.0 h.stored h.played act-meant
 
-  pub act-given : (now : Kept → Type 0) (new_now : Id → Type 0) (in_flight : Option InFlight) (rows : BTreeMap Place (List Value)) → in_flight ≡ None → Stored now new_now s.units →
-      AreLoaded a.reach (tables_of rows.entries) s.units.kept.tables → IsKeyed (tables_of rows.entries) → IsGiven now new_now in_flight (coming.Act a) (given.Rows a rows) s
+  pub act-given : (now : Kept → Type 0) (new_now : Id → Type 0) (in_flight : Option InFlight) (rows : Tables) → in_flight ≡ None → Stored now new_now s.units →
+      AreLoaded a.reach rows s.units.kept.tables → IsKeyed rows → IsGiven now new_now in_flight (coming.Act a) (given.Rows a rows) s
   act-given now new_now in_flight rows none stored loaded keyed =
       given-by now new_now in_flight (coming.Act a) (given.Rows a rows) act-event s act-meant refl
       (record { loaded = loaded; keyed = keyed; leaves = keys-left s.units act-unit a.statement a.unit act-before.comes act-asked.named })

@@ -24,20 +24,18 @@ use Rattle.salt_engine.specs.declared.stage.Stage.{Stage}
 use Rattle.law_states.specs.OpenUnits.{OpenUnit, unit_named}
 use Rattle.law_states.specs.States.{State}
 use Rattle.law_states.specs.Told.{commits_in, does_in}
+use Rattle.salt_model.specs.Tables.{Tables}
 use Rattle.salt_model.specs.Kept.{Kept}
 use Rattle.salt_model.specs.Next.{decision_in}
 use Rattle.salt_model.specs.Phases.{Serving}
 use Rattle.salt_model.specs.declared.events.Cause.{Cause}
 use Rattle.salt_model.specs.declared.events.Event.{Event}
-use Rattle.salt_model.specs.declared.places.Place.{Place}
 use Rattle.salt_scheduler.proofs.Following.{not-of-run}
 use Rattle.salt_scheduler.specs.Standing.{AnswersWith, IsReady, StandsAtEvent, StandsForState, books_of}
 use Rattle.salt_scheduler.specs.declared.scheduler.Scheduler.{Scheduler}
 use Rattle.salt_units.specs.Acting.{leaves_keys}
 use Rattle.salt_values.specs.declared.id.Id.{Id}
-use Rattle.salt_values.specs.declared.value.Value.{Value}
 use Rattle.std.proofs.Common.{subst, sym, ◌∙◌}
-use Rattle.std.specs.BTreeMap.{BTreeMap}
 use Rattle.std.specs.Prelude.{List, None, Option, Some, refl, true, ℕ, ◌≡◌}
 
 -- of what was given in other words
@@ -61,7 +59,7 @@ told-taken x e s can = record { told = refl; done = can.ready.0 }
 
 -- A STATEMENT
 
-module _ (x : Scheduler) (a : Asking) (rows : BTreeMap Place (List Value)) (s : State) (can : CanTakeUp x (given.Rows a rows) s) where
+module _ (x : Scheduler) (a : Asking) (rows : Tables) (s : State) (can : CanTakeUp x (given.Rows a rows) s) where
   pub act-stands : StandsForState x s
   act-stands = can.ready.0
 

@@ -17,7 +17,6 @@ use Rattle.salt_engine.specs.declared.flights.InFlight.{InFlight}
 use Rattle.salt_engine.specs.declared.given.Given.TheVariants.{Branched, Committed, Nothing, Rows, Told}
 use Rattle.salt_engine.specs.declared.given.Given.{Given}
 use Rattle.salt_eval.specs.Scans.{IsKeyed}
-use Rattle.salt_eval.specs.Views.{tables_of}
 use Rattle.law_states.specs.Laws.{is_of_run}
 use Rattle.law_states.specs.OpenUnits.{OpenUnit, UnitState, unit_named}
 use Rattle.law_states.specs.States.{State}
@@ -47,7 +46,7 @@ CanBeDone x c = ⊤
 
 -- and so it can with what was given for it
 abbrev pub CanTake : Books → Given → Type 0
-CanTake x (Rows a rows) = HaveUnit x a.unit × (leaves_keys (tables_in x) a.statement ≡ true) × IsKeyed (tables_of rows.entries)
+CanTake x (Rows a rows) = HaveUnit x a.unit × (leaves_keys (tables_in x) a.statement ≡ true) × IsKeyed rows
 CanTake x (Committed u m n) = HaveUnit x u
 CanTake x (Branched u b cause m n) = HaveUnit x u
 CanTake x g = ⊤
@@ -85,7 +84,7 @@ pub record AreRowsFor (a : Asking) (rows : Tables) (s : UnitState) : Type 0 wher
 
 -- it fits the units: the rows are those of the statement, the move is the one of the unit's end, and the number that of the next decision
 abbrev pub FitsUnits : Given → UnitState → Type 0
-FitsUnits (Rows a rows) s = AreRowsFor a (tables_of rows.entries) s
+FitsUnits (Rows a rows) s = AreRowsFor a rows s
 FitsUnits (Committed u m n) s =
     (o : OpenUnit) × (unit_named u s.units ≡ Some o) × MovesTo m s.kept (conts_committed s.kept (next_decision_number s) o.kind o.vars) × (n ≡ next_decision_number s)
 FitsUnits (Branched u b cause m n) s = (later : IsLaterUnit s u b) × MovesTo m s.kept (conts_branched s.kept later.unit.kind) × (n ≡ next_decision_number s)

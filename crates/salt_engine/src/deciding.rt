@@ -4,7 +4,6 @@ ghost use Rattle.salt_books.specs.Books.{AreBooks, HaveUnit};
 ghost use Rattle.salt_disk.specs.Disks.{HasCause};
 ghost use Rattle.salt_engine.specs.Deciding.{AreAsked, CanBranch, CanCommit, CanLoad, DecidesBranch, DecidesCommit, LeavesUnbranched, LeavesUncommitted, LeavesUndone, SendsBranch, SendsCommit, StaysStored};
 ghost use Rattle.salt_eval.specs.Scans.{IsKeyed};
-ghost use Rattle.salt_eval.specs.Views.{tables_of};
 ghost use Rattle.law_states.specs.OpenUnits.{OpenUnit, UnitState, unit_named};
 ghost use Rattle.salt_storage.specs.Answers.{disk_err};
 ghost use Rattle.salt_storage.specs.Staying.{StaysWithin};
@@ -17,7 +16,7 @@ use law_decisions::decided_ends_may_be_kept;
 use salt_books::{Asking, Books};
 use salt_cont::Move;
 use salt_disk::Disks;
-use salt_eval::Tables;
+use salt_loaded::Loaded;
 use salt_place::{PlaceKind, Placement};
 use salt_storage::{Halt, Storage};
 use salt_values::{Change, Id, Key};
@@ -32,14 +31,14 @@ pub(crate) fn load<S: Storage, D: Disks, F: Fn(PlaceKind, &Key, u32) -> u32>(
     place: &Placement<F>,
     books: &Books,
     asking: &Asking,
-) -> Result<Tables, Halt>
+) -> Result<Loaded, Halt>
     requires callable { TakesEachKey (F.pre place.now.place) }
     requires answers { GivesPlaceOf (F.post place.now.place) }
     requires able { S.able (D.view disks.old) storage.old }
     requires ready { IsTrue (D.view disks.old).told → CanLoad S.holds S.is_new (D.view disks.old) storage.old books.now asking.now }
     ensures able { S.able (D.view disks.new) storage.new }
-    ensures rows { IfOk result (λ rows. AreAsked S.holds S.is_new (D.view disks.old) storage.old asking.now (tables_of rows.entries)) }
-    ensures keyed { IfOk result (λ rows. IsKeyed (tables_of rows.entries)) }
+    ensures rows { IfOk result (λ rows. AreAsked S.holds S.is_new (D.view disks.old) storage.old asking.now rows) }
+    ensures keyed { IfOk result (λ rows. IsKeyed rows) }
     ensures stored { OnOk result (StaysStored S.holds S.is_new (D.view disks.old) (D.view disks.new) storage.old storage.new) }
     ensures undone { IfErr result (LeavesUndone S.holds S.is_new S.leaves S.fills (D.view disks.old) (D.view disks.new) storage.old storage.new books.now asking.now) }
     ensures sent { OnOk result (S.net storage.new ≡ S.net storage.old) }
@@ -49,11 +48,9 @@ pub(crate) fn load<S: Storage, D: Disks, F: Fn(PlaceKind, &Key, u32) -> u32>(
     match &asking.reach {
         Some(reach) => {
             let rows = storage.load(disks, place, books.known().schema(), reach.get())?;
-            // For the proof alone: the count's contract says that the keys of rows rise.
-            let _count = rows.len();
             Ok(rows)
         }
-        None => Ok(Tables::new(alloc)),
+        None => Ok(Loaded::none(alloc)),
     }
 }
 

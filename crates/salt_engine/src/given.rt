@@ -15,7 +15,7 @@ use crate::flights::InFlight;
 use salt_books::{Asking, Books, Coming};
 use salt_cont::Move;
 use salt_disk::Disks;
-use salt_eval::Tables;
+use salt_loaded::Loaded;
 use salt_model::{Cause, Event};
 use salt_place::{PlaceKind, Placement};
 use salt_storage::{Halt, Storage};
@@ -32,7 +32,7 @@ pub enum Given {
     /// The rows in the reach of the statement that a unit is to do.
     Rows {
         asking: Asking,
-        rows: Tables,
+        rows: Loaded,
     },
     /// The commit of a unit is decided, by the decision of this number and with this move of its program.
     Committed {

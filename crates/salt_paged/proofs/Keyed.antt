@@ -2,11 +2,10 @@
 use Rattle.salt_bytes.specs.Page.{TableRow}
 use Rattle.salt_bytes.specs.Partition.{Prepared}
 use Rattle.salt_bytes.specs.Spellable.{Every}
-use Rattle.salt_directory.proofs.Nexts.{places_keyed}
 use Rattle.salt_disk.specs.Disks.{View}
 use Rattle.salt_eval.specs.Scans.{IsKeyed}
 use Rattle.salt_model.specs.Tables.{no_rows}
-use Rattle.salt_paged.specs.Partitions.{IsPartition, places_of}
+use Rattle.salt_paged.specs.Partitions.{IsPartition}
 use Rattle.salt_paged.specs.declared.partition.Partition.{Partition}
 use Rattle.salt_partition.proofs.Keyed.{changes_keyed, decided_keyed, every_append, units_keyed}
 use Rattle.salt_partition.specs.Contents.{ArePut, HasKey}
@@ -28,7 +27,3 @@ changed_keyed v us ps keyed put = every_append HasKey v.rows (decided_changes us
 
 pub part_keyed : (d : View) (x : Partition) (p : ℕ) (v : PartView) (applied : List Id) → IsPartition d x p v applied → IsKeyed (part_tables applied v.log v.rows)
 part_keyed d x p v applied is = changes_keyed (v.rows ++ decided_changes applied v.log.prepared) no_rows (changed_keyed v applied v.log.prepared is.keyed is.put) (λ q. tt)
-
--- and so have their places, whatever the disks tell
-pub part_places_keyed : (x : Partition) → IsKeyed (places_of x)
-part_places_keyed x = places_keyed x.rows.directory.entries

@@ -2,8 +2,7 @@
 use Rattle.salt_bytes.specs.Generations.{WhichLog}
 use Rattle.salt_bytes.specs.Page.{page_place}
 use Rattle.salt_checkpoint.specs.Checkpoints.{IsReady}
-use Rattle.salt_disk.specs.Disks.{View}
-use Rattle.salt_disk.specs.declared.disks.DiskErr.TheVariants.{Failed, Full, Memory, Stopped}
+use Rattle.salt_disk.specs.Disks.{FullWhere, View}
 use Rattle.salt_disk.specs.declared.disks.DiskErr.{DiskErr}
 use Rattle.salt_partition.specs.Choices.{which_of}
 use Rattle.salt_paged.specs.Partitions.{IsCheckpointOf, IsPartition, page_count, pages_of}
@@ -14,7 +13,7 @@ use Rattle.salt_stands.specs.Partition.{HoldsPages, part_device}
 use Rattle.salt_stands.specs.Pieces.{PartView, other_log}
 use Rattle.salt_stands.specs.Reading.{Reading}
 use Rattle.salt_values.specs.declared.id.Id.{Id}
-use Rattle.std.specs.Prelude.{IsTrue, List, None, Option, Some, ℕ, ⊤, ◌+◌, ◌<◌, ◌≡◌, ◌⊎◌}
+use Rattle.std.specs.Prelude.{IsTrue, List, Option, ℕ, ◌+◌, ◌<◌, ◌≡◌, ◌⊎◌}
 
 -- the device of the log that does not count
 abbrev pub other_device : Partition → ℕ
@@ -50,10 +49,5 @@ header_end pages = 29 + pages
 -- `Full` comes only where the pages pass the limit of their device, or the header that of the other log's: then all pages that it names
 -- stand on their device, where that tells. All is said of the devices behind the call.
 abbrev pub FullAtCheckpoint : View → Partition → Option DiskErr → Type 0
-FullAtCheckpoint d x None = ⊤
-FullAtCheckpoint d x (Some Failed) = ⊤
-FullAtCheckpoint d x (Some Stopped) = ⊤
-FullAtCheckpoint d x (Some Memory) = ⊤
-FullAtCheckpoint d x (Some (Full dev)) =
-    ((dev ≡ pages_of x) × (d.limit dev < page_place (page_count x) 0))
-    ⊎ ((dev ≡ other_device x) × (d.limit dev < header_end (page_count x)) × (IsTrue d.told → HoldsPages (page_count x) (d.bytes (pages_of x))))
+FullAtCheckpoint d x answer = FullWhere (λ dev. ((dev ≡ pages_of x) × (d.limit dev < page_place (page_count x) 0))
+    ⊎ ((dev ≡ other_device x) × (d.limit dev < header_end (page_count x)) × (IsTrue d.told → HoldsPages (page_count x) (d.bytes (pages_of x))))) answer

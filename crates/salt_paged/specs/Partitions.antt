@@ -9,7 +9,7 @@ use Rattle.salt_codec.specs.Entries.{header_of}
 use Rattle.salt_disk.specs.Disks.{IsSettled, View}
 use Rattle.salt_gatelog.specs.Log as gates
 use Rattle.salt_gatelog.specs.Log.{IsLog}
-use Rattle.salt_model.specs.Tables.{Tables, no_rows, with_changes}
+use Rattle.salt_model.specs.Tables.{no_rows, with_changes}
 use Rattle.salt_paged.specs.declared.partition.Partition.{Partition}
 use Rattle.salt_partition.specs.Choices.{which_of}
 use Rattle.salt_partition.specs.Contents.{ArePut, HasKey}
@@ -49,10 +49,6 @@ pages_of x = pages_device x.part
 -- how many pages it has
 abbrev pub page_count : Partition → ℕ
 page_count x = rows.page_count x.rows
-
--- the places of its rows, as tables in which each row is its key alone
-abbrev pub places_of : Partition → Tables
-places_of x = rows.places_of x.rows
 
 -- how many entries it has behind its header
 abbrev pub unit_count : Partition → ℕ

@@ -5,24 +5,23 @@ ghost use Rattle.salt_bytes.specs.Page.{page_place};
 ghost use Rattle.salt_bytes.specs.Partition.{spell_prepared};
 ghost use Rattle.salt_checkpoint.specs.Sides.{KeepsNamed};
 ghost use Rattle.salt_directory.specs.Bytes.{IsWithin, bytes_of_changes, bytes_of_entries};
+ghost use Rattle.salt_directory.specs.Loading.{HasLoaded};
 ghost use Rattle.salt_disk.specs.Disks.{EachImage, FullExactly, FullOnly, HasCause, IsUnchanged, KeepsAll, KeepsOthers, OnlyFails, UnlessDown};
 ghost use Rattle.salt_disk.specs.declared.disks.DiskErr.TheVariants.{Full};
-ghost use Rattle.salt_eval.specs.Views.{next_row};
 ghost use Rattle.salt_gatelog.specs.Log.{IsBeforeOrWith};
 ghost use Rattle.salt_model.specs.Tables.{place, row_at};
 ghost use Rattle.salt_partition.specs.Partitions.{IsPreparedLast, MayPrepare, changes_in, prepared};
-ghost use Rattle.salt_paged.specs.Partitions.{IsPartition, StandsOnDevices, StandsFor, StandsWith, log_device, log_gate, number_of, page_count, pages_of, places_of, spells_nulls, unit_count};
+ghost use Rattle.salt_paged.specs.Partitions.{IsPartition, StandsOnDevices, StandsFor, StandsWith, log_device, log_gate, number_of, page_count, pages_of, spells_nulls, unit_count};
 ghost use Rattle.salt_stands.specs.Partition.{part_tables};
 ghost use Rattle.salt_stands.specs.Pieces.{PartView, with_prepared_unit};
-ghost use Rattle.salt_values.specs.Value.{key_of};
 ghost use Rattle.salt_values.specs.declared.id.Id.{Id};
-ghost use Rattle.std.specs.Option.{option_copied};
 ghost use Rattle.std.specs.Prelude.{Err, IfOk, IsTrue, List, OnOk, Some, [], length, option_map, slice_get, ℕ, ◌+◌, ◌++◌, ◌∷◌, ◌≡◌};
 ghost use Rattle.std.specs.Result.{result_err};
 
 use salt_codec::{Header, PreparedUnit, has_nulls};
 use salt_disk::{DiskErr, Disks};
 use salt_gatelog::GateLog;
+use salt_loaded::Loading;
 use salt_partition::{Side, changes_copied, prepared_frame, unit_told};
 use salt_ranges::KeyRange;
 use salt_rows::RowStore;
@@ -150,28 +149,23 @@ impl Partition {
         self.rows.get(disks, table, key)
     }
 
-    /// The row of the least key in the range that is above `after`, where one is given; `None` exactly where there is none. It writes
-    /// nothing. A row that is not where it is kept is a fault, as for `get`. Whatever the disks tell, it has the next key of those that
-    /// are kept: so who asks for one row behind the other comes to an end.
-    pub fn next_in<D: Disks>(
+    /// The rows of a range are loaded. It writes nothing.
+    pub fn load<D: Disks>(
         &mut self,
         disks: &mut D,
-        table: u16,
         range: &KeyRange,
-        after: Option<&Key>,
-    ) -> Result<Option<Row>, DiskErr>
+        out: &mut Loading,
+    ) -> Result<(), DiskErr>
         requires { StandsOnDevices (D.view disks.old) self.old }
-        ensures row { (p : ℕ) (v : PartView) (applied : List Id) → IsPartition (D.view disks.old) self.old p v applied → IsTrue (D.view disks.old).told
-            → IfOk result (λ row. row ≡ next_row table range.now (option_copied after.entry) (part_tables applied v.log v.rows)) }
-        ensures key { IfOk result (λ row. option_map key_of row ≡ option_map key_of (next_row table range.now (option_copied after.entry) (places_of self.old))) }
-        ensures places { places_of self.new ≡ places_of self.old }
+        ensures rows { (p : ℕ) (v : PartView) (applied : List Id) → IsPartition (D.view disks.old) self.old p v applied → IsTrue (D.view disks.old).told
+            → OnOk result (HasLoaded range.now (part_tables applied v.log v.rows) out.old out.new) }
         ensures stands { (p : ℕ) (v : PartView) (applied : List Id) → IsPartition (D.view disks.old) self.old p v applied
             → UnlessDown (result_err result) (IsPartition (D.view disks.new) self.new p v applied) }
         ensures kept { KeepsAll (D.view disks.old) (D.view disks.new) (result_err result) }
         ensures cause { HasCause (D.view disks.old) (D.view disks.new) (result_err result) }
         ensures answers { OnlyFails (result_err result) }
     {
-        self.rows.next_in(disks, table, range, after)
+        self.rows.load(disks, range, out)
     }
 
     /// The changes of prepared entry `i` of the log, counted from 0, `None` exactly past the last one.

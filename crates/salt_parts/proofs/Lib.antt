@@ -1,8 +1,9 @@
 pub mod Fit
 pub mod Judged
+pub mod Keyed
 pub mod Lists
-pub mod Merged
+pub mod Loads
+pub mod Passed
 pub mod Reading
 pub mod Redone
-pub mod Scanned
 pub mod Units

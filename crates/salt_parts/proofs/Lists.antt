@@ -2,7 +2,7 @@
 use Rattle.std.proofs.Common.{Bool, List, None, Option, Some, [], ap, arith, get_or, length, refl, slice_set, subst, sym, take, true, ℕ, ◌&&◌, ◌+◌, ◌++◌, ◌<◌, ◌≡◌, ◌≢◌, ◌≤◌, ◌∙◌, ◌∷◌}
 use Rattle.std.proofs.lemmas.List.Folds.{list_all_more}
 use Rattle.std.specs.List.{list_all}
-use Rattle.std.specs.Prelude.{IfSome, map, slice_get, suc, zero}
+use Rattle.std.specs.Prelude.{IfSome, slice_get, suc, zero}
 
 pub if_some : {X : Type 0} (o : Option X) (x : X) (P : X → Type 0) → o ≡ Some x → IfSome o P → P x
 if_some {X = X} o x P e h = subst (λ (v : Option X). IfSome v P) e h
@@ -53,11 +53,6 @@ module _ {X : Type 0} where
   set_other (x ∷ xs) zero (suc k) y other = refl
   set_other (x ∷ xs) (suc i) zero y other = refl
   set_other (x ∷ xs) (suc i) (suc k) y other = set_other xs i k y (λ e. other (ap suc e))
-
-  pub map_set : {Y : Type 0} (f : X → Y) (xs : List X) (n : ℕ) (x y : X) → slice_get xs n ≡ Some x → f y ≡ f x → map f (slice_set xs n y) ≡ map f xs
-  map_set f [] n x y e h = absurd cc
-  map_set f (z ∷ zs) zero x y e h = let same : z ≡ x = cc e in ap (λ w. w ∷ map f zs) (h ∙ ap f (sym same))
-  map_set f (z ∷ zs) (suc n) x y e h = ap (λ ws. f z ∷ ws) (map_set f zs n x y e h)
 
   pub some_at : (xs : List X) (i : ℕ) → i < length xs → (x : X) × (slice_get xs i ≡ Some x)
   some_at [] i h = absurd (omega (arith, h))

@@ -1,3 +1,4 @@
 pub mod Judging
 pub mod Openings
 pub mod Reads
+pub mod Loading

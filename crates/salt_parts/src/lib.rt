@@ -2,13 +2,13 @@
 #![tactic(auto)]
 
 mod judge;
-mod nexts;
+mod load;
 mod read;
 mod redo;
 mod ruling;
 
 pub use judge::{PartJudge, part_of};
-pub use nexts::next_of_all;
+pub use load::load_all;
 pub use read::read_all;
 pub use redo::redo_all;
 pub use ruling::Ruling;

@@ -1,10 +1,9 @@
 //! How units begin, and what they do in their turns.
 
-ghost use Rattle.std.specs.Prelude.{◌≡◌, IfOk, Option, Some, option_and_then, true};
+ghost use Rattle.std.specs.Prelude.{◌≡◌, IfOk, Some, option_and_then, true};
 ghost use Rattle.salt_ast.specs.declared.lines.Line.{Line};
 ghost use Rattle.salt_books.specs.Books.{HaveUnit, tables_in};
 ghost use Rattle.salt_eval.specs.Scans.{IsKeyed};
-ghost use Rattle.salt_eval.specs.Views.{tables_of};
 ghost use Rattle.law_states.specs.OpenUnits.{unit_named};
 ghost use Rattle.law_states.specs.Readings.{clash_by};
 ghost use Rattle.law_states.specs.Told.{begins_in, serve_in, turn_of_in};
@@ -18,7 +17,7 @@ use crate::scheduler::Scheduler;
 use salt_ast::Line;
 use salt_books::{Asking, Coming, cause_of, lent, unboxed};
 use salt_conflicts::Waiter;
-use salt_eval::Tables;
+use salt_loaded::Loaded;
 use salt_model::{Event, Owners, UnitKind};
 use salt_values::{Id, TryCopy};
 use std::alloc::AllocError;
@@ -44,11 +43,11 @@ impl Scheduler {
     }
 
     /// A unit does the statement that it asks for, over the rows that this reaches.
-    pub fn done(&mut self, asking: Asking, rows: &Tables) -> Result<Event, AllocError>
+    pub fn done(&mut self, asking: Asking, rows: &Loaded) -> Result<Event, AllocError>
         requires there { HaveUnit (books_of self.old) asking.unit }
         requires leaves_keys { leaves_keys (tables_in (books_of self.old)) asking.statement ≡ true }
-        requires keyed { IsKeyed (tables_of rows.now.entries) }
-        ensures { IfOk result (HasDone asking (tables_of rows.now.entries) self.old self.new) }
+        requires keyed { IsKeyed rows.now }
+        ensures { IfOk result (HasDone asking rows.now self.old self.new) }
     {
         let Asking {
             unit,

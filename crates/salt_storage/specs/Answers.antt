@@ -2,7 +2,7 @@
 use Rattle.salt_disk.specs.Disks.{KeepsAll, View}
 use Rattle.salt_disk.specs.declared.disks.DiskErr.TheVariants as disk
 use Rattle.salt_disk.specs.declared.disks.DiskErr.{DiskErr}
-pub use Rattle.salt_gatelog.specs.Answers.{open_disk_err, open_disk_err_of}
+pub use Rattle.salt_gatelog.specs.Answers.{IsRefusal, open_disk_err, open_disk_err_of}
 use Rattle.salt_model.specs.Kept.{Kept}
 use Rattle.salt_stands.specs.Stands.{are_spent}
 use Rattle.salt_storage.specs.declared.found.Numbers.{Numbers}
@@ -53,13 +53,6 @@ IsLater (NotSalt dev) = ⊥
 IsLater (OtherShape kept asked) = ⊥
 IsLater (NumbersSpent boot decisions) = are_spent boot decisions ≡ true
 IsLater e = ⊤
-
--- an opening refuses what it has come upon
-abbrev pub IsRefusal : OpenErr → Type 0
-IsRefusal (NotSalt dev) = ⊤
-IsRefusal (OtherShape kept asked) = ⊤
-IsRefusal (NumbersSpent boot decisions) = ⊤
-IsRefusal e = ⊥
 
 -- it has written nothing, so no stop has come, and no device was full
 pub record WritesNothing (old new : View) (answer : Option DiskErr) : Type 0 where

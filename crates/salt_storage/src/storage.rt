@@ -4,9 +4,7 @@ ghost use Rattle.salt_bytes.specs.declared.moves.Move.{Move};
 ghost use Rattle.law_definitions.specs.Texts.{definition_in};
 ghost use Rattle.salt_disk.specs.Disks.{HasCause, KeepsAll, View};
 ghost use Rattle.salt_eval.specs.Scans.{IsKeyed};
-ghost use Rattle.salt_eval.specs.Views.{tables_of};
 ghost use Rattle.salt_model.specs.Kept.{Definition, Kept, schema_of};
-ghost use Rattle.salt_model.specs.Tables.{Tables};
 ghost use Rattle.salt_storage.specs.Answers.{IsLater, IsRefusal, MayFail, WritesNothing, disk_err, disk_err_of, open_disk_err};
 ghost use Rattle.salt_net.specs.Turns.{Turning};
 ghost use Rattle.salt_storage.specs.Netted.{net_armed, net_begun, net_committed};
@@ -26,8 +24,8 @@ use crate::found::{Found, Numbers};
 use crate::halt::Halt;
 use salt_bytes::Move;
 use salt_disk::Disks;
-use salt_eval::Tables;
 use salt_gatelog::OpenErr;
+use salt_loaded::Loaded;
 use salt_model::Reach;
 use salt_net::Net;
 use salt_place::{PlaceKind, Placement};
@@ -149,14 +147,14 @@ pub trait Storage {
         place: &Placement<F>,
         schema: &Schema,
         reach: &Reach,
-    ) -> Result<Tables, Halt>
+    ) -> Result<Loaded, Halt>
         requires callable { TakesEachKey (F.pre place.now.place) }
         requires answers { GivesPlaceOf (F.post place.now.place) }
         requires able { able (D.view disks.old) self.old }
         requires reach { IsTrue (D.view disks.old).told → (k : Kept) × holds (D.view disks.old) self.old k × (schema.now ≡ schema_of k) × (reach.now.table < length (schema_of k)) }
         ensures able { able (D.view disks.new) self.new }
-        ensures keyed { IfOk result (λ rows. IsKeyed (tables_of rows.entries)) }
-        ensures rows { IfOk result (λ rows. (k : Kept) → holds (D.view disks.old) self.old k → (es : Tables) → rows.entries ≡ es.list → IsPartOf reach.now es k.tables) }
+        ensures keyed { IfOk result (λ rows. IsKeyed rows) }
+        ensures rows { IfOk result (λ rows. (k : Kept) → holds (D.view disks.old) self.old k → IsPartOf reach.now rows k.tables) }
         ensures holds { OnOk result ((k : Kept) → holds (D.view disks.old) self.old k → holds (D.view disks.new) self.new k) }
         ensures is_new { OnOk result ((u : Id) → is_new (D.view disks.old) self.old u → is_new (D.view disks.new) self.new u) }
         ensures leaves { OnErr result ((k : Kept) → holds (D.view disks.old) self.old k → leaves (D.view disks.new) self.new k k) }

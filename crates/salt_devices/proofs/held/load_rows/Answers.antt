@@ -1,12 +1,11 @@
 use Rattle.salt_commit.specs.Loads.{IsPartOf}
 use Rattle.salt_devices.proofs.Entered.{leaves_on}
-use Rattle.salt_devices.proofs.Loading.{rows_keyed, same_part}
+use Rattle.salt_devices.proofs.Loading.{rows_keyed}
 use Rattle.salt_devices.proofs.Either.{either}
 use Rattle.salt_storage.proofs.Halted.{answer_is, full_is}
 use Rattle.salt_devices.proofs.Stores.{held_again, held_leaves, held_schema, new_again, one_schema, standing_again, standing_on}
 use Rattle.salt_devices.proofs.held.load_rows.Goals as goal
 use Rattle.salt_disk.specs.Disks.{OnlyFails}
-use Rattle.salt_eval.specs.Views as view
 use Rattle.salt_model.specs.Kept.{Kept}
 use Rattle.std.proofs.Common.{Some, ap, length, subst, sym, ◌<◌, ◌∙◌}
 use Rattle.std.proofs.lemmas.Result.{err_from_is_err_and}
@@ -37,12 +36,11 @@ returns-clause-stands g c shape s =
     standing_again (g.D.Disks.view c.args.disks.now) shape c.args.store.now s (g.D.Disks.view c.load.new.disks) c.load.new.self (c.in_ok-rows.ensures.stands s.which s.c s.v s.is)
 
 pub returns-clause-keyed : goal.returns-clause-keyed
-returns-clause-keyed g c = rows_keyed c.args.schema.now (view.tables_of c.in_ok-rows.rows.entries) c.in_ok-rows.ensures.typed
+returns-clause-keyed g c = rows_keyed c.args.schema.now c.in_ok-rows.rows c.in_ok-rows.ensures.typed
 
 pub returns-clause-rows : goal.returns-clause-rows
-returns-clause-rows g c shape k h es is =
-    same_part c.args.reach.now c.in_ok-rows.rows.entries es k.tables is
-    (subst (λ t. IsPartOf c.args.reach.now (view.tables_of c.in_ok-rows.rows.entries) t) (ap (λ (z : Kept). z.tables) h.keeps) (c.in_ok-rows.ensures.rows h.which h.c h.v h.is h.told))
+returns-clause-rows g c shape k h =
+    subst (λ t. IsPartOf c.args.reach.now c.in_ok-rows.rows t) (ap (λ (z : Kept). z.tables) h.keeps) (c.in_ok-rows.ensures.rows h.which h.c h.v h.is h.told)
 
 pub returns-clause-holds : goal.returns-clause-holds
 returns-clause-holds g c shape k h =

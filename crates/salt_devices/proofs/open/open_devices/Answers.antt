@@ -1,3 +1,4 @@
+use Rattle.salt_disk.specs.Disks.{FullWhere}
 use Rattle.salt_commit.proofs.Beginning.{open_answer}
 use Rattle.salt_devices.proofs.Answered.{like_finds, like_stands}
 use Rattle.salt_devices.proofs.Migrating.{full_of, halted_as, leaves_yet, like_migrated, migration_fills, no_refusal, not_refused, opens_newest, others_in, something_yet, stands_in, stands_yet}
@@ -7,7 +8,6 @@ use Rattle.salt_disk.specs.declared.disks.DiskErr.TheVariants.{Full}
 use Rattle.salt_disk.specs.declared.disks.DiskErr.{DiskErr}
 use Rattle.salt_commit.specs.Stores.{shape_of_store}
 use Rattle.salt_promise.specs.Filling.{MigrationFills}
-use Rattle.salt_shares.specs.Prepares.{FullWhere}
 use Rattle.std.proofs.Common.{None, Some, inr, subst, ◌≡◌, ◌∙◌}
 use Rattle.std.proofs.lemmas.Result.{err_from_is_err_and}
 

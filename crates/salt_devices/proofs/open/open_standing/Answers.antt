@@ -3,7 +3,7 @@ use Rattle.salt_commit.specs.Openings.{MayWrite}
 use Rattle.salt_commit.specs.Stores.{IsStoreDevice}
 use Rattle.salt_devices.proofs.Answered.{like_finds, like_stands}
 use Rattle.salt_devices.proofs.Fitting.{Texts, not_unread, opens_in}
-use Rattle.salt_devices.proofs.Opening.{full_writes, keeps_memory, leaves_first, leaves_memory, like_opened, like_unwritten, opening_fills, refused_as, refuses_as, something_left, stopped_writes}
+use Rattle.salt_devices.proofs.Opening.{full_writes, keeps_memory, leaves_first, leaves_memory, like_opened, like_unwritten, opening_fills, refused_as, something_left, stopped_writes}
 use Rattle.salt_devices.proofs.open.open_standing.Goals as goal
 use Rattle.salt_devices.proofs.Refused.{full_err, stopped_err, writes_nothing}
 use Rattle.salt_devices.specs.Opened.{IsRead}
@@ -271,7 +271,7 @@ returns-clause-refused g c told refusal =
     let b = g.D.Disks.view c.schema_of_log.new.disks in
     let e = g.D.Disks.view c.open_store.new.disks in
     let first = c.in_ok-schema.ensures.kept in
-    keeps_on (λ _. ⊥) d b e (open_disk_err_of c.in-Err.e) first (c.in-Err.ensures.refused (first.shape.told ∙ told) (refuses_as c.in-Err.e refusal))
+    keeps_on (λ _. ⊥) d b e (open_disk_err_of c.in-Err.e) first (c.in-Err.ensures.refused (first.shape.told ∙ told) refusal)
 
 pub returns-clause-still : goal.returns-clause-still
 returns-clause-still g c told image left =

@@ -17,8 +17,7 @@ load-requires-clause-reach g c = λ told.
 
 pub returns-in_ok-rows-in-Some-clause-rows : goal.returns-in_ok-rows-in-Some-clause-rows
 returns-in_ok-rows-in-Some-clause-rows g c = λ s stored.
-    rows-loaded c.args.asking.now.reach c.get.result.now c.in_ok-rows-in-Some.rows s.kept.tables (c.in-Some.is ∙ ap Some (sym c.get.ensures)) c.len-count.ensures.ordered
-    (c.in_ok-rows-in-Some.ensures.rows s.kept stored.holding)
+    rows-loaded c.args.asking.now.reach c.get.result.now c.in_ok-rows-in-Some.rows s.kept.tables (c.in-Some.is ∙ ap Some (sym c.get.ensures)) (c.in_ok-rows-in-Some.ensures.rows s.kept stored.holding)
 
 pub returns-in_ok-rows-in-Some-clause-keyed : goal.returns-in_ok-rows-in-Some-clause-keyed
 returns-in_ok-rows-in-Some-clause-keyed g c = c.in_ok-rows-in-Some.ensures.keyed

@@ -8,7 +8,6 @@ use Rattle.salt_books.specs.Books.{AreLoaded, units_in}
 use Rattle.salt_books.specs.Held.{seen}
 use Rattle.salt_books.specs.Names.{names_held}
 use Rattle.salt_books.specs.declared.held.Held.{Held}
-use Rattle.salt_eval.specs.Views.{tables_of}
 use Rattle.law_states.specs.OpenUnits.{OpenUnit}
 use Rattle.salt_ast.specs.declared.trees.Statement.{Statement}
 use Rattle.law_states.specs.Steps.{doing_one, outcome_under}
@@ -26,9 +25,9 @@ returns-clause-answer c = λ s o h rises named loaded.
     let items = c.self.inside.units.items in
     let st = c.get.result.now in
     let found = held-named items s.units c.place_named-at.result c.args.unit was.units rises within held (named-at held) c.index_mut.ensures.value in
-    let lent = subst (λ (x : Statement). AreLoaded (reach (schema_of s.kept) o.vars x) (tables_of c.args.rows.now.entries) s.kept.tables) (sym c.get.ensures) loaded in
+    let lent = subst (λ (x : Statement). AreLoaded (reach (schema_of s.kept) o.vars x) c.args.rows.now s.kept.tables) (sym c.get.ensures) loaded in
     let same : o ≡ seen held = let both : Some o ≡ Some (seen held) = sym named ∙ found in cc in
-    let own = subst (λ (x : OpenUnit). AreLoaded (reach (schema_of s.kept) x.vars st) (tables_of c.args.rows.now.entries) s.kept.tables) same lent in
+    let own = subst (λ (x : OpenUnit). AreLoaded (reach (schema_of s.kept) x.vars st) c.args.rows.now s.kept.tables) same lent in
     let did = c.in_ok-answer.ensures.done s.kept (c.schema-schema.ensures ∙ was.known.schema) own in
     did.answer ∙ ap (λ (x : OpenUnit). (outcome_under s.kept x st).answer) (sym same) ∙ ap (λ (x : Statement). (outcome_under s.kept o x).answer) c.get.ensures
 
@@ -41,9 +40,9 @@ returns-clause-state c = λ s o answer h rises named loaded.
     let items = c.self.inside.units.items in
     let st = c.get.result.now in
     let found = held-named items s.units c.place_named-at.result c.args.unit was.units rises within held (named-at held) c.index_mut.ensures.value in
-    let lent = subst (λ (x : Statement). AreLoaded (reach (schema_of s.kept) o.vars x) (tables_of c.args.rows.now.entries) s.kept.tables) (sym c.get.ensures) loaded in
+    let lent = subst (λ (x : Statement). AreLoaded (reach (schema_of s.kept) o.vars x) c.args.rows.now s.kept.tables) (sym c.get.ensures) loaded in
     let same : o ≡ seen held = let both : Some o ≡ Some (seen held) = sym named ∙ found in cc in
-    let own = subst (λ (x : OpenUnit). AreLoaded (reach (schema_of s.kept) x.vars st) (tables_of c.args.rows.now.entries) s.kept.tables) same lent in
+    let own = subst (λ (x : OpenUnit). AreLoaded (reach (schema_of s.kept) x.vars st) c.args.rows.now s.kept.tables) same lent in
     let did = c.in_ok-answer.ensures.done s.kept (c.schema-schema.ensures ∙ was.known.schema) own in
     record {
       known = was.known;

@@ -2,7 +2,6 @@ use Rattle.salt_books.proofs.Loaded.{loaded-views}
 use Rattle.salt_books.proofs.held.Held.act.Goals as goal
 use Rattle.salt_books.specs.Held.{seen}
 use Rattle.salt_eval.specs.Scans.{IsKeyed}
-use Rattle.salt_eval.specs.Views.{tables_of}
 use Rattle.law_states.specs.OpenUnits.{OpenUnit}
 use Rattle.law_states.specs.Overlays.{put_all, with_edits}
 use Rattle.law_states.specs.Steps.{outcome_under}
@@ -17,7 +16,7 @@ returns-in-Ok c = record {
   done = λ k schema loaded.
       let old : OpenUnit = seen c.args.self.now in
       let sorted = c.args.self.now.open.in_order in
-      let rows = tables_of c.args.rows.now.entries in
+      let rows = c.args.rows.now in
       let st = c.args.statement.now in
       let d = c.in-Ok.ensures.done in
       let law = c.statements_are_done_under_edits.ensures in

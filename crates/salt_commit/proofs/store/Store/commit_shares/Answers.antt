@@ -14,13 +14,13 @@ use Rattle.salt_commit.specs.declared.store.Store.{Store}
 use Rattle.salt_decisions.specs.Decisions as decisions
 use Rattle.salt_decisions.specs.Decisions.{IsBeforeOrWith, IsDecisions, decided}
 use Rattle.salt_disk.proofs.CallAfterCall.{cause_on}
-use Rattle.salt_disk.specs.Disks.{EachImage, FullExactly, KeepsBut}
+use Rattle.salt_disk.specs.Disks.{EachImage, FullExactly, FullWhere, KeepsBut}
 use Rattle.salt_disk.specs.declared.disks.DiskErr.TheVariants.{Full}
 use Rattle.salt_disk.specs.declared.disks.DiskErr.{DiskErr}
 use Rattle.salt_net.specs.Turns.{commits}
 use Rattle.salt_parts.specs.Openings.{IsPagesOf}
 use Rattle.salt_place.specs.declared.placement.Shape.{Shape}
-use Rattle.salt_shares.specs.Prepares.{FullWhere, with_shares}
+use Rattle.salt_shares.specs.Prepares.{with_shares}
 use Rattle.salt_stands.specs.Coordinator.{device_of}
 use Rattle.salt_stands.specs.Placed.{nodes_in}
 use Rattle.std.proofs.Common.{Err, None, Some, ap, arith, inl, length, refl, subst, sym, ◌+◌, ◌<◌, ◌^◌, ◌≡◌, ◌≤◌, ◌∙◌}

@@ -1,6 +1,5 @@
 use Rattle.salt_drain.proofs.recovery.Recovery.done.Goals as goal
 use Rattle.salt_books.specs.Books.{AreLoaded}
-use Rattle.salt_eval.specs.Views.{tables_of}
 use Rattle.law_states.specs.Steps.{units_after}
 use Rattle.salt_model.specs.declared.events.Cause.{Cause}
 use Rattle.salt_model.specs.declared.events.Event.TheVariants.{Did}
@@ -19,7 +18,7 @@ returns-clause-gives g c = λ s o stands r asked part loaded.
     let st = c.args.asking.statement in
     let answer = c.in_ok-answer.answer in
     let e = Did u st answer in
-    let own = subst (λ (q : Option Reach). AreLoaded q (tables_of c.args.rows.now.entries) s.units.kept.tables) asked.reach loaded in
+    let own = subst (λ (q : Option Reach). AreLoaded q c.args.rows.now s.units.kept.tables) asked.reach loaded in
     let answers = c.in_ok-answer.ensures.answer s.units o stands.books (rising s r.sound) asked.named own in
     gives e _ _ s _ r refl (λ i. Some (Did (sym (named-unit u s.units.units o asked.named) i) st (answers i))) refl
     (record {

@@ -1,7 +1,6 @@
 use Rattle.salt_scheduler.proofs.scheduler.Scheduler.done.Goals as goal
 use Rattle.std.specs.Prelude.{Option, not, refl}
 use Rattle.salt_books.specs.Books.{AreLoaded}
-use Rattle.salt_eval.specs.Views.{tables_of}
 use Rattle.salt_books.proofs.Named.{rising}
 use Rattle.law_story.proofs.Lists.{not-true}
 use Rattle.salt_model.specs.declared.events.Event.TheVariants.{Did}
@@ -14,7 +13,7 @@ use Rattle.salt_scheduler.specs.declared.follow.Follow.TheVariants.{Done}
 pub returns : goal.returns
 returns c = λ s o stands sound asked loaded.
     let rises = rising s sound in
-    let within = subst (λ (r : Option Reach). AreLoaded r (tables_of c.args.rows.now.entries) s.units.kept.tables) asked.reach loaded in
+    let within = subst (λ (r : Option Reach). AreLoaded r c.args.rows.now s.units.kept.tables) asked.reach loaded in
     let base = did-base s.units c.args.asking c.in_ok-answer.answer o asked in
     let reach = did-reach s.units c.args.asking c.in_ok-answer.answer o asked ∙ sym c.lent.ensures in
     let facts = facts_in s.units (Did c.args.asking.unit c.args.asking.statement c.in_ok-answer.answer) in
