@@ -7,14 +7,16 @@ is work enough to take about as long. Times are of the processor in the programs
 turns, which other work on the machine disturbs least.
 
 Prints for each kind and size the statements per second of both (of a sum, the rows per second), the ratio, and how much a statement's
-cost grew from the size before. Ends with 1 where Salt is slower than sqlite3 at a statement on one row of up to 10,000, or slower than half
-of it at any, or where a statement on one row costs more than twice as much at the last size as at the first.
+cost grew from the size before. Ends with 1 where Salt is slower than sqlite3 at a statement on one row of up to 10,000, slower than 0.7 of it
+at a range of 100 rows of up to 10,000, or than a third of it at a sum of up to 10,000 rows and a sixth of more; or where a statement on one row
+costs more than 1.6 times as much at the last size as at the first.
 
     bench/statements.py [PROGRAM]                    with the program of another commit
+    bench/statements.py --folder [PROGRAM]           over a folder in memory, in place of devices in memory
     bench/statements.py --points [PROGRAM]           statements on one row alone, over up to 10,000 rows
     bench/statements.py --instructions [PROGRAM]     what a statement on one row costs, in instructions, which do not vary; judges nothing
 """
-import random, sys
+import random, shutil, sys, tempfile
 from pathlib import Path
 
 from timing import instructions, least_in_turns, made, usage
@@ -27,10 +29,9 @@ POINTS = 30_000
 RANGES = 10_000
 SUMMED = 10_000_000
 WIDTH = 100
-GROWTH = 2.0
-SLOWEST = 0.5
-# How fast statements on one row have to be over tables of the first two sizes, where sqlite3 is 1.
-POINTS_SLOWEST = 1.0
+# How fast each kind has to be over tables of these sizes, where sqlite3 is 1; a statement on one row of the last size is held to its own growth.
+SLOWEST = {"insert": [1.0, 1.0], "point select": [1.0, 1.0], "point update": [1.0, 1.0], "delete": [1.0, 1.0], "range of 100": [0.7, 0.7], "sum of all": [1 / 3, 1 / 3, 1 / 6]}
+GROWTH = 1.6
 # Statements that are counted of each kind, and the seconds that a count may take.
 COUNTED = 2_000
 LIMIT = 60
@@ -73,10 +74,16 @@ def sqlite_script(statements):
 
 
 class Measured:
-    """A program, and what its statements cost at the size before."""
+    """A program, the folder that it keeps its database in, if it has one, and what its statements cost at the size before."""
 
-    def __init__(self, command, script_of):
-        self.command, self.script_of, self.costs = command, script_of, {}
+    def __init__(self, command, script_of, folder=None):
+        self.command, self.script_of, self.folder, self.costs = command, script_of, folder, {}
+
+    def seconds(self, script):
+        """The time in the program itself, over nothing that was there before."""
+        if self.folder:
+            shutil.rmtree(self.folder, ignore_errors=True)
+        return usage(self.command, script).ru_utime
 
     def growth(self, kind, cost):
         """How much the cost of a statement grew from the size before."""
@@ -87,8 +94,8 @@ class Measured:
 
 def least_seconds(programs, statements, rounds):
     """The least time in each program, of so many rounds in which they take turns."""
-    scripts = [(program.command, program.script_of(statements)) for program in programs]
-    return least_in_turns([lambda script=script: usage(*script).ru_utime for script in scripts], rounds)
+    scripts = [(program, program.script_of(statements)) for program in programs]
+    return least_in_turns([lambda program=program, script=script: program.seconds(script) for program, script in scripts], rounds)
 
 
 def tell(kind, rows, count, programs, took):
@@ -129,20 +136,30 @@ def timed(programs, sizes, kinds, rounds):
     return ratios
 
 
+def judged(ratios, growths):
+    """Prints what is slower than it has to be; answers the status."""
+    slow = [(kind, SIZES[at], found[at]) for kind, found in ratios.items() for at, least in enumerate(SLOWEST[kind]) if at < len(found) and found[at] < least]
+    for kind, rows, ratio in slow:
+        print(f"{kind} over {rows} rows: {ratio:.2f} of sqlite3, and is to be at least {SLOWEST[kind][SIZES.index(rows)]:.2f}")
+    grown = [(kind, growth) for kind, growth in growths.items() if GROWTH < growth]
+    for kind, growth in grown:
+        print(f"{kind}: {growth:.2f} times as much over the most rows as over the fewest, and is to be at most {GROWTH}")
+    return 1 if slow or grown else 0
+
+
 def main():
     words = [word for word in sys.argv[1:] if not word.startswith("--")]
     salt = Path(words[0]) if words else made("salt", "run")
     if "--instructions" in sys.argv:
         counted(salt)
         return 0
-    programs = [Measured([salt, "run"], salt_script), Measured(["sqlite3", ":memory:"], sqlite_script)]
-    points = ["insert", *ON_ONE_ROW]
-    ratios = timed(programs, SIZES[:2], ON_ONE_ROW, POINT_ROUNDS) if "--points" in sys.argv else timed(programs, SIZES, KINDS, ROUNDS)
-    slowest, slowest_point = min(map(min, ratios.values())), min(min(ratios[kind][:2]) for kind in points)
-    growth = max(programs[0].costs[kind][-1] / programs[0].costs[kind][0] for kind in points)
-    print(f"the slowest ratio is {slowest:.2f} (allowed: {SLOWEST}), on one row of up to {SIZES[1]} {slowest_point:.2f} (allowed: {POINTS_SLOWEST})")
-    print(f"a statement on one row costs {growth:.2f} times as much over the most rows as over the fewest (allowed: {GROWTH})")
-    return 1 if slowest < SLOWEST or slowest_point < POINTS_SLOWEST or growth > GROWTH else 0
+    with tempfile.TemporaryDirectory(dir="/dev/shm") as top:
+        folder = f"{top}/rows"
+        here = Measured([salt, "run", "--dir", folder], salt_script, folder) if "--folder" in sys.argv else Measured([salt, "run"], salt_script)
+        programs = [here, Measured(["sqlite3", ":memory:"], sqlite_script)]
+        points = "--points" in sys.argv
+        ratios = timed(programs, SIZES[:2], ON_ONE_ROW, POINT_ROUNDS) if points else timed(programs, SIZES, KINDS, ROUNDS)
+    return judged(ratios, {kind: here.costs[kind][-1] / here.costs[kind][0] for kind in ["insert", *ON_ONE_ROW]})
 
 
 if __name__ == "__main__":
