@@ -21,6 +21,8 @@ mod cases;
 mod devices;
 mod full_logs;
 mod older;
+mod open_database;
+mod open_programs;
 mod others;
 mod outcome;
 mod stops_behind;
@@ -33,12 +35,16 @@ use bytes_turned::{cut_devices, turned_bytes};
 use cases::Cases;
 use full_logs::full_logs;
 use older::{older_fails, older_stops};
+use open_programs::open_programs;
 use others::by_devices;
 use salt_io::{LineErr, Lines, Next, Source, StdSink, StdSource, write_whole};
 use std::alloc::{AllocError, Global};
 use std::io;
 use std::process::ExitCode;
-use stops_behind::{retries_fail, retries_fail_on, stop_in_retries, stops_in_boots, three_stops};
+use stops_behind::{
+    RETRIES, retries_fail, retries_fail_on, retries_read_fails, stop_in_retries, stops_in_boots,
+    three_stops,
+};
 use streams::{cut_scripts, longest_lines, most_bytes, reads_that_fail, writes_that_fail};
 use tables::{
     EARLY, EARLY_BACK, IN_DOUBT, LATE, Table, Way, all_writes_fail, one_read_fails, one_stop,
@@ -90,8 +96,11 @@ enum Behind {
     StopsInBoots,
     ThreeStops,
     StopInRetries,
+    TwoStopsInRetries,
+    ThreeStopsInRetries,
     RetriesFail,
     RetriesFailOn,
+    RetriesReadFails,
 }
 
 impl Behind {
@@ -100,18 +109,66 @@ impl Behind {
             Behind::StopsInBoots => "a stop, and another in the boot behind it",
             Behind::ThreeStops => "a stop, and two in the boots behind it",
             Behind::StopInRetries => "a stop in a script that retries",
+            Behind::TwoStopsInRetries => {
+                "a stop in the opening behind another in a script that retries"
+            }
+            Behind::ThreeStopsInRetries => {
+                "a stop in a script that retries, and two in the boots behind it"
+            }
             Behind::RetriesFail => "a write that fails in a script that retries",
             Behind::RetriesFailOn => "writes that fail from one on in a script that retries",
+            Behind::RetriesReadFails => "a read that fails in a script that retries",
         }
     }
 
     fn table(self, alloc: Global) -> Result<Table, AllocError> {
         match self {
             Behind::StopsInBoots => stops_in_boots(alloc),
-            Behind::ThreeStops => three_stops(alloc),
+            Behind::ThreeStops => three_stops(alloc, LATE),
             Behind::StopInRetries => stop_in_retries(alloc),
+            Behind::TwoStopsInRetries => two_stops(alloc, RETRIES),
+            Behind::ThreeStopsInRetries => three_stops(alloc, RETRIES),
             Behind::RetriesFail => retries_fail(alloc),
             Behind::RetriesFailOn => retries_fail_on(alloc),
+            Behind::RetriesReadFails => retries_read_fails(alloc),
+        }
+    }
+}
+
+/// The tables of a database of formats 1, and of streams.
+#[derive(Clone, Copy)]
+enum Further {
+    OlderStops,
+    OlderFails,
+    CutScripts,
+    ReadsThatFail,
+    WritesThatFail,
+    LongestLines,
+    MostBytes,
+}
+
+impl Further {
+    fn name(self) -> &'static str {
+        match self {
+            Further::OlderStops => "where a database of formats 1 is opened: a stop",
+            Further::OlderFails => "where a database of formats 1 is opened: a write that fails",
+            Further::CutScripts => "a script that is cut",
+            Further::ReadsThatFail => "a read of the script that fails",
+            Further::WritesThatFail => "a write of the output that fails",
+            Further::LongestLines => "lines of the most bytes",
+            Further::MostBytes => "scripts of the most bytes",
+        }
+    }
+
+    fn table(self, alloc: Global) -> Result<Table, AllocError> {
+        match self {
+            Further::OlderStops => older_stops(alloc),
+            Further::OlderFails => older_fails(alloc),
+            Further::CutScripts => cut_scripts(alloc),
+            Further::ReadsThatFail => reads_that_fail(alloc),
+            Further::WritesThatFail => writes_that_fail(alloc),
+            Further::LongestLines => longest_lines(alloc),
+            Further::MostBytes => most_bytes(alloc),
         }
     }
 }
@@ -128,17 +185,12 @@ enum Part {
     CutDevices,
     Hostile(Hostile, Way),
     Behind(Behind),
-    OlderStops,
-    OlderFails,
-    CutScripts,
-    ReadsThatFail,
-    WritesThatFail,
-    LongestLines,
-    MostBytes,
+    Further(Further),
+    OpenPrograms,
     FullLogs,
 }
 
-const PARTS: [Part; 37] = [
+const PARTS: [Part; 41] = [
     Part::Stories,
     Part::Statuses,
     Part::Words,
@@ -149,8 +201,11 @@ const PARTS: [Part; 37] = [
     Part::Behind(Behind::StopsInBoots),
     Part::Behind(Behind::ThreeStops),
     Part::Behind(Behind::StopInRetries),
+    Part::Behind(Behind::TwoStopsInRetries),
+    Part::Behind(Behind::ThreeStopsInRetries),
     Part::Behind(Behind::RetriesFail),
     Part::Behind(Behind::RetriesFailOn),
+    Part::Behind(Behind::RetriesReadFails),
     Part::Hostile(Hostile::OneStop, LATE),
     Part::Hostile(Hostile::TwoStops, LATE),
     Part::Hostile(Hostile::StopAtFirst, LATE),
@@ -168,13 +223,14 @@ const PARTS: [Part; 37] = [
     Part::Hostile(Hostile::OneWriteFails, IN_DOUBT),
     Part::Hostile(Hostile::OneReadFails, IN_DOUBT),
     Part::Hostile(Hostile::AllWritesFail, IN_DOUBT),
-    Part::OlderStops,
-    Part::OlderFails,
-    Part::CutScripts,
-    Part::ReadsThatFail,
-    Part::WritesThatFail,
-    Part::LongestLines,
-    Part::MostBytes,
+    Part::Further(Further::OlderStops),
+    Part::Further(Further::OlderFails),
+    Part::OpenPrograms,
+    Part::Further(Further::CutScripts),
+    Part::Further(Further::ReadsThatFail),
+    Part::Further(Further::WritesThatFail),
+    Part::Further(Further::LongestLines),
+    Part::Further(Further::MostBytes),
     Part::FullLogs,
 ];
 
@@ -232,33 +288,8 @@ fn lines_of(rt: &HostRuntime, part: Part) -> Result<Vec<u8>, AllocError> {
             hostile.name(),
             hostile.table(alloc, way),
         ),
-        Part::OlderStops => line_of(
-            alloc,
-            "where a database of formats 1 is opened: ",
-            "a stop",
-            older_stops(alloc),
-        ),
-        Part::OlderFails => line_of(
-            alloc,
-            "where a database of formats 1 is opened: ",
-            "a write that fails",
-            older_fails(alloc),
-        ),
-        Part::CutScripts => line_of(alloc, "", "a script that is cut", cut_scripts(alloc)),
-        Part::ReadsThatFail => line_of(
-            alloc,
-            "",
-            "a read of the script that fails",
-            reads_that_fail(alloc),
-        ),
-        Part::WritesThatFail => line_of(
-            alloc,
-            "",
-            "a write of the output that fails",
-            writes_that_fail(alloc),
-        ),
-        Part::LongestLines => line_of(alloc, "", "lines of the most bytes", longest_lines(alloc)),
-        Part::MostBytes => line_of(alloc, "", "scripts of the most bytes", most_bytes(alloc)),
+        Part::Further(further) => line_of(alloc, "", further.name(), further.table(alloc)),
+        Part::OpenPrograms => open_programs(alloc),
         Part::FullLogs => full_logs(alloc),
     }
 }

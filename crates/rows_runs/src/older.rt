@@ -23,11 +23,11 @@ const FORMAT_AT: usize = 14;
 /// coordinator's log gets a snapshot, and the boot is appended.
 const CALLS: u64 = 19;
 
-/// A log with its header in format 1.
-fn taken_back(alloc: Global, bytes: &[u8]) -> Result<Vec<u8>, AllocError> {
+/// A log with its header in this format.
+pub fn in_format(alloc: Global, bytes: &[u8], format: u8) -> Result<Vec<u8>, AllocError> {
     let mut older = Vec::new(alloc);
     for (place, byte) in bytes.iter().enumerate() {
-        older.push(if place == FORMAT_AT { 1 } else { *byte })?;
+        older.push(if place == FORMAT_AT { format } else { *byte })?;
     }
     Ok(older)
 }
@@ -36,7 +36,7 @@ fn taken_back(alloc: Global, bytes: &[u8]) -> Result<Vec<u8>, AllocError> {
 fn take_back(alloc: Global, devices: &mut Devices, dev: u32) -> Result<(), AllocError>
     requires { dev < 26 }
 {
-    let older = taken_back(alloc, devices.bytes(dev))?;
+    let older = in_format(alloc, devices.bytes(dev), 1)?;
     devices.set_bytes(dev, &older)
 }
 

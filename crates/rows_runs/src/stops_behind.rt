@@ -28,7 +28,7 @@ go all
     calls: 32,
 };
 
-const RETRIES: Way = Way {
+pub const RETRIES: Way = Way {
     name: "",
     words: &["run"],
     armed: "",
@@ -38,6 +38,9 @@ const RETRIES: Way = Way {
 
 /// How many calls all that is written before them makes: a first opening 28, two definitions 8, and two rows 16.
 const RETRIED_START: u64 = 52;
+
+/// More reads than its script makes.
+const RETRIED_READS: u64 = 41;
 
 /// How many calls a boot makes: an entry of the coordinator's log.
 const BOOT_CALLS: u64 = 4;
@@ -78,6 +81,16 @@ pub fn retries_fail_on(alloc: Global) -> Result<Table, AllocError> {
     Ok(table)
 }
 
+/// Each read of a script that retries fails in turn.
+pub fn retries_read_fails(alloc: Global) -> Result<Table, AllocError> {
+    let script = retried_script(alloc, ROWS)?;
+    let mut table = Table::new();
+    for call in 1..RETRIED_READS {
+        table.add(fails_well(alloc, RETRIES, script.as_str(), Failing::Read(call))?);
+    }
+    Ok(table)
+}
+
 /// A stop at this call, and one at each of the boot behind it.
 fn stops_in_boot(alloc: Global, table: &mut Table, call: u64) -> Result<(), AllocError> {
     let others = format!(in alloc; "{call} {} ", call % 5)?;
@@ -98,21 +111,27 @@ pub fn stops_in_boots(alloc: Global) -> Result<Table, AllocError> {
 }
 
 /// A stop at this call, one in the boot behind it, and one in the boot behind that.
-fn stops_in_two_boots(alloc: Global, table: &mut Table, call: u64) -> Result<(), AllocError> {
+fn stops_in_two_boots(
+    alloc: Global,
+    way: Way,
+    table: &mut Table,
+    call: u64,
+) -> Result<(), AllocError> {
     for second in 1..BOOT_CALLS + 1 {
         let others = format!(in alloc; "{call} {} {second} {second} ", call % 5)?;
         let third = BOOT_CALLS + 1 - second;
-        let is_well = ends_well(alloc, LATE, others.as_str(), third, second - 1, 3)?;
+        let is_well = ends_well(alloc, way, others.as_str(), third, second - 1, 3)?;
         table.add(is_well);
     }
     Ok(())
 }
 
 /// A stop at each call, and one in each of the two boots behind it.
-pub fn three_stops(alloc: Global) -> Result<Table, AllocError> {
+pub fn three_stops(alloc: Global, way: Way) -> Result<Table, AllocError> {
     let mut table = Table::new();
-    for call in 1..LATE.stopped.calls + 1 {
-        stops_in_two_boots(alloc, &mut table, call)?;
+    let last = way.stopped.calls;
+    for call in 1..last.saturating_add(1) {
+        stops_in_two_boots(alloc, way, &mut table, call)?;
     }
     Ok(table)
 }

@@ -94,7 +94,7 @@ const BACK: Stopped = Stopped {
 };
 
 /// Lines behind which programs have turns.
-const TURNS: &str = "show bases
+pub const TURNS: &str = "show bases
 show bases
 show bases
 show bases
