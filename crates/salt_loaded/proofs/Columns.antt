@@ -1,7 +1,7 @@
 -- The values of a row that is spelled, one behind the other.
 use Rattle.salt_bytes.specs.Values.{take_row, take_value}
 use Rattle.salt_bytes.specs.Taking.{take_each}
-use Rattle.salt_loaded.proofs.Fronts.{first_value, one_front, values_of}
+use Rattle.salt_loaded.proofs.Fronts.{first_value, one_front, same_some, values_of}
 use Rattle.salt_loaded.specs.Spots.{row_of}
 use Rattle.salt_loaded.specs.Spelled.{IsColumnAt, LeavesValue}
 use Rattle.salt_values.specs.declared.value.Value.{Value}
@@ -37,9 +37,6 @@ module _ (row : List ℕ) (passed : ℕ) (left : List ℕ) (below : passed < get
       let f = first in
       let same : more ≡ f.1 = same_some more f.1 (leaves f.0 f.1 f.3) in
       ap (take_each (take_value true) (get_or row 0 0 - (passed + 1))) same ∙ f.4 ∙ ap (λ (vs : List Value). Some (vs, rest)) (sym (next passed r f.2 f.0 f.5).0)
-    where
-      same_some : (x y : List ℕ) → Some x ≡ Some y → x ≡ y
-      same_some x y h = cc
 
   pub goes_on : LeavesValue left None → ⊥
   goes_on leaves = let f = first in nothing f.1 (leaves f.0 f.1 f.3)
@@ -53,10 +50,10 @@ module _ (row : List ℕ) (passed : ℕ) (left : List ℕ) (below : passed < get
 pub column_at : (row : List ℕ) (passed number : ℕ) (left : List ℕ) → passed ≤ number → number ≤ passed → number < get_or row 0 0 → Passed row passed left → (r : List Value) (rest : List ℕ) → take_row true row ≡ Some (r, rest) → IsColumnAt r number (Some left)
 column_at row passed number left up down below is r rest h =
     let same : passed ≡ number = omega arith in
-    ap_at same (column row passed left (omega arith) is r rest h)
+    moved same (column row passed left (omega arith) is r rest h)
   where
-    ap_at : passed ≡ number → IsColumnAt r passed (Some left) → IsColumnAt r number (Some left)
-    ap_at e f = (f.0, f.1, ap (slice_get r) (sym e) ∙ f.2, f.3)
+    moved : passed ≡ number → IsColumnAt r passed (Some left) → IsColumnAt r number (Some left)
+    moved e f = (f.0, f.1, ap (slice_get r) (sym e) ∙ f.2, f.3)
 
 as_many : (n : ℕ) (bytes rest : List ℕ) (r : List Value) → take_each (take_value true) n bytes ≡ Some (r, rest) → length r ≡ n
 as_many zero bytes rest [] h = refl

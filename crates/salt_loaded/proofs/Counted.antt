@@ -1,6 +1,6 @@
 -- How many of rows in order pass a test.
 use Rattle.salt_bytes.specs.Values.{take_row}
-use Rattle.salt_loaded.proofs.Fronts.{taken, to_end}
+use Rattle.salt_loaded.proofs.Fronts.{same_some, taken, to_end}
 use Rattle.salt_loaded.proofs.Grown.{at_within}
 use Rattle.salt_loaded.proofs.Ordered.{against_is}
 use Rattle.salt_loaded.proofs.Rising.{is_above_key}
@@ -157,8 +157,7 @@ row_there bytes (s ∷ spots) (suc i) d row within h = row_there bytes spots i d
 -- an entry is a row at the place of its key
 pub entry_is : (t : ℕ) (rows : List (List Value)) (i : ℕ) (e : Entry) → slice_get (entries_in t rows) i ≡ Some e → (slice_get rows i ≡ Some e.1) × (key_of e.1 ≡ e.0.key)
 entry_is t [] i e h = absurd cc
-entry_is t (r ∷ rows) zero e h = let same : ◌≡◌ {A = Entry} (place t (key_of r), r) e = same_some _ _ h in (ap (λ (x : Entry). Some x.1) same, sym (ap (λ (x : Entry). key_of x.1) same) ∙ ap (λ (x : Entry). x.0.key) same)
-  where
-    same_some : (x y : Entry) → Some x ≡ Some y → x ≡ y
-    same_some x y h = cc
+entry_is t (r ∷ rows) zero e h =
+    let same : ◌≡◌ {A = Entry} (place t (key_of r), r) e = same_some (place t (key_of r), r) e h in
+    (ap (λ (x : Entry). Some x.1) same, sym (ap (λ (x : Entry). key_of x.1) same) ∙ ap (λ (x : Entry). x.0.key) same)
 entry_is t (r ∷ rows) (suc i) e h = entry_is t rows i e h

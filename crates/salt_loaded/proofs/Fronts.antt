@@ -1,4 +1,5 @@
 -- What stands at the front of a row that is spelled.
+use Rattle.salt_bytes.proofs.Only.{if_only}
 use Rattle.salt_bytes.specs.Numbers.{take_64}
 use Rattle.salt_bytes.specs.Taking.{Take, give, go_on, only_if, take_byte, take_bytes, take_each, then_take}
 use Rattle.salt_bytes.specs.Values.{is_row_length, take_row, take_value}
@@ -18,11 +19,7 @@ pub went_on : {A B : Type 0} (next : A → Take B) (o : Option (A × List ℕ)) 
 went_on next None y h = absurd cc
 went_on next (Some taken) y h = (taken.0, taken.1, refl, h)
 
-pub passed : {A : Type 0} (b : Bool) (take : Take A) (bytes : List ℕ) (y : A × List ℕ) → only_if b take bytes ≡ Some y → (b ≡ true) × (take bytes ≡ Some y)
-passed true take bytes y h = (refl, h)
-passed false take bytes y h = absurd cc
-
-same_some : {A : Type 0} (x y : A) → Some x ≡ Some y → x ≡ y
+pub same_some : {A : Type 0} (x y : A) → Some x ≡ Some y → x ≡ y
 same_some x y h = cc
 
 -- the row that is spelled, and the bytes behind it
@@ -41,7 +38,7 @@ row_is bytes rest r h = ap row_of h
 
 -- the values of a row stand behind their number
 pub values_of : (count : ℕ) (bytes rest : List ℕ) (r : List Value) → take_row true (count ∷ bytes) ≡ Some (r, rest) → (is_row_length count ≡ true) × (take_each (take_value true) count bytes ≡ Some (r, rest))
-values_of count bytes rest r h = passed (is_row_length count) (take_each (take_value true) count) bytes (r, rest) h
+values_of count bytes rest r h = if_only (is_row_length count) (take_each (take_value true) count) bytes (r, rest) h
 
 pub first_value : (n : ℕ) (bytes rest : List ℕ) (r : List Value) → take_each (take_value true) (suc n) bytes ≡ Some (r, rest)
     → (v : Value) × (left : List ℕ) × (vs : List Value) × (take_value true bytes ≡ Some (v, left)) × (take_each (take_value true) n left ≡ Some (vs, rest)) × (r ≡ v ∷ vs)
@@ -96,7 +93,7 @@ pub text_at : (bytes left : List ℕ) (v : Value) → take_value true (2 ∷ byt
 text_at bytes left v h =
     let a = went_on (λ n. then_take (take_bytes n) (λ t. only_if (is_text t) (give (Text t)))) (take_byte bytes) (v, left) h in
     let b = went_on (λ t. only_if (is_text t) (give (Text t))) (take_bytes a.0 a.1) (v, left) a.3 in
-    let c = passed (is_text b.0) (give (Text b.0)) b.1 (v, left) b.3 in
+    let c = if_only (is_text b.0) (give (Text b.0)) b.1 (v, left) b.3 in
     let p = same_some (Text b.0, b.1) (v, left) c.1 in
     (b.0, ap (go_on take_bytes) a.2 ∙ b.2 ∙ ap (λ (l : List ℕ). Some (b.0, l)) (ap (λ (x : Value × List ℕ). x.1) p), sym (ap (λ (x : Value × List ℕ). x.0) p))
 

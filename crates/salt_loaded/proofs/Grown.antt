@@ -2,7 +2,7 @@
 use Rattle.salt_bytes.specs.Numbers.{take_64}
 use Rattle.salt_bytes.specs.Taking.{Take, give, go_on, only_if, take_byte, take_bytes, take_each, then_take}
 use Rattle.salt_bytes.specs.Values.{is_row_length, take_row, take_value, take_value_of}
-use Rattle.salt_loaded.proofs.Fronts.{taken, went_on}
+use Rattle.salt_loaded.proofs.Fronts.{same_some, taken, went_on}
 use Rattle.salt_loaded.specs.Spots.{IsSpot, AreSpots, is_spelled, row_from, row_in, row_of, rows_at}
 use Rattle.salt_loaded.specs.declared.order.Spot.{Spot}
 use Rattle.salt_values.specs.Text.{is_text}
@@ -14,9 +14,6 @@ use Rattle.std.specs.Prelude.{is_some}
 
 pub record Grows {A : Type 0} (take : Take A) : Type 0 where
   pub at : (bytes more rest : List ℕ) (x : A) → take bytes ≡ Some (x, rest) → take (bytes ++ more) ≡ Some (x, rest ++ more)
-
-same_some : {A : Type 0} (x y : A) → Some x ≡ Some y → x ≡ y
-same_some x y h = cc
 
 given : {A : Type 0} (x : A) → Grows (give x)
 given x = record { at = λ bytes more rest y h. ap (λ p. Some (p.0, p.1 ++ more)) (same_some (x, bytes) (y, rest) h) }

@@ -9,7 +9,7 @@ use Rattle.salt_loaded.specs.Loaded.{IsOfTable, IsRowFront}
 use Rattle.salt_loaded.specs.Meets.{all_meet}
 use Rattle.salt_model.specs.Tables.{Entry, Tables}
 use Rattle.salt_values.specs.declared.value.Value.{Value}
-use Rattle.std.proofs.Common.{Bool, List, None, Option, Some, [], ap, arith, drop, false, get_or, length, refl, subst, suc, sym, take, true, zero, ℕ, ◌+◌, ◌-◌, ◌≡◌, ◌≤◌, ◌∙◌, ◌∷◌}
+use Rattle.std.proofs.Common.{Bool, List, Some, [], ap, arith, drop, false, get_or, length, refl, subst, suc, sym, take, true, zero, ℕ, ◌+◌, ◌-◌, ◌≡◌, ◌≤◌, ◌∙◌, ◌∷◌}
 use Rattle.std.proofs.lemmas.Bool.Decides.{Decides-eqb}
 use Rattle.std.specs.List.{list_all}
 use Rattle.std.specs.Prelude.{map, nat_eq, slice_get, ◌&&◌}

@@ -32,17 +32,13 @@ not_true : (b : Bool) → not b ≡ true → b ≡ false
 not_true true h = cc
 not_true false h = refl
 
-not_false : (b : Bool) → b ≡ false → not b ≡ true
-not_false true h = cc
-not_false false h = refl
-
 both : (a b : Bool) → a ≡ true → b ≡ true → (a && b) ≡ true
 both a b e f = ap (λ x. x && b) e ∙ f
 
 same_itself : (v : Value) → is_same_value v v ≡ true
 same_itself v = ap is_eq (tied_itself value_total v)
 
-same_turned : (v w : Value) → is_same_value v w ≡ is_same_value w v
+pub same_turned : (v w : Value) → is_same_value v w ≡ is_same_value w v
 same_turned v w = (eq_by_cmp_equiv value_total).symm v w
 
 -- ---- no two with the same key

@@ -1,6 +1,8 @@
 -- What is shown of tables whose entries stand in order, all of one table.
 use Rattle.salt_eval.proofs.InOrder.{less_is, parted}
 use Rattle.salt_eval.specs.Views.{is_next, range_rows, shown_where}
+use Rattle.salt_loaded.proofs.Counted.{mapped_long}
+use Rattle.salt_loaded.proofs.Rising.{same_turned}
 use Rattle.salt_loaded.specs.Loaded.{CountsRows, IsOfTable, rows_of}
 use Rattle.salt_loaded.specs.Shown.{row_at_number, rows_between}
 use Rattle.salt_model.specs.Tables.{Entry, Tables, place, place_cmp, row_at}
@@ -41,10 +43,6 @@ mapped_drop f zero xs = refl
 mapped_drop f (suc n) [] = refl
 mapped_drop f (suc n) (x ∷ xs) = mapped_drop f n xs
 
-mapped_long : {A B : Type 0} (f : A → B) (xs : List A) → length (map f xs) ≡ length xs
-mapped_long f [] = refl
-mapped_long f (x ∷ xs) = ap suc (mapped_long f xs)
-
 first_of : (n : ℕ) (rows : List (List Value)) → n < length rows → drop n rows ≡ unwrap_or (slice_get rows n) [] ∷ drop (n + 1) rows
 first_of n [] h = absurd (omega arith)
 first_of zero (r ∷ rows) h = refl
@@ -77,14 +75,6 @@ found_elsewhere t u k (e ∷ es) are other = ap (λ b. cond b (Some e.1) (find p
 
 here : (t : ℕ) (e : Entry) (k : Value) → e.0.table ≡ t → place_cmp (place t k) e.0 ≡ value_cmp k e.0.key
 here t e k at = ap (λ o. ordering_then o (value_cmp k e.0.key)) (ap (nat_cmp t) at ∙ tied_itself nat_cmp_total t)
-
-turned : (o : Ordering) → is_eq (ordering_reverse o) ≡ is_eq o
-turned Less = refl
-turned Equal = refl
-turned Greater = refl
-
-same_turned : (a b : Value) → is_same_value a b ≡ is_same_value b a
-same_turned a b = ap is_eq (value_total.antisymm a b) ∙ turned (value_cmp b a)
 
 -- none behind a greater key
 none_greater : (t : ℕ) (k : Value) (e : Entry) (es : List Entry) → AreOfTable (e ∷ es) t → value_cmp k e.0.key ≡ Less → T (below_all place_cmp e.0 es) → find place_cmp (place t k) es ≡ None

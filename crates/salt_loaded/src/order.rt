@@ -66,11 +66,14 @@ fn spot_text<'a>(bytes: &'a [u8], spot: &Spot) -> &'a [u8]
 pub fn spot_cmp(bytes: &[u8], a: &Spot, b: &Spot) -> Ordering
     ensures { result ≡ spot_order bytes.now a.now b.now }
 {
-    let first = a.kind.cmp(&b.kind).then(a.number.cmp(&b.number));
-    if first.is_eq() && a.kind == TEXT {
+    if a.kind != b.kind {
+        return a.kind.cmp(&b.kind);
+    }
+    let numbers = a.number.cmp(&b.number);
+    if a.kind == TEXT && numbers.is_eq() {
         spot_text(bytes, a).cmp(spot_text(bytes, b))
     } else {
-        first
+        numbers
     }
 }
 
