@@ -1,7 +1,6 @@
 -- How many of rows in order pass a test.
 use Rattle.salt_bytes.specs.Values.{take_row}
 use Rattle.salt_loaded.proofs.Fronts.{same_some, taken, to_end}
-use Rattle.salt_loaded.proofs.Grown.{at_within}
 use Rattle.salt_loaded.proofs.Ordered.{against_is}
 use Rattle.salt_loaded.proofs.Rising.{is_above_key}
 use Rattle.salt_loaded.specs.Loaded.{CountsRows}
@@ -125,9 +124,6 @@ read_at bytes (s ∷ spots) zero d are within =
     let t = taken (drop s.at bytes) are.0.spelled in
     (row_from bytes s.at, t.0, refl, ap (take_row true) (to_end s.at bytes) ∙ t.1)
 read_at bytes (s ∷ spots) (suc i) d are within = read_at bytes spots i d are.1 (omega (arith, within))
-
-pub starts_within : (bytes : List ℕ) (spots : List Spot) (i : ℕ) (d : Spot) → AreSpots bytes spots → i < length spots → (get_or spots i d).at ≤ length bytes
-starts_within bytes spots i d are within = at_within (get_or spots i d).at bytes (spot_in bytes spots i d are within).spelled
 
 -- a lower end, from the key's side
 pub turned_low : (lo k : Value) → not (is_lt (value_cmp k lo)) ≡ is_value_at_most lo k

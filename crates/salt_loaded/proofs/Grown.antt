@@ -68,7 +68,7 @@ pub row_grows : Grows (take_row true)
 row_grows = then_grows take_byte (λ n. only_if (is_row_length n) (take_each (take_value true) n)) byte_grows (λ n. if_grows (is_row_length n) (take_each (take_value true) n) (each_grows (take_value true) value_grows n))
 
 -- no row stands behind the last byte
-pub at_within : (at : ℕ) (bytes : List ℕ) → is_spelled (drop at bytes) ≡ true → at ≤ length bytes
+at_within : (at : ℕ) (bytes : List ℕ) → is_spelled (drop at bytes) ≡ true → at ≤ length bytes
 at_within zero bytes h = omega arith
 at_within (suc n) [] h = absurd cc
 at_within (suc n) (b ∷ bytes) h = let below = at_within n bytes h in omega arith
