@@ -69,16 +69,16 @@ pub fn key_text(row: &[u8]) -> &[u8]
     if *kind == 2 { text_in(rest) } else { &[] }
 }
 
-/// The key of the row at the front of bytes against another one. Nothing is made of it.
-pub fn key_cmp(row: &[u8], key: &Key) -> Ordering
-    requires { is_spelled row.now ≡ true }
-    ensures { result ≡ value_cmp (key_of (row_in row.now)) key.now }
+/// The key of a row against another one. Nothing is made of it.
+#[inline(always)]
+pub fn key_cmp(key: &KeyIn<'_>, other: &Key) -> Ordering
+    ensures { result ≡ value_cmp (key_told key.now) other.now }
 {
-    match (key_in(row), key) {
+    match (key, other) {
         (KeyIn::Number(number), Value::Int(other)) => number.cmp(other),
         (KeyIn::Number(_), _) => Ordering::Less,
         (KeyIn::Text(_), Value::Int(_)) => Ordering::Greater,
-        (KeyIn::Text(text), Value::Text(other)) => text.cmp(other.as_bytes()),
+        (KeyIn::Text(text), Value::Text(other)) => (*text).cmp(other.as_bytes()),
         (KeyIn::Text(_), Value::Null) => Ordering::Less,
         (KeyIn::Null, Value::Null) => Ordering::Equal,
         (KeyIn::Null, _) => Ordering::Greater,

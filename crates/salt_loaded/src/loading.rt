@@ -1,15 +1,14 @@
 //! Rows of a range, in any order, as they are spelled.
 
 ghost use Rattle.salt_bytes.specs.Values.{take_row};
+ghost use Rattle.salt_loaded.specs.Keys.{key_told};
 ghost use Rattle.salt_loaded.specs.Rows.{are_apart, row_within, tables_in, with_rows};
-ghost use Rattle.salt_loaded.specs.Spots.{is_spelled, row_in};
 ghost use Rattle.salt_ranges.specs.Ranges.{is_above_low, is_below_high};
-ghost use Rattle.salt_values.specs.Value.{key_of};
 ghost use Rattle.salt_values.specs.declared.value.Value.{Value};
 ghost use Rattle.std.specs.Prelude.{IfSome, List, None, OnOk, Some, [], false, length, true, ◌∷◌, ◌≡◌};
 
 use crate::among::{have_twins, sort};
-use crate::key::key_cmp;
+use crate::key::{KeyIn, key_cmp, key_in};
 use crate::loaded::Loaded;
 use crate::order::{Spot, spot_of};
 use salt_ranges::KeyRange;
@@ -36,24 +35,24 @@ impl Model for Loading {
     ghost invariant = { λ l. AreSpots l.bytes.items l.spots.items };
 }
 
-/// Whether the lower end leaves the key of a row inside.
-fn is_above_low(lo: &Option<Key>, row: &[u8]) -> bool
-    requires { is_spelled row.now ≡ true }
-    ensures { result ≡ is_above_low lo.now (key_of (row_in row.now)) }
+/// Whether the lower end leaves a key inside.
+#[inline(always)]
+fn is_above_low(lo: &Option<Key>, key: &KeyIn<'_>) -> bool
+    ensures { result ≡ is_above_low lo.now (key_told key.now) }
 {
     match lo {
-        Some(lo) => !key_cmp(row, lo).is_lt(),
+        Some(lo) => !key_cmp(key, lo).is_lt(),
         None => true,
     }
 }
 
-/// Whether the upper end leaves the key of a row inside.
-fn is_below_high(hi: &Option<Key>, row: &[u8]) -> bool
-    requires { is_spelled row.now ≡ true }
-    ensures { result ≡ is_below_high hi.now (key_of (row_in row.now)) }
+/// Whether the upper end leaves a key inside.
+#[inline(always)]
+fn is_below_high(hi: &Option<Key>, key: &KeyIn<'_>) -> bool
+    ensures { result ≡ is_below_high hi.now (key_told key.now) }
 {
     match hi {
-        Some(hi) => !key_cmp(row, hi).is_gt(),
+        Some(hi) => !key_cmp(key, hi).is_gt(),
         None => true,
     }
 }
@@ -103,7 +102,8 @@ impl Loading {
         requires { (r : List Value) × take_row true row.now ≡ Some (r, []) }
         ensures { (r : List Value) → take_row true row.now ≡ Some (r, []) → OnOk result (self.new ≡ with_rows (row_within range.now r) self.old) }
     {
-        if is_above_low(&range.lo, row) && is_below_high(&range.hi, row) {
+        let key = key_in(row);
+        if is_above_low(&range.lo, &key) && is_below_high(&range.hi, &key) {
             self.push(row)
         } else {
             Ok(())
