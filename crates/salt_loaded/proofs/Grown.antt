@@ -3,11 +3,12 @@ use Rattle.salt_bytes.specs.Numbers.{take_64}
 use Rattle.salt_bytes.specs.Taking.{Take, give, go_on, only_if, take_byte, take_bytes, take_each, then_take}
 use Rattle.salt_bytes.specs.Values.{is_row_length, take_row, take_value, take_value_of}
 use Rattle.salt_loaded.proofs.Fronts.{same_some, taken, went_on}
-use Rattle.salt_loaded.specs.Spots.{IsSpot, AreSpots, is_spelled, row_from, row_in, row_of, rows_at}
+use Rattle.salt_loaded.specs.Spots.{IsSpot, AreSpots, is_spelled, row_from, row_in, row_of, rows_at, spot_with}
 use Rattle.salt_loaded.specs.declared.order.Spot.{Spot}
 use Rattle.salt_values.specs.Text.{is_text}
 use Rattle.salt_values.specs.Value.{int_in, key_of, kind_number}
 use Rattle.salt_values.specs.declared.value.Value.TheVariants.{Int, Null, Text}
+use Rattle.salt_values.specs.declared.value.Value.{Value}
 use Rattle.std.proofs.Common.{Bool, List, Some, [], ap, arith, drop, false, length, refl, suc, sym, take, true, zero, ℕ, ◌++◌, ◌≡◌, ◌≤◌, ◌∙◌, ◌∷◌}
 use Rattle.std.specs.Int.{cast_signed, from_be_bytes, w64}
 use Rattle.std.specs.Prelude.{is_some}
@@ -110,6 +111,12 @@ module _ (bytes more : List ℕ) where
   pub with_row : (spots : List Spot) (s : Spot) → AreSpots bytes spots → s.at ≡ length bytes → rows_at (bytes ++ more) (spots ++ s ∷ []) ≡ rows_at bytes spots ++ (row_in more ∷ [])
   with_row [] s are at = ap (λ (n : ℕ). row_from (bytes ++ more) n ∷ []) at ∙ ap (λ (l : List ℕ). row_in l ∷ []) (drop_all bytes more)
   with_row (u ∷ spots) s are at = λ i. (same_from u.at are.0.spelled).1 i ∷ with_row spots s are.1 at i
+
+-- what is kept of a row that stands there
+pub spot_there : (bytes row : List ℕ) (key : Value) (at : ℕ) → drop at bytes ≡ row → is_spelled row ≡ true → key ≡ key_of (row_in row) → IsSpot bytes (spot_with key at)
+spot_there bytes row key at stands spelled is =
+    let same : key ≡ key_of (row_from bytes at) = is ∙ ap (λ l. key_of (row_in l)) (sym stands) in
+    record { spelled = ap is_spelled stands ∙ spelled; kind = ap kind_number same; number = ap int_in same }
 
 pub stands_behind : (bytes row : List ℕ) → drop (length bytes) (bytes ++ row) ≡ row
 stands_behind = drop_all

@@ -24,6 +24,10 @@ row_from bytes at = row_in (drop at bytes)
 abbrev pub rows_at : List ℕ → List Spot → List (List Value)
 rows_at bytes spots = map (λ s. row_from bytes s.at) spots
 
+-- what is kept of a row with this key, which stands there
+abbrev pub spot_with : Value → ℕ → Spot
+spot_with key at = record { number = int_in key; at = at; kind = kind_number key }
+
 -- a row is spelled there, and the spot tells of its key what it tells
 pub record IsSpot (bytes : List ℕ) (s : Spot) : Type 0 where
   pub spelled : is_spelled (drop s.at bytes) ≡ true

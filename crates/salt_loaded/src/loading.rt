@@ -3,7 +3,9 @@
 ghost use Rattle.salt_bytes.specs.Values.{take_row};
 ghost use Rattle.salt_loaded.specs.Keys.{key_told};
 ghost use Rattle.salt_loaded.specs.Rows.{are_apart, row_within, tables_in, with_rows};
+ghost use Rattle.salt_loaded.specs.Spots.{row_in};
 ghost use Rattle.salt_ranges.specs.Ranges.{is_above_low, is_below_high};
+ghost use Rattle.salt_values.specs.Value.{key_of};
 ghost use Rattle.salt_values.specs.declared.value.Value.{Value};
 ghost use Rattle.std.specs.Prelude.{IfSome, List, None, OnOk, Some, [], false, length, true, ◌∷◌, ◌≡◌};
 
@@ -88,12 +90,22 @@ impl Loading {
         requires { (r : List Value) × take_row true row.now ≡ Some (r, []) }
         ensures { (r : List Value) → take_row true row.now ≡ Some (r, []) → OnOk result (self.new ≡ with_rows (r ∷ []) self.old) }
     {
+        let key = key_in(row);
+        self.push_keyed(&key, row)
+    }
+
+    /// One row more, of which the key was read.
+    fn push_keyed(&mut self, key: &KeyIn<'_>, row: &[u8]) -> Result<(), AllocError>
+        requires spelled { (r : List Value) × take_row true row.now ≡ Some (r, []) }
+        requires key { key_told key.now ≡ key_of (row_in row.now) }
+        ensures { (r : List Value) → take_row true row.now ≡ Some (r, []) → OnOk result (self.new ≡ with_rows (r ∷ []) self.old) }
+    {
         let at = self.bytes.as_slice().len();
         if u32::MAX as usize <= at {
             return Err(AllocError);
         }
         self.bytes.extend_from_slice(row)?;
-        self.spots.push(spot_of(row, at as u32))?;
+        self.spots.push(spot_of(key, at as u32))?;
         Ok(())
     }
 
@@ -104,7 +116,7 @@ impl Loading {
     {
         let key = key_in(row);
         if is_above_low(&range.lo, &key) && is_below_high(&range.hi, &key) {
-            self.push(row)
+            self.push_keyed(&key, row)
         } else {
             Ok(())
         }

@@ -1,10 +1,11 @@
 //! Where rows stand among bytes, and the order of their keys.
 
+ghost use Rattle.salt_loaded.specs.Keys.{key_told};
 ghost use Rattle.salt_loaded.specs.Order.{spot_against, spot_order, spot_text};
-ghost use Rattle.salt_loaded.specs.Spots.{IsSpot, is_spelled};
-ghost use Rattle.std.specs.Prelude.{List, drop, true, ℕ, ◌≡◌};
+ghost use Rattle.salt_loaded.specs.Spots.{spot_with};
+ghost use Rattle.std.specs.Prelude.{◌≡◌};
 
-use crate::key::{KeyIn, key_in, key_text};
+use crate::key::{KeyIn, key_text};
 use salt_values::{Key, Value};
 use std::cmp::Ordering;
 
@@ -24,15 +25,13 @@ pub struct Spot {
     pub kind: u8,
 }
 
-/// The spot of a row that is spelled at the front of bytes, which stand there.
-pub fn spot_of(row: &[u8], at: u32) -> Spot
-    requires { is_spelled row.now ≡ true }
-    ensures spot { (bytes : List ℕ) → drop at bytes ≡ row.now → IsSpot bytes result }
-    ensures at { result.at ≡ at }
+/// The spot of a row with this key, which stands there.
+pub fn spot_of(key: &KeyIn<'_>, at: u32) -> Spot
+    ensures { result ≡ spot_with (key_told key.now) at }
 {
-    match key_in(row) {
+    match key {
         KeyIn::Number(number) => Spot {
-            number,
+            number: *number,
             at,
             kind: NUMBER,
         },

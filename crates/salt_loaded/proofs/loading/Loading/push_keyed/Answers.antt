@@ -1,9 +1,12 @@
 use Rattle.salt_loaded.proofs.Fronts.{row_is}
-use Rattle.salt_loaded.proofs.Grown.{stands_behind, stay, with_row, with_spot}
-use Rattle.salt_loaded.proofs.loading.Loading.push.Goals as goal
+use Rattle.salt_loaded.proofs.Grown.{spot_there, stands_behind, stay, with_row, with_spot}
+use Rattle.salt_loaded.proofs.loading.Loading.push_keyed.Goals as goal
+use Rattle.salt_loaded.specs.Keys.{key_told}
 use Rattle.salt_loaded.specs.Rows.{with_rows}
-use Rattle.salt_loaded.specs.Spots.{rows_at}
-use Rattle.std.proofs.Common.{[], ap, drop, length, ◌++◌, ◌∙◌, ◌∷◌}
+use Rattle.salt_loaded.specs.Spots.{IsSpot, rows_at}
+use Rattle.salt_loaded.specs.declared.order.Spot.{Spot}
+use Rattle.std.proofs.Common.{[], ap, drop, length, subst, sym, ◌++◌, ◌∙◌, ◌∷◌}
+use Rattle.std.specs.Prelude.{is_some}
 
 pub invariant_of-self-in_err-push : goal.invariant_of-self-in_err-push
 invariant_of-self-in_err-push c =
@@ -13,9 +16,10 @@ pub invariant_of-self-2 : goal.invariant_of-self-2
 invariant_of-self-2 c =
     let bytes = c.self.inside.bytes.items in
     let row = c.args.row.now in
+    let at = ap (λ l. drop (length l) (bytes ++ row)) c.as_slice-at.ensures.value ∙ stands_behind bytes row in
+    let is = spot_there (bytes ++ row) row (key_told c.args.key.now) (length c.as_slice-at.result.now) at (ap is_some c.requires.spelled.1) c.requires.key in
     rw (c.in_ok-extend_from_slice.ensures.items, c.in_ok-push.ensures.items)
-    (with_spot bytes row c.self.inside.spots.items c.spot_of.result c.self.invariant
-    (c.spot_of.ensures.spot (bytes ++ row) (ap (λ l. drop (length l) (bytes ++ row)) c.as_slice-at.ensures.value ∙ stands_behind bytes row)))
+    (with_spot bytes row c.self.inside.spots.items c.spot_of.result c.self.invariant (subst (IsSpot (bytes ++ row)) (sym c.spot_of.ensures) is))
 
 pub returns : goal.returns
 returns c =
@@ -25,6 +29,6 @@ returns c =
     let row = c.args.row.now in
     let rows =
     (λ i. rows_at (c.in_ok-extend_from_slice.ensures.items i) (c.in_ok-push.ensures.items i))
-    ∙ with_row bytes row spots c.spot_of.result c.self.invariant (c.spot_of.ensures.at ∙ ap length c.as_slice-at.ensures.value)
+    ∙ with_row bytes row spots c.spot_of.result c.self.invariant (ap (λ (s : Spot). s.at) c.spot_of.ensures ∙ ap length c.as_slice-at.ensures.value)
     ∙ ap (λ x. rows_at bytes spots ++ (x ∷ [])) (row_is row [] r h) in
     (λ i. record { table = c.self.inside.table; rows = rows i }) ∙ ap (with_rows (r ∷ [])) c.self.view_is
