@@ -1,11 +1,11 @@
 -- Tags: that of a key where it is spelled, those that a page keeps, and which rows a search goes past.
 use Rattle.memchr.specs.Find.{NoneBefore, Nowhere, Passes, is_byte}
-use Rattle.salt_bytes.proofs.Only.{only_value, pair_only}
-use Rattle.salt_bytes.proofs.Values.{takes_value}
+use Rattle.salt_bytes.proofs.Only.{only_value}
 use Rattle.salt_bytes.specs.Page.{TableRow}
 use Rattle.salt_bytes.specs.Spellable.{AreBytes, IsSpellableValue}
+use Rattle.salt_bytes.specs.Taking.{give, go_on, take_each, then_take}
 use Rattle.salt_bytes.specs.Values.{is_row_length, spell_value, take_value}
-use Rattle.salt_pages.proofs.Found.{IsPast, key_at, past_all}
+use Rattle.salt_pages.proofs.Found.{IsPast, past_all}
 use Rattle.salt_pages.proofs.Inserted.{row_of}
 use Rattle.salt_pages.proofs.Spelled.{as_many, own_rows, read_back}
 use Rattle.salt_pages.proofs.Taken.{drop_to_end}
@@ -14,9 +14,8 @@ use Rattle.salt_pages.specs.Tags.{IsTagged, row_tag, tag_of, tags_of}
 use Rattle.salt_values.specs.Value.{key_of}
 use Rattle.salt_values.specs.declared.value.Value.TheVariants.{Int, Null, Text}
 use Rattle.salt_values.specs.declared.value.Value.{Value}
-use Rattle.std.proofs.Common.{List, None, Option, Some, [], ap, arith, drop, get_or, inl, inr, length, length-append, length-drop, refl, subst, suc, sym, take, true, zero, ℕ, ◌+◌, ◌++◌, ◌-◌, ◌<◌, ◌≡◌, ◌≤◌, ◌∙◌, ◌∷◌, ◌⊎◌}
-use Rattle.std.proofs.Math.Seq.{take-suc}
-use Rattle.std.proofs.lemmas.List.{get_or-drop, get_or_append_left, map-append, take_all}
+use Rattle.std.proofs.Common.{Bool, List, None, Some, [], ap, arith, drop, get_or, inl, inr, length, length-append, length-drop, refl, subst, suc, sym, take, true, zero, ℕ, ◌+◌, ◌++◌, ◌-◌, ◌<◌, ◌≡◌, ◌≤◌, ◌∙◌, ◌∷◌, ◌⊎◌}
+use Rattle.std.proofs.lemmas.List.{get_or-drop, get_or_append_left, map-append}
 use Rattle.std.specs.List.{remove}
 use Rattle.std.specs.Prelude.{nat_eq, slice_get}
 
@@ -27,27 +26,25 @@ some_bytes (Int z) = omega arith
 some_bytes (Text t) = omega arith
 some_bytes Null = omega arith
 
-module _ (bytes : List ℕ) (small : AreBytes bytes) (v : Value) (behind : List ℕ) (taken : take_value true bytes ≡ Some (v, behind)) where
+-- of the key that is taken of these bytes
+module _ (nulls : Bool) (bytes : List ℕ) (small : AreBytes bytes) (v : Value) (behind : List ℕ) (taken : take_value nulls bytes ≡ Some (v, behind)) where
   spelled : bytes ≡ spell_value v ++ behind
-  spelled = (only_value true).only bytes small v behind taken
+  spelled = (only_value nulls).only bytes small v behind taken
 
   pub shorter : length behind + 1 ≤ length bytes
   shorter = omega (arith, ap length spelled, length-append (spell_value v) behind, some_bytes v)
 
-  last : get_or bytes (length bytes - length behind - 1) 0 ≡ tag_of v
+  pub last : get_or bytes (length bytes - length behind - 1) 0 ≡ tag_of v
   last =
       let place : length bytes - length behind - 1 ≡ length (spell_value v) - 1 = omega (arith, ap length spelled, length-append (spell_value v) behind) in
       (λ i. get_or (spelled i) (place i) 0) ∙ get_or_append_left (spell_value v) behind 0 (length (spell_value v) - 1) (omega (arith, some_bytes v))
 
-  -- of the key that is spelled there
-  pub last_of : (key : Value) (rest : List ℕ) → IsSpellableValue true key → bytes ≡ spell_value key ++ rest → get_or bytes (length bytes - length behind - 1) 0 ≡ tag_of key
-  last_of key rest good is = last ∙ ap tag_of (pair_only v key behind rest (sym taken ∙ ap (take_value true) is ∙ (takes_value true key good).taken rest)).0
-
-pub none_there : (bytes : List ℕ) → take_value true bytes ≡ None → (key : Value) (rest : List ℕ) → IsSpellableValue true key → bytes ≡ spell_value key ++ rest → 0 ≡ tag_of key
-none_there bytes none key rest good is = absurd (never (sym none ∙ ap (take_value true) is ∙ (takes_value true key good).taken rest))
-  where
-    never : ◌≡◌ {A = Option (Value × List ℕ)} None (Some (key, rest)) → ⊥
-    never e = cc
+  -- and behind it the others of its row
+  pub row_taken : (count : ℕ) (vs : List Value) (rest : List ℕ) → 1 ≤ count → take_each (take_value nulls) (count - 1) behind ≡ Some (vs, rest) → take_each (take_value nulls) count bytes ≡ Some (v ∷ vs, rest)
+  row_taken zero vs rest some others = absurd (omega (arith, some))
+  row_taken (suc n) vs rest some others =
+      let same : suc n - 1 ≡ n = omega arith in
+      ap (go_on (λ x. then_take (take_each (take_value nulls) n) (λ xs. give (x ∷ xs)))) taken ∙ ap (go_on (λ xs. give (v ∷ xs))) (ap (λ k. take_each (take_value nulls) k behind) (sym same) ∙ others)
 
 -- THE TAGS OF ROWS
 
@@ -73,25 +70,8 @@ tags_removed (r ∷ rows) (suc i) = ap (λ (l : List ℕ). row_tag r ∷ l) (tag
 pub tagged_so : (bytes places tags : List ℕ) (free : ℕ) (rows : List TableRow) → IsSpelled bytes places free rows → tags ≡ tags_of rows → IsTagged bytes places tags free
 tagged_so bytes places tags free rows h is = record { spelled = own_rows bytes places free rows h; tagged = is ∙ ap tags_of (sym (read_back bytes places free rows h)) }
 
-module _ (bytes places : List ℕ) (h : IsSpelledSo bytes places) where
-  many : length (tags_of (page_rows bytes)) ≡ length places
-  many = as_many_tags (page_rows bytes) ∙ sym (as_many bytes places h.free (page_rows bytes) h.is)
-
-  -- the tags of the rows before this one, as they are collected
-  pub tags_next : (tags more : List ℕ) (tag i : ℕ) (low : i < length places) (key : List ℕ) → key ≡ drop (get_or places i 0 + 3) bytes
-      → ((k : Value) (rest : List ℕ) → IsSpellableValue true k → key ≡ spell_value k ++ rest → tag ≡ tag_of k)
-      → tags ≡ take i (tags_of (page_rows bytes)) → more ≡ tags ++ tag ∷ [] → more ≡ take (i + 1) (tags_of (page_rows bytes))
-  tags_next tags more tag i low key is says so put =
-      let at = key_at bytes places h i low in
-      let here : tag ≡ get_or (tags_of (page_rows bytes)) i 0 = says (key_of at.row.row) at.rest at.good (is ∙ at.spelled) ∙ sym (tag_at_row (page_rows bytes) i at.row at.is) in
-      let next : suc i ≡ i + 1 = omega arith in
-      put ∙ (λ j. so j ++ here j ∷ []) ∙ sym (take-suc (tags_of (page_rows bytes)) i 0 (omega (arith, low, many))) ∙ ap (λ (n : ℕ). take n (tags_of (page_rows bytes))) next
-
-  pub tags_all : (tags : List ℕ) (i : ℕ) → length places ≤ i → tags ≡ take i (tags_of (page_rows bytes)) → tags ≡ tags_of (page_rows bytes)
-  tags_all tags i end so = so ∙ take_all i (tags_of (page_rows bytes)) (omega (arith, end, many))
-
-  pub many_tags : (tags : List ℕ) → tags ≡ tags_of (page_rows bytes) → length tags ≡ length places
-  many_tags tags is = ap length is ∙ many
+many_tags : (bytes places tags : List ℕ) → IsSpelledSo bytes places → tags ≡ tags_of (page_rows bytes) → length tags ≡ length places
+many_tags bytes places tags h is = ap length is ∙ as_many_tags (page_rows bytes) ∙ sym (as_many bytes places h.free (page_rows bytes) h.is)
 
 -- A SEARCH
 
@@ -125,7 +105,7 @@ module _ (bytes places tags : List ℕ) (h : IsSpelledSo bytes places) (are : ta
   whole = drop_to_end from tags within
 
   size : from + length left ≡ length places
-  size = omega (arith, within, ap length whole, length-drop from tags, many_tags bytes places h tags are)
+  size = omega (arith, within, ap length whole, length-drop from tags, many_tags bytes places tags h are)
 
   module _ (table : ℕ) (key : List ℕ) (past : IsPast table key (page_rows bytes) from) where
     abbrev tag : ℕ
@@ -139,7 +119,7 @@ module _ (bytes places tags : List ℕ) (h : IsSpelledSo bytes places) (are : ta
       in_places = omega (arith, size, first.high)
 
       pub within_next : from + ahead + 1 ≤ length tags
-      within_next = omega (arith, in_places, many_tags bytes places h tags are)
+      within_next = omega (arith, in_places, many_tags bytes places tags h are)
 
       pub past_so_far : IsPast table key (page_rows bytes) (from + ahead)
       past_so_far = gone_past ahead first.before

@@ -9,8 +9,12 @@ use Rattle.std.specs.Prelude.{List, get_or, length, map, ℕ, ◌-◌, ◌≡◌
 abbrev pub tag_of : Value → ℕ
 tag_of key = get_or (spell_value key) (length (spell_value key) - 1) 0
 
+-- of a row's values
+abbrev pub key_tag : List Value → ℕ
+key_tag row = tag_of (key_of row)
+
 abbrev pub row_tag : TableRow → ℕ
-row_tag r = tag_of (key_of r.row)
+row_tag r = key_tag r.row
 
 abbrev pub tags_of : List TableRow → List ℕ
 tags_of rows = map row_tag rows

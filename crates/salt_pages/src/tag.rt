@@ -1,16 +1,11 @@
 //! A row's tag, the last byte of its key as it is spelled: most rows are told apart by it.
 
-ghost use Rattle.salt_bytes.specs.Spellable.{IsSpellableValue};
-ghost use Rattle.salt_bytes.specs.Values.{spell_value};
-ghost use Rattle.salt_pages.specs.Pages.{IsSpelledSo, page_rows};
-ghost use Rattle.salt_pages.specs.Tags.{tag_of, tags_of};
-ghost use Rattle.salt_values.specs.declared.value.Value.{Value};
-ghost use Rattle.std.specs.Prelude.{IfOk, List, OnErr, OnOk, [], true, ℕ, ◌++◌, ◌∷◌, ◌≡◌};
+ghost use Rattle.salt_pages.specs.Tags.{tag_of};
+ghost use Rattle.std.specs.Prelude.{OnErr, OnOk, [], ◌++◌, ◌∷◌, ◌≡◌};
 
-use crate::behind::{behind_value, bytes_from};
 use crate::fill::bytes_of;
 use salt_values::Key;
-use std::alloc::{AllocError, Global};
+use std::alloc::AllocError;
 
 /// A key's tag.
 pub fn tag_of(key: &Key) -> u8
@@ -28,29 +23,6 @@ pub fn tag_of(key: &Key) -> u8
         }
         Key::Null => 0,
     }
-}
-
-/// The tag of the key that is spelled at the front of bytes.
-fn tag_at(bytes: &[u8]) -> u8
-    ensures { (key : Value) (rest : List ℕ) → IsSpellableValue true key → bytes.now ≡ spell_value key ++ rest → result ≡ tag_of key }
-{
-    let Some(behind) = behind_value(true, bytes) else {
-        return 0;
-    };
-    bytes[bytes.len() - behind.len() - 1]
-}
-
-/// The tags of a page's rows.
-pub fn tags_in(alloc: Global, bytes: &[u8], places: &[u16]) -> Result<Vec<u8>, AllocError>
-    requires { IsSpelledSo bytes.now places.now }
-    ensures { IfOk result (λ tags. tags.items ≡ tags_of (page_rows bytes.now)) }
-{
-    let mut tags = Vec::with_capacity(alloc, places.len())?;
-    for i in 0..places.len() {
-        let key = places[i] as usize + 3;
-        tags.push(tag_at(bytes_from(bytes, key)))?;
-    }
-    Ok(tags)
 }
 
 /// A row's place and its tag behind those of the others; neither where memory runs out.
