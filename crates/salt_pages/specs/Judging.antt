@@ -22,6 +22,7 @@ pub record AreRows (nulls : Bool) (count : ℕ) (bytes places tags rest : List �
   pub tagged : tags ≡ tags_of rows
   pub number : length rows ≡ count
 
-abbrev pub AreJudged : Bool → ℕ → List ℕ → Option (List ℕ × List ℕ × List ℕ) → Type 0
-AreJudged nulls count bytes None = take_each (take_table_row nulls) count bytes ≡ None
-AreJudged nulls count bytes (Some found) = AreRows nulls count bytes found.0 found.1 found.2
+-- so many rows are looked for, and these bytes are left; None exactly where so many do not stand there
+abbrev pub AreJudged : Bool → ℕ → List ℕ → List ℕ → List ℕ → Option (List ℕ) → Type 0
+AreJudged nulls count bytes places tags None = take_each (take_table_row nulls) count bytes ≡ None
+AreJudged nulls count bytes places tags (Some rest) = AreRows nulls count bytes places tags rest
