@@ -137,9 +137,12 @@ first_value : (row : List Value) (d : Value) → 1 ≤ length row → get_or row
 first_value [] d some = absurd (omega (arith, some))
 first_value (v ∷ row) d some = refl
 
+pub tags_more : (rows : List TableRow) (r : TableRow) (tags more : List ℕ) (tag : ℕ) → tag ≡ row_tag r → tags ≡ tags_of rows → more ≡ tags ++ tag ∷ [] → more ≡ tags_of (rows ++ r ∷ [])
+tags_more rows r tags more tag says are put = put ∙ (λ i. are i ++ says i ∷ []) ∙ sym (map-append row_tag rows (r ∷ []))
+
 -- the tag of the row that is put behind the others, as its first value says it
 pub tags_push : (rows : List TableRow) (table : ℕ) (row seen : List Value) (d : Value) (tags more : List ℕ) (tag : ℕ) → is_row_length (length row) ≡ true → seen ≡ row → tag ≡ tag_of (get_or seen 0 d) → tags ≡ tags_of rows → more ≡ tags ++ tag ∷ []
     → more ≡ tags_of (rows ++ row_of table row ∷ [])
 tags_push rows table row seen d tags more tag some same says are put =
     let here : tag ≡ tag_of (key_of row) = says ∙ ap (λ (l : List Value). tag_of (get_or l 0 d)) same ∙ ap tag_of (first_value row d (some_values row some)) in
-    put ∙ (λ i. are i ++ here i ∷ []) ∙ sym (map-append row_tag rows (row_of table row ∷ []))
+    tags_more rows (row_of table row) tags more tag here are put
