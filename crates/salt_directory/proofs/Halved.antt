@@ -10,7 +10,7 @@ use Rattle.salt_model.specs.Tables.{Tables, place_cmp, put_row, remove_at, row_a
 use Rattle.salt_model.specs.declared.places.Place.{Place}
 use Rattle.salt_stands.proofs.Places.{equal_is, place_same, row_at_set, same_tables}
 use Rattle.salt_values.specs.declared.value.Value.{Value}
-use Rattle.std.proofs.Common.{Bool, List, None, Option, Some, [], ap, arith, cond, false, get_or, length, refl, set, subst, sym, true, ℕ, ◌++◌, ◌<◌, ◌≡◌, ◌∙◌, ◌∷◌}
+use Rattle.std.proofs.Common.{Bool, List, None, Option, Some, [], ap, append_assoc, arith, cond, drop, false, get_or, length, refl, set, subst, suc, sym, true, zero, ℕ, ◌+◌, ◌++◌, ◌<◌, ◌≡◌, ◌∙◌, ◌∷◌}
 use Rattle.std.proofs.lemmas.List.{get_or-set_same, get_or_append_left, get_or_push, length-set, length_push, set-append_left, set-get_or, set-set, set_at}
 use Rattle.std.specs.BTreeMap.{insert_entry, is_at}
 use Rattle.std.specs.List.{remove}
@@ -28,6 +28,44 @@ gone_more [] from to mid to_mid i r q h there of = (
   (ap (λ (l : List TableRow). remove l i) h.0, ap (λ (l : List TableRow). l ++ r ∷ []) h.1),
 )
 gone_more (p ∷ ps) from to mid to_mid i r q h there of = (h.0, h.1, h.2, h.3, gone_more ps (remove from h.0) (to ++ h.1 ∷ []) mid to_mid i r q h.4 there of)
+
+-- PARTED, one row after another: those behind stand behind the lower ones still
+
+row_at_seam : (xs : List TableRow) (r : TableRow) (ys : List TableRow) → slice_get (xs ++ r ∷ ys) (length xs) ≡ Some r
+row_at_seam [] r ys = refl
+row_at_seam (x ∷ xs) r ys = row_at_seam xs r ys
+
+without_seam : (xs : List TableRow) (r : TableRow) (ys : List TableRow) → remove (xs ++ r ∷ ys) (length xs) ≡ xs ++ ys
+without_seam [] r ys = refl
+without_seam (x ∷ xs) r ys = ap (λ (l : List TableRow). x ∷ l) (without_seam xs r ys)
+
+-- the next row, and those behind it
+rows_from : (rows : List TableRow) (i : ℕ) (r : TableRow) → slice_get rows i ≡ Some r → drop i rows ≡ r ∷ drop (i + 1) rows
+rows_from [] i r is = cc
+rows_from (x ∷ rows) zero r is = ap (λ (y : TableRow). y ∷ rows) same
+  where
+    same : x ≡ r
+    same = cc
+rows_from (x ∷ rows) (suc i) r is =
+    let next : suc (i + 1) ≡ suc i + 1 = omega arith in
+    rows_from rows i r is ∙ ap (λ (n : ℕ). r ∷ drop n (x ∷ rows)) next
+
+module _ (qs : List Place) (page lower upper : List TableRow) (i : ℕ) (r : TableRow) (so_far : HaveGone qs page [] (lower ++ drop i page) upper) (there : slice_get page i ≡ Some r) (qs' : List Place) (lower' upper' : List TableRow) where
+  now : HaveGone qs page [] (lower ++ r ∷ drop (i + 1) page) upper
+  now = subst (λ (l : List TableRow). HaveGone qs page [] (lower ++ l) upper) (rows_from page i r there) so_far
+
+  same : (ps : List Place) (rows rows' others : List TableRow) → qs' ≡ ps → rows' ≡ rows → upper' ≡ others → HaveGone ps page [] rows others → HaveGone qs' page [] rows' upper'
+  same ps rows rows' others a b c h =
+      subst (λ (l : List Place). HaveGone l page [] rows' upper') (sym a) (subst (λ (l : List TableRow). HaveGone ps page [] l upper') (sym b) (subst (λ (l : List TableRow). HaveGone ps page [] rows l) (sym c) h))
+
+  pub next_stays : qs' ≡ qs → lower' ≡ lower ++ r ∷ [] → upper' ≡ upper → HaveGone qs' page [] (lower' ++ drop (i + 1) page) upper'
+  next_stays a b c = same qs (lower ++ r ∷ drop (i + 1) page) (lower' ++ drop (i + 1) page) upper a (ap (λ (l : List TableRow). l ++ drop (i + 1) page) b ∙ append_assoc lower (r ∷ []) (drop (i + 1) page)) c now
+
+  pub next_goes : (q : Place) → place_of_row r ≡ q → qs' ≡ qs ++ q ∷ [] → lower' ≡ lower → upper' ≡ upper ++ r ∷ [] → HaveGone qs' page [] (lower' ++ drop (i + 1) page) upper'
+  next_goes q of a b c =
+      same (qs ++ q ∷ []) (remove (lower ++ r ∷ drop (i + 1) page) (length lower)) (lower' ++ drop (i + 1) page) (upper ++ r ∷ []) a
+      (ap (λ (l : List TableRow). l ++ drop (i + 1) page) b ∙ sym (without_seam lower r (drop (i + 1) page))) c
+      (gone_more qs page [] (lower ++ r ∷ drop (i + 1) page) upper (length lower) r q now (row_at_seam lower r (drop (i + 1) page)) of)
 
 -- one more place comes
 pub placed_more : (page : ℕ) (qs : List Place) (q : Place) (directory : List (Place × ℕ)) → placed_on page (qs ++ q ∷ []) directory ≡ insert_entry place_cmp (placed_on page qs directory) q page

@@ -3,7 +3,6 @@ pub mod Bounds
 pub mod Changed
 pub mod Halved
 pub mod Keys
-pub mod Lengths
 pub mod Listed
 pub mod Loading
 pub mod Marking
@@ -12,6 +11,7 @@ pub mod PageAt
 pub mod Parts
 pub mod Placed
 pub mod Rooms
+pub mod Spelled
 pub mod Split
 pub mod Totals
 pub mod Wider

@@ -1,16 +1,14 @@
 //! A page is split, so that rows of neighbouring keys stand together.
 
-ghost use Rattle.salt_bytes.specs.Values.{is_row_length};
-ghost use Rattle.salt_directory.specs.Halves.{HaveGone, IsHalved, placed_on};
-ghost use Rattle.salt_values.specs.Value.{key_of};
-ghost use Rattle.std.specs.Prelude.{IfOk, OnOk, Some, [], length, slice_get, true, ◌<◌, ◌≡◌};
+ghost use Rattle.salt_bytes.specs.Page.{TableRow, take_table_row};
+ghost use Rattle.salt_directory.specs.Halves.{HaveGone, IsHalved, place_of_row, placed_on};
+ghost use Rattle.std.specs.Prelude.{IfOk, IfSome, IsTrue, OnOk, Some, [], true, ◌++◌, ◌∷◌, ◌≡◌};
 
 use crate::directory::Directory;
-use crate::page::{free_bytes, put_if_room};
-use salt_eval::key_of;
+use crate::page::free_bytes;
+use salt_codec::take::take_value;
 use salt_model::Place;
-use salt_pages::Page;
-use salt_values::Row;
+use salt_pages::{Page, PageErr};
 use std::alloc::{AllocError, Global};
 
 /// What a page that is split gives away.
@@ -26,60 +24,106 @@ pub struct Half {
     pub left: u16,
 }
 
-/// A row of a page, and its place.
-fn placed_row(alloc: Global, page: &Page, i: usize) -> Result<(Place, Row), AllocError>
-    requires { i < length page.now }
-    ensures row { IfOk result (λ found. slice_get page.now i ≡ Some (record { table = found.0.table; row = found.1 })) }
-    ensures key { IfOk result (λ found. found.0.key ≡ key_of found.1) }
-    ensures length { IfOk result (λ found. is_row_length (length found.1) ≡ true) }
+/// How many places of a page's rows tell about where its middle is.
+const SEEN: usize = 64;
+
+/// The place of a row that is spelled behind its table's number; none is given where no row is spelled, as where memory runs out.
+fn place_in(alloc: Global, spelled: &[u8]) -> Result<Place, AllocError>
+    ensures { IfOk result (λ place. (r : TableRow) → take_table_row true spelled.now ≡ Some (r, []) → place_of_row r ≡ place) }
 {
-    // what is spelled on a page has a row's length
-    let _spelled = page.spelled(i);
-    let (table, row) = page.row(alloc, i)?;
-    let key = key_of(alloc, row.as_slice())?;
-    Ok((Place { table, key }, row))
+    let [high, low, _values, key @ ..] = spelled else {
+        return Err(AllocError);
+    };
+    let Ok((key, _rest)) = take_value(alloc, true, key) else {
+        return Err(AllocError);
+    };
+    Ok(Place {
+        table: u16::from_be_bytes([*high, *low]),
+        key,
+    })
 }
 
-/// The places of the rows of a page, in order.
-fn places_on(alloc: Global, page: &Page) -> Result<Vec<Place>, AllocError> {
-    let mut places = Vec::with_capacity(alloc, page.count())?;
+/// The places of some of a page's rows, in order: of each row where they are few.
+fn some_places(alloc: Global, page: &Page) -> Result<Vec<Place>, AllocError> {
+    let step = 1 + page.count() / SEEN;
+    let mut places = Vec::with_capacity(alloc, SEEN)?;
     for i in 0..page.count() {
-        let (place, _row) = placed_row(alloc, page, i)?;
-        places.push(place)?;
+        if i % step == 0 {
+            places.push(place_in(alloc, page.spelled(i))?)?;
+        }
     }
     places.as_mut_slice().sort_unstable();
     Ok(places)
 }
 
-/// The rows of a page at a place and above go to a page of their own, which is given with their places.
-fn upper_rows(
-    alloc: Global,
-    page: &mut Page,
-    middle: &Place,
-) -> Result<(Page, Vec<Place>), AllocError>
-    ensures { IfOk result (λ upper. HaveGone upper.1.items page.old [] page.new upper.0) }
+/// Puts a row of another page behind the others, where it has room. Whether it had.
+fn append_if_room(page: &mut Page, spelled: &[u8]) -> Result<bool, AllocError>
+    requires { (r : TableRow) × take_table_row true spelled.now ≡ Some (r, []) }
+    ensures { IfOk result (λ put. IsTrue put → (r : TableRow) → take_table_row true spelled.now ≡ Some (r, []) → page.new ≡ page.old ++ r ∷ []) }
 {
-    let mut upper = Page::new(alloc)?;
-    let mut places = Vec::new(alloc);
-    let mut i = page.count();
-    while 0 < i {
-        i -= 1;
-        let (place, row) = placed_row(alloc, page, i)?;
-        if *middle <= place && put_if_room(&mut upper, place.table, &row)? {
-            page.remove(i);
-            places.push(place)?;
-        }
+    match page.append(spelled) {
+        Ok(()) => Ok(true),
+        Err(PageErr::Full) => Ok(false),
+        Err(PageErr::Memory) => Err(AllocError),
     }
-    Ok((upper, places))
 }
 
-/// The rows of a page from its middle on, in order of places, go to a new page.
+/// The rows of a page on two pages: those below a place, and those from there on with their places.
+#[derive(Drop)]
+struct Parts {
+    lower: Page,
+    upper: Page,
+    places: Vec<Place>,
+}
+
+/// The parts of a page at a place; none where a row has no room on the page of its part.
+fn part_rows(alloc: Global, page: &Page, middle: &Place) -> Result<Option<Parts>, AllocError>
+    ensures { IfOk result (λ parts. IfSome parts (λ p. HaveGone p.places.items page.now [] p.lower p.upper)) }
+{
+    let mut lower = Page::new(alloc)?;
+    let mut upper = Page::new(alloc)?;
+    let mut places = Vec::new(alloc);
+    for i in 0..page.count() {
+        let spelled = page.spelled(i);
+        let place = place_in(alloc, spelled)?;
+        if place < *middle {
+            if !append_if_room(&mut lower, spelled)? {
+                return Ok(None);
+            }
+        } else if append_if_room(&mut upper, spelled)? {
+            places.push(place)?;
+        } else {
+            return Ok(None);
+        }
+    }
+    Ok(Some(Parts {
+        lower,
+        upper,
+        places,
+    }))
+}
+
+/// The rows of a page from about its middle on, in order of places, go to a new page. Both are built anew, since a row that is taken out of a
+/// page moves all that stand behind it.
 pub fn split_page(alloc: Global, page: &mut Page) -> Result<Half, AllocError>
     ensures { IfOk result (IsHalved page.old page.new) }
 {
-    let all = places_on(alloc, page)?;
-    let (upper, places) = match all.as_slice().get(all.len() / 2) {
-        Some(middle) => upper_rows(alloc, page, middle)?,
+    let some = some_places(alloc, page)?;
+    let parts = match some.as_slice().get(some.len() / 2) {
+        Some(middle) => part_rows(alloc, page, middle)?,
+        None => None,
+    };
+    let (upper, places) = match parts {
+        Some(
+            Parts {
+                lower,
+                upper,
+                places,
+            },
+        ) => {
+            *page = lower;
+            (upper, places)
+        }
         None => (Page::new(alloc)?, Vec::new(alloc)),
     };
     let free = free_bytes(&upper);

@@ -50,7 +50,7 @@ pub(crate) fn free_bytes(page: &Page) -> u16
 }
 
 /// Puts a row behind the others, where it has room. Whether it had.
-pub(crate) fn put_if_room(page: &mut Page, table: u16, row: &Row) -> Result<bool, AllocError>
+fn put_if_room(page: &mut Page, table: u16, row: &Row) -> Result<bool, AllocError>
     requires { is_row_length (length row.now) ≡ true }
     ensures put { IfOk result (λ put. IsTrue put → page.new ≡ page.old ++ one_row table (Some row.now)) }
     ensures same { IfOk result (λ put. put ≡ false → page.new ≡ page.old) }
