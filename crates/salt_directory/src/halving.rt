@@ -14,7 +14,7 @@ use std::alloc::{AllocError, Global};
 /// What a page that is split gives away.
 #[derive(Drop)]
 pub struct Half {
-    /// The rows from its middle on, in order of places, on a page of their own.
+    /// The rows from about its middle on, in order of places, on a page of their own.
     pub page: Page,
     /// Their places.
     pub places: Vec<Place>,
