@@ -129,11 +129,11 @@ module _ (bytes places tags : List ℕ) (h : IsSpelledSo bytes places) (are : ta
 
 -- A ROW MORE
 
-some_values : (row : List Value) → is_row_length (length row) ≡ true → 1 ≤ length row
+pub some_values : (row : List Value) → is_row_length (length row) ≡ true → 1 ≤ length row
 some_values [] some = cc
 some_values (v ∷ row) some = omega arith
 
-first_value : (row : List Value) (d : Value) → 1 ≤ length row → get_or row 0 d ≡ key_of row
+pub first_value : (row : List Value) (d : Value) → 1 ≤ length row → get_or row 0 d ≡ key_of row
 first_value [] d some = absurd (omega (arith, some))
 first_value (v ∷ row) d some = refl
 
