@@ -101,3 +101,16 @@ found_still p (x ∷ xs) ys r other some = by (is_row_at p x) (λ h. found_still
     by : (b : Bool) → (is_some (found_row p (xs ++ r ∷ ys)) ≡ true → is_some (found_row p (xs ++ ys)) ≡ true) → is_some (cond b (Some x.row) (found_row p (xs ++ r ∷ ys))) ≡ true → is_some (cond b (Some x.row) (found_row p (xs ++ ys))) ≡ true
     by true on h = refl
     by false on h = on h
+
+-- a row more hides none
+pub found_beside : (p : Place) (xs ys : List TableRow) (r : TableRow) → is_some (found_row p (xs ++ ys)) ≡ true → is_some (found_row p (xs ++ r ∷ ys)) ≡ true
+found_beside p [] ys r some = by (is_row_at p r)
+  where
+    by : (b : Bool) → is_some (cond b (Some r.row) (found_row p ys)) ≡ true
+    by true = refl
+    by false = some
+found_beside p (x ∷ xs) ys r some = by (is_row_at p x) (λ h. found_beside p xs ys r h) some
+  where
+    by : (b : Bool) → (is_some (found_row p (xs ++ ys)) ≡ true → is_some (found_row p (xs ++ r ∷ ys)) ≡ true) → is_some (cond b (Some x.row) (found_row p (xs ++ ys))) ≡ true → is_some (cond b (Some x.row) (found_row p (xs ++ r ∷ ys))) ≡ true
+    by true on h = refl
+    by false on h = on h

@@ -5,7 +5,7 @@ use Rattle.salt_checkpoint.proofs.Rows.{found_changed, row_found}
 use Rattle.salt_checkpoint.specs.Rows.{found_row, is_row_at}
 use Rattle.salt_model.specs.Tables.{Tables, no_rows, place_cmp, put_row, remove_at, row_at, set_row, with_changes}
 use Rattle.salt_model.specs.declared.places.Place.{Place}
-use Rattle.salt_directory.proofs.Alike.{apart_behind, apart_front, away_none, found_at, found_front, found_still, found_there, turned}
+use Rattle.salt_directory.proofs.Alike.{apart_behind, apart_front, away_none, found_at, found_beside, found_front, found_still, found_there, turned}
 use Rattle.salt_directory.proofs.Keys.{keys_gone, keys_put, keys_stay, page_alike, page_put}
 use Rattle.salt_directory.proofs.Split.{Split, own_rows, parted, rows_push, split}
 use Rattle.salt_directory.specs.Pages.{AreRowsOf, IsOn, all_rows, page_of}
@@ -180,26 +180,26 @@ module _ (directory : List (Place × ℕ)) (pages : List (List TableRow)) (t : T
           by p k true at h = cc
           by p k false at h = inl (at, h)
 
-      -- REPLACED by another one of its place
-      module _ (s : TableRow) (same : place_of s ≡ place_of r) (placed : page_of directory (place_of r) ≡ Some page) where
+      -- REPLACED by another one of its place, which stands anywhere among the others
+      module _ (s : TableRow) (same : place_of s ≡ place_of r) (placed : page_of directory (place_of r) ≡ Some page) (xs ys : List TableRow) (others : remove (get_or pages page []) i ≡ xs ++ ys) where
         abbrev swapped : List TableRow
-        swapped = remove old i ++ s ∷ []
+        swapped = xs ++ s ∷ ys
 
-        whole : all_rows (set pages page swapped) ≡ (here.before ++ (front ++ back)) ++ s ∷ rest
-        whole = here.is swapped ∙ ap (λ (l : List TableRow). here.before ++ l) (append_assoc (front ++ back) (s ∷ []) rest) ∙ sym (append_assoc here.before (front ++ back) (s ∷ rest))
+        whole : all_rows (set pages page swapped) ≡ (here.before ++ xs) ++ s ∷ (ys ++ rest)
+        whole = here.is swapped ∙ ap (λ (l : List TableRow). here.before ++ l) (append_assoc xs (s ∷ ys) rest) ∙ sym (append_assoc here.before xs (s ∷ (ys ++ rest)))
 
         -- without both
-        bare : (here.before ++ front) ++ (back ++ rest) ≡ (here.before ++ (front ++ back)) ++ rest
+        bare : (here.before ++ front) ++ (back ++ rest) ≡ (here.before ++ xs) ++ (ys ++ rest)
         bare =
             append_assoc here.before front (back ++ rest)
-            ∙ ap (λ (l : List TableRow). here.before ++ l) (sym (append_assoc front back rest))
-            ∙ sym (append_assoc here.before (front ++ back) rest)
+            ∙ ap (λ (l : List TableRow). here.before ++ l) (sym (append_assoc front back rest) ∙ ap (λ (l : List TableRow). l ++ rest) others ∙ append_assoc xs ys rest)
+            ∙ sym (append_assoc here.before xs (ys ++ rest))
 
-        away_s : are_away (place_of s) ((here.before ++ (front ++ back)) ++ rest) ≡ true
-        away_s = subst (λ q. are_away q ((here.before ++ (front ++ back)) ++ rest) ≡ true) (sym same) (subst (λ (l : List TableRow). are_away (place_of r) l ≡ true) bare parts.1)
+        away_s : are_away (place_of s) ((here.before ++ xs) ++ (ys ++ rest)) ≡ true
+        away_s = subst (λ q. are_away q ((here.before ++ xs) ++ (ys ++ rest)) ≡ true) (sym same) (subst (λ (l : List TableRow). are_away (place_of r) l ≡ true) bare parts.1)
 
         apart_s : are_apart (all_rows (set pages page swapped)) ≡ true
-        apart_s = subst (λ (l : List TableRow). are_apart l ≡ true) (sym whole) (apart_put (here.before ++ (front ++ back)) rest s (subst (λ (l : List TableRow). are_apart l ≡ true) bare parts.0) away_s)
+        apart_s = subst (λ (l : List TableRow). are_apart l ≡ true) (sym whole) (apart_put (here.before ++ xs) (ys ++ rest) s (subst (λ (l : List TableRow). are_apart l ≡ true) bare parts.0) away_s)
 
         at_s : (p : Place) → is_row_at p s ≡ is_eq (place_cmp p (place_of r))
         at_s p = ap (λ (q : Place). is_eq (place_cmp p q)) same
@@ -211,7 +211,7 @@ module _ (directory : List (Place × ℕ)) (pages : List (List TableRow)) (t : T
         found_s : (p : Place) → found_row p (all_rows (set pages page swapped)) ≡ cond (is_eq (place_cmp p (place_of r))) (Some s.row) (found_row p (all_rows pages))
         found_s p =
             ap (found_row p) whole
-            ∙ found_put p (here.before ++ (front ++ back)) rest s away_s
+            ∙ found_put p (here.before ++ xs) (ys ++ rest) s away_s
             ∙ (λ j. cond (at_s p j) (Some s.row) (found_row p (sym bare j)))
             ∙ ap (λ o. cond (is_eq (place_cmp p (place_of r))) (Some s.row) o) (ap (found_row p) (sym without) ∙ found_without p)
             ∙ twice (is_eq (place_cmp p (place_of r))) (Some s.row) (found_row p (all_rows pages))
@@ -219,16 +219,16 @@ module _ (directory : List (Place × ℕ)) (pages : List (List TableRow)) (t : T
         there_r : is_some (row_at (place_of r) t) ≡ true
         there_r = ap is_some (found_on i r is)
 
-        pub replaced_rows : AreRowsOf directory (set pages page (remove (get_or pages page []) i ++ s ∷ [])) (put_row (place_of r) s.row t)
+        pub replaced_rows : AreRowsOf directory (set pages page (xs ++ s ∷ ys)) (put_row (place_of r) s.row t)
         replaced_rows = changed (place_of r) (Some s.row) swapped directory apart_s found_s
-            (λ p other some. found_front p (remove old i) (s ∷ []) (others_gone p other some))
+            (λ p other some. found_beside p xs ys s (ap (λ (l : List TableRow). is_some (found_row p l)) (sym others) ∙ others_gone p other some))
             (are.keys ∙ sym (keys_stay (place_of r) s.row t.list t.sorted there_r))
             (λ p k found. by p k (is_eq (place_cmp p (place_of r))) refl found)
           where
             by : (p : Place) (k : ℕ) (b : Bool) → is_eq (place_cmp p (place_of r)) ≡ b → page_of directory p ≡ Some k
                 → ((is_eq (place_cmp p (place_of r)) ≡ false) × (page_of directory p ≡ Some k)) ⊎ ((k ≡ page) × (is_some (found_row p swapped) ≡ true))
             by p k false at found = inl (at, found)
-            by p k true at found = inr (own_page, found_at p (remove old i) [] s (at_s p ∙ at))
+            by p k true at found = inr (own_page, found_at p xs ys s (at_s p ∙ at))
               where
                 q_is : p ≡ place_of r
                 q_is = place_same p (place_of r) (equal_is (place_cmp p (place_of r)) at)

@@ -1,6 +1,7 @@
 pub mod Alike
 pub mod Bounds
 pub mod Changed
+pub mod Exchanged
 pub mod Halved
 pub mod Keys
 pub mod Listed

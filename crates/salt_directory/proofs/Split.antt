@@ -38,3 +38,8 @@ parted (y ∷ xs) zero x is = ap (λ z. z ∷ xs) same
     same : y ≡ x
     same = cc
 parted (y ∷ xs) (suc i) x is = ap (λ l. y ∷ l) (parted xs i x is)
+
+pub set_parted : {A : Type 0} (xs : List A) (i : ℕ) (x y : A) → slice_get xs i ≡ Some x → set xs i y ≡ take i xs ++ y ∷ drop (suc i) xs
+set_parted [] i x y is = cc
+set_parted (z ∷ xs) zero x y is = refl
+set_parted (z ∷ xs) (suc i) x y is = ap (λ l. z ∷ l) (set_parted xs i x y is)

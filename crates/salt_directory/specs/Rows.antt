@@ -14,13 +14,20 @@ abbrev pub IsRowFound : ℕ → Value → List TableRow → Option (List Value) 
 IsRowFound table key rows None = (i : ℕ) (r : TableRow) → slice_get rows i ≡ Some r → IsRowOf table key r → ⊥
 IsRowFound table key rows (Some row) = (i : ℕ) × (r : TableRow) × (slice_get rows i ≡ Some r) × IsRowOf table key r × (r.row ≡ row)
 
--- without a row of this key, and with these behind the others
-pub record IsWithout (table : ℕ) (key : Value) (old more new : List TableRow) : Type 0 where
+-- without a row of this key
+pub record IsWithout (table : ℕ) (key : Value) (old new : List TableRow) : Type 0 where
   pub at : ℕ
   pub row : TableRow
   pub there : slice_get old at ≡ Some row
   pub of : IsRowOf table key row
-  pub is : new ≡ remove old at ++ more
+  pub is : new ≡ remove old at
+
+-- with this row instead of one of this key, wherever it stands among the others, which stay as they are
+pub record IsExchanged (table : ℕ) (key : Value) (row : List Value) (old new : List TableRow) : Type 0 where
+  pub front : List TableRow
+  pub back : List TableRow
+  pub others : IsWithout table key old (front ++ back)
+  pub is : new ≡ front ++ record { table = table; row = row } ∷ back
 
 abbrev pub one_row : ℕ → Option (List Value) → List TableRow
 one_row table None = []
@@ -28,8 +35,8 @@ one_row table (Some row) = record { table = table; row = row } ∷ []
 
 -- what became of a page where the row of a key was to be replaced by this
 abbrev pub IsReplaced : ℕ → Value → Option (List Value) → List TableRow → List TableRow → Replaced → Type 0
-IsReplaced table key row old new (Put free) = IsWithout table key old (one_row table row) new × (free ≡ free_on new) × ((own : List Value) × (row ≡ Some own))
-IsReplaced table key row old new (Gone free) = IsWithout table key old [] new × (free ≡ free_on new)
+IsReplaced table key row old new (Put free) = ((own : List Value) × (row ≡ Some own) × IsExchanged table key own old new) × (free ≡ free_on new)
+IsReplaced table key row old new (Gone free) = IsWithout table key old new × (free ≡ free_on new)
 IsReplaced table key row old new Missing = (new ≡ old) × IsRowFound table key old None
 
 -- what became of a page on which this row was to be put

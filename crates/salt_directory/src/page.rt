@@ -4,11 +4,12 @@ ghost use Rattle.salt_bytes.specs.Page.{TableRow, take_table_row};
 ghost use Rattle.salt_bytes.specs.Values.{HasRowTo, is_row_length, spell_values, take_row};
 ghost use Rattle.salt_directory.specs.Loading.{rows_within};
 ghost use Rattle.salt_directory.specs.Pages.{free_on};
-ghost use Rattle.salt_directory.specs.Rows.{IsPut, IsReplaced, IsRowFound, one_row};
+ghost use Rattle.salt_directory.specs.Rows.{IsExchanged, IsPut, IsReplaced, IsRowFound, one_row};
 ghost use Rattle.salt_eval.specs.Scans.{row_list};
 ghost use Rattle.salt_loaded.specs.Rows.{with_rows};
-ghost use Rattle.salt_pages.specs.Pages.{used_by};
+ghost use Rattle.salt_pages.specs.Pages.{IsFound, used_by};
 ghost use Rattle.salt_values.specs.declared.value.Value.{Value};
+ghost use Rattle.std.specs.List.{remove};
 ghost use Rattle.std.specs.Option.{option_copied};
 ghost use Rattle.std.specs.Prelude.{IfOk, IsTrue, List, OnOk, Option, Some, [], false, is_some, length, true, ◌+◌, ◌++◌, ◌<◌, ◌==◌, ◌≡◌};
 
@@ -63,17 +64,19 @@ fn put_if_room(page: &mut Page, table: u16, row: &Row) -> Result<bool, AllocErro
     }
 }
 
-/// The same of a row that may be given.
-fn put_given(page: &mut Page, table: u16, row: Option<&Row>) -> Result<bool, AllocError>
-    requires { HasRowTo (option_copied row) }
-    ensures put { IfOk result (λ put. IsTrue put → page.new ≡ page.old ++ one_row table (option_copied row.entry)) }
-    ensures given { IfOk result (λ put. IsTrue put → is_some (option_copied row.entry) ≡ true) }
-    ensures same { IfOk result (λ put. put ≡ false → page.new ≡ page.old) }
+/// A row comes instead of row `i`: in its place, where both take as many bytes; else behind the others, if it has room. Whether it
+/// came; row `i` is gone either way.
+fn exchange(page: &mut Page, i: usize, table: u16, row: &Row) -> Result<bool, AllocError>
+    requires below { i < length page.old }
+    requires row { is_row_length (length row.now) ≡ true }
+    ensures put { (key : Value) → IsFound table key page.old (Some i) → IfOk result (λ put. IsTrue put → IsExchanged table key row.now page.old page.new) }
+    ensures gone { IfOk result (λ put. put ≡ false → page.new ≡ remove page.old i) }
 {
-    match row {
-        Some(row) => put_if_room(page, table, row),
-        None => Ok(false),
+    if page.replace(i, row) {
+        return Ok(true);
     }
+    page.remove(i);
+    put_if_room(page, table, row)
 }
 
 /// The row of a key goes from its page, and the new one comes on it, where one is given that has room.
@@ -89,8 +92,11 @@ pub fn replace_on(
     let Some(i) = page.find(table, key) else {
         return Ok(Replaced::Missing);
     };
-    page.remove(i);
-    if put_given(page, table, row)? {
+    let Some(row) = row else {
+        page.remove(i);
+        return Ok(Replaced::Gone(free_bytes(page)));
+    };
+    if exchange(page, i, table, row)? {
         Ok(Replaced::Put(free_bytes(page)))
     } else {
         Ok(Replaced::Gone(free_bytes(page)))

@@ -14,7 +14,7 @@ use Rattle.salt_rows.proofs.Reading.{row_place, shown_rows}
 use Rattle.salt_rows.proofs.Standing.{pages_fresh, pages_marked}
 use Rattle.salt_directory.specs.Directories.{HasPagesBelow}
 use Rattle.salt_directory.specs.Pages.{AreRowsOf, free_on, page_of}
-use Rattle.salt_directory.specs.Rows.{IsWithout, one_row}
+use Rattle.salt_directory.specs.Rows.{IsExchanged, IsWithout, one_row}
 use Rattle.salt_rows.specs.Sides.{spare_side}
 use Rattle.salt_rows.specs.Frames.{Frames, shown_page}
 use Rattle.salt_rows.specs.Stores.{AreKept, HavePages, IsStanding}
@@ -22,7 +22,7 @@ use Rattle.salt_rows.specs.declared.store.RowStore.{RowStore}
 use Rattle.salt_stands.proofs.Places.{equal_is, place_same, row_at_set, same_tables}
 use Rattle.salt_values.specs.declared.value.Value.{Value}
 use Rattle.std.proofs.Common.{Bool, IsTrue, List, None, Option, Some, [], ap, arith, cond, false, get_or, length, refl, set, subst, sym, true, ℕ, ◌++◌, ◌<◌, ◌≡◌, ◌∙◌, ◌∷◌}
-use Rattle.std.proofs.lemmas.List.{append-nil, get_or_push, length-set, length_push, map-set, map_push, set_at}
+use Rattle.std.proofs.lemmas.List.{get_or_push, length-set, length_push, map-set, map_push, set_at}
 use Rattle.std.specs.BTreeMap.{insert_entry, is_at}
 use Rattle.std.specs.List.{remove}
 use Rattle.std.specs.Map.{remove_entry}
@@ -136,27 +136,28 @@ module _ (d e : View) (x : RowStore) (dev : ℕ) (named : List ℕ) (t : Tables)
 module _ (directory : List (Place × ℕ)) (pages : List (List TableRow)) (t : Tables) (are : AreRowsOf directory pages t) (page : ℕ) (low : page < length pages) (q : Place) where
   -- the row of q is replaced by another one of its key
   pub replaced : (before rows : List TableRow) (row : List Value) → before ≡ get_or pages page [] → page_of directory q ≡ Some page → key_of row ≡ q.key
-      → IsWithout q.table q.key before (one_row q.table (Some row)) rows → AreRowsOf directory (set pages page rows) (put_row q row t)
-  replaced before rows row same placed key out =
+      → IsExchanged q.table q.key row before rows → AreRowsOf directory (set pages page rows) (put_row q row t)
+  replaced before rows row same placed key done =
       let own = get_or pages page [] in
+      let out = done.others in
       let there : slice_get own out.at ≡ Some out.row = subst (λ (l : List TableRow). slice_get l out.at ≡ Some out.row) same out.there in
       let s : TableRow = record { table = q.table; row = row } in
       let r_place : place_of out.row ≡ q = row_place q.table q.key out.row out.of in
       let s_place : place_of s ≡ q = row_place q.table q.key s (refl, key) in
-      let rows_are : rows ≡ remove own out.at ++ s ∷ [] = out.is ∙ ap (λ (l : List TableRow). remove l out.at ++ s ∷ []) same in
-      subst (λ (l : List TableRow). AreRowsOf directory (set pages page l) (put_row q row t)) (sym rows_are)
-      (subst (λ (k : Place). AreRowsOf directory (set pages page (remove own out.at ++ s ∷ [])) (put_row k row t)) r_place
-      (replaced_rows directory pages t are page low out.at out.row there s (s_place ∙ sym r_place) (ap (page_of directory) r_place ∙ placed)))
+      let others : remove own out.at ≡ done.front ++ done.back = sym (out.is ∙ ap (λ (l : List TableRow). remove l out.at) same) in
+      subst (λ (l : List TableRow). AreRowsOf directory (set pages page l) (put_row q row t)) (sym done.is)
+      (subst (λ (k : Place). AreRowsOf directory (set pages page (done.front ++ s ∷ done.back)) (put_row k row t)) r_place
+      (replaced_rows directory pages t are page low out.at out.row there s (s_place ∙ sym r_place) (ap (page_of directory) r_place ∙ placed) done.front done.back others))
 
   -- it is gone
-  pub gone : (before rows : List TableRow) (directory' : List (Place × ℕ)) → before ≡ get_or pages page [] → IsWithout q.table q.key before [] rows
+  pub gone : (before rows : List TableRow) (directory' : List (Place × ℕ)) → before ≡ get_or pages page [] → IsWithout q.table q.key before rows
       → directory' ≡ remove_entry (is_at (place_cmp q)) directory → ((p : Place) → page_of directory' p ≡ cond (is_eq (place_cmp q p)) None (page_of directory p))
       → AreRowsOf directory' (set pages page rows) (remove_at q t)
   gone before rows directory' same out removed looked =
       let own = get_or pages page [] in
       let there : slice_get own out.at ≡ Some out.row = subst (λ (l : List TableRow). slice_get l out.at ≡ Some out.row) same out.there in
       let r_place : place_of out.row ≡ q = row_place q.table q.key out.row out.of in
-      let rows_are : rows ≡ remove own out.at = out.is ∙ append-nil (remove before out.at) ∙ ap (λ (l : List TableRow). remove l out.at) same in
+      let rows_are : rows ≡ remove own out.at = out.is ∙ ap (λ (l : List TableRow). remove l out.at) same in
       subst (λ (l : List TableRow). AreRowsOf directory' (set pages page l) (remove_at q t)) (sym rows_are)
       (subst (λ (k : Place). AreRowsOf directory' (set pages page (remove own out.at)) (remove_at k t)) r_place
       (gone_rows directory pages t are page low out.at out.row there directory'

@@ -3,7 +3,7 @@ use Rattle.salt_bytes.specs.Page.{TableRow}
 use Rattle.salt_directory.specs.Bytes.{row_bytes}
 use Rattle.salt_directory.specs.Directories.{HasPagesBelow}
 use Rattle.salt_directory.specs.Pages.{AreRowsOf, free_on, page_of}
-use Rattle.salt_directory.specs.Rows.{IsPut, IsReplaced, IsRowFound}
+use Rattle.salt_directory.specs.Rows.{IsExchanged, IsPut, IsReplaced, IsRowFound}
 use Rattle.salt_directory.specs.Space.{HasRoom}
 use Rattle.salt_directory.specs.declared.page.Replaced.TheVariants.{Gone, Put}
 use Rattle.salt_disk.specs.Disks.{KeepsAll, View}
@@ -34,6 +34,14 @@ fits rows size less some full = omega (arith, less, some, full)
 none_given : (row : List Value) → None ≡ Some row → ⊥
 none_given row e = cc
 
+given_exchanged : (table : ℕ) (key : Value) (row : List Value) (before rows : List TableRow) → (own : List Value) × (Some row ≡ Some own) × IsExchanged table key own before rows → IsExchanged table key row before rows
+given_exchanged table key row before rows done = subst (λ (l : List Value). IsExchanged table key l before rows) same done.2
+  where
+    same : done.0 ≡ row
+    same =
+        let given : Some row ≡ Some done.0 = done.1 in
+        cc
+
 module _ (d e : View) (x : RowStore) (pool : Frames) (dev : ℕ) (named : List ℕ) (t : Tables) (is : IsRowStore d x dev named t) (kept : KeepsAll d e None) (page side : ℕ) (low : page < length x.sides.items) (at : side ≡ get_or x.sides.items page 0)
     (before rows : List TableRow) (framed : HasFramed d x.pool pool page side before rows) where
   pub shown_before : IsTrue d.told → shown_page (d.bytes x.pool.dev) x.pool.frames.entries page (get_or x.sides.items page 0) ≡ Some before
@@ -55,11 +63,11 @@ module _ (d e : View) (x : RowStore) (pool : Frames) (dev : ℕ) (named : List �
 
     module _ (q : Place) (placed : page_of x.directory.entries q ≡ Some page) where
       pub put_here : (row : Option (List Value)) → NamesKey q row → IsReplaced q.table q.key row before rows (Put free) → IsStanding e z dev named (set_row q row t)
-      put_here None key done = absurd (none_given done.2.0 done.2.1)
+      put_here None key done = absurd (none_given done.0.0 done.0.1)
       put_here (Some row) key done =
           standing_marked d e x dev named t is.is kept.shape (kept.kept dev (λ h. h)).bytes page low before rows free z marked_pool marked.sides marked.space marked.named framed_pool marked.is_pool
           (subst (λ (D : List (Place × ℕ)). HasPagesBelow D (length x.sides.items)) (sym same_entries) is.is.kept.pointed) shown_before done.1 (put_row q row t)
-          (λ pages are there same. subst (λ (D : List (Place × ℕ)). AreRowsOf D (set pages page rows) (put_row q row t)) (sym same_entries) (replaced x.directory.entries pages t are page there q before rows row same placed key done.0))
+          (λ pages are there same. subst (λ (D : List (Place × ℕ)). AreRowsOf D (set pages page rows) (put_row q row t)) (sym same_entries) (replaced x.directory.entries pages t are page there q before rows row same placed key (given_exchanged q.table q.key row before rows done.0)))
 
       -- the directory lacks it then
       pub gone_here : (row : Option (List Value)) (w : RowStore) → w.pool ≡ z.pool → w.sides.items ≡ z.sides.items → w.space ≡ z.space → w.named ≡ z.named → w.directory.entries ≡ remove_entry (is_at (place_cmp q)) z.directory.entries
