@@ -1,156 +1,126 @@
--- Pages by their free bytes: one more, and one with other free bytes.
-use Rattle.salt_directory.specs.Space.{HasRoom, IsFirstFrom, IsOrderOf, room, room_cmp, room_total}
-use Rattle.salt_directory.specs.declared.space.Room.{Room}
-use Rattle.std.proofs.Common.{Bool, Equal, Greater, Less, List, None, Ordering, Some, [], ap, arith, cond, false, get_or, inl, inr, is_eq, is_gt, length, nat_cmp, refl, set, subst, sym, true, ℕ, ◌+◌, ◌++◌, ◌<◌, ◌≡◌, ◌≤◌, ◌⊎◌, ◌∙◌, ◌∷◌}
+-- The most free bytes on a page and below it: what a page found by them has, and how they are mended.
+use Rattle.salt_directory.specs.Space.{AreMost, AreMostBut, HasRoom, most_from}
+use Rattle.std.proofs.Common.{List, None, [], ap, arith, get_or, inl, inr, length, max, refl, set, suc, sym, zero, ℕ, ◌*◌, ◌+◌, ◌++◌, ◌-◌, ◌/◌, ◌<◌, ◌≡◌, ◌≤◌, ◌⊎◌, ◌∙◌, ◌∷◌}
 use Rattle.std.proofs.lemmas.Bool.{cases_eq, cases_lt}
-use Rattle.std.proofs.lemmas.Cmp.{ranked, tied_itself}
-use Rattle.std.proofs.lemmas.List.{get_or-set_other, get_or-set_same, get_or_append_left, get_or_push, length-set, length_push}
-use Rattle.std.specs.BTreeSet.{BTreeSet, contains}
-use Rattle.std.specs.List.{list_any}
-use Rattle.std.specs.FinMap.{nat_cmp-IsAntisymmetric}
-use Rattle.std.specs.Ordering.{MatchOrdering, ordering_then}
+use Rattle.std.proofs.lemmas.List.{get_or-set_other, get_or-set_same, get_or_append_left, get_or_past, get_or_push, length-set, length_push, set-get_or}
 
-equal_is : (o : Ordering) → is_eq o ≡ true → o ≡ Equal
-equal_is Less e = cc
-equal_is Equal e = refl
-equal_is Greater e = cc
+pub none_most : AreMost [] []
+none_most = record { count = refl; each = λ page low. absurd (omega (arith, low)) }
 
-then_first : (a b : Ordering) → ordering_then a b ≡ Equal → a ≡ Equal
-then_first Less b e = e
-then_first Equal b e = refl
-then_first Greater b e = e
-
-then_second : (a b : Ordering) → ordering_then a b ≡ Equal → b ≡ Equal
-then_second Less b e = cc
-then_second Equal b e = e
-then_second Greater b e = cc
-
--- equal ones have the same free bytes and the same page
-pub same_room : (n m i j : ℕ) → is_eq (room_cmp (room n i) (room m j)) ≡ true → (n ≡ m) × (i ≡ j)
-same_room n m i j e =
-    let both : ordering_then (nat_cmp n m) (nat_cmp i j) ≡ Equal = equal_is (ordering_then (nat_cmp n m) (nat_cmp i j)) e in
-    (nat_cmp-IsAntisymmetric n m (then_first (nat_cmp n m) (nat_cmp i j) both), nat_cmp-IsAntisymmetric i j (then_second (nat_cmp n m) (nat_cmp i j) both))
-
-pub own_room : (n i : ℕ) → is_eq (room_cmp (room n i) (room n i)) ≡ true
-own_room n i = ap is_eq (tied_itself room_total (room n i))
-
-other_room : (n m i j : ℕ) → ((n ≡ m) × (i ≡ j) → ⊥) → is_eq (room_cmp (room n i) (room m j)) ≡ false
-other_room n m i j apart = by (is_eq (room_cmp (room n i) (room m j))) refl
+-- the page that it stands below
+above : (page : ℕ) → 0 < page → (page ≡ 2 * ((page - 1) / 2) + 1) ⊎ (page ≡ 2 * ((page - 1) / 2) + 2)
+above page more = by (cases_eq page (2 * ((page - 1) / 2) + 1))
   where
-    by : (b : Bool) → is_eq (room_cmp (room n i) (room m j)) ≡ b → is_eq (room_cmp (room n i) (room m j)) ≡ false
-    by true e = absurd (apart (same_room n m i j e))
-    by false e = e
+    by : (page ≡ 2 * ((page - 1) / 2) + 1) ⊎ (page ≡ 2 * ((page - 1) / 2) + 1 → ⊥) → (page ≡ 2 * ((page - 1) / 2) + 1) ⊎ (page ≡ 2 * ((page - 1) / 2) + 2)
+    by (inl one) = inl one
+    by (inr other) = inr (omega (arith, more, other))
 
-either : (b c : Bool) → c ≡ true → cond b true c ≡ true
-either true c h = refl
-either false c h = h
+module _ (free most : List ℕ) (are : AreMost free most) where
+  own_most : (page : ℕ) → page < length free → get_or free page 0 ≤ get_or most page 0
+  own_most page low = omega (arith, are.each page low)
 
-true_is_not_false : true ≡ false → ⊥
-true_is_not_false e = cc
+  below_most : (page : ℕ) → 0 < page → page < length free → get_or most page 0 ≤ get_or most ((page - 1) / 2) 0
+  below_most page more low = by (above page more)
+    where
+      up : get_or most ((page - 1) / 2) 0 ≡ most_from free most ((page - 1) / 2)
+      up = are.each ((page - 1) / 2) (omega (arith, more, low))
 
-pub none_ordered : (order : BTreeSet Room) → order.keys ≡ [] → IsOrderOf [] order
-none_ordered order none = record {
-  each = λ n page. (
-    (λ h. absurd (true_is_not_false (sym h ∙ ap (λ (ks : List Room). list_any (λ k. is_eq (room_cmp (room n page) k)) ks) none))),
-    (λ h. absurd (omega (arith, h.0))),
-  );
-  few = omega arith;
-}
+      by : (page ≡ 2 * ((page - 1) / 2) + 1) ⊎ (page ≡ 2 * ((page - 1) / 2) + 2) → get_or most page 0 ≤ get_or most ((page - 1) / 2) 0
+      by (inl one) = let same = ap (λ n. get_or most n 0) one in omega (arith, same, up)
+      by (inr two) = let same = ap (λ n. get_or most n 0) two in omega (arith, same, up)
 
-module _ (free : List ℕ) (order : BTreeSet Room) (is : IsOrderOf free order) where
-  -- one page more
-  pub pushed : (n : ℕ) (new : BTreeSet Room) → length free + 1 < 4294967296
-      → ((q : Room) → contains room_cmp new q ≡ cond (is_eq (room_cmp (room n (length free)) q)) true (contains room_cmp order q)) → IsOrderOf (free ++ n ∷ []) new
-  pushed n new few has = record {
-    each = λ k page. (from k page, to k page);
-    few = omega (arith, few, length_push free n);
+  first_most : (n page : ℕ) → page ≤ n → page < length free → get_or most page 0 ≤ get_or most 0 0
+  first_most zero page few low = let same : page ≡ 0 = omega (arith, few) in rw same (omega arith)
+  first_most (suc n) page few low = by (cases_lt 0 page) (λ up less within. first_most n up less within)
+    where
+      by : (0 < page) ⊎ (page ≤ 0) → ((up : ℕ) → up ≤ n → up < length free → get_or most up 0 ≤ get_or most 0 0) → get_or most page 0 ≤ get_or most 0 0
+      by (inl more) on =
+          let here = below_most page more low in
+          let rest = on ((page - 1) / 2) (omega (arith, few, more)) (omega (arith, low, more)) in
+          omega (arith, here, rest)
+      by (inr none) on = let same : page ≡ 0 = omega (arith, none) in rw same (omega arith)
+
+  -- the first has less: so has each
+  pub no_room : (n : ℕ) → get_or most 0 0 < n → HasRoom free n None
+  no_room n less page low =
+      let own = own_most page low in
+      let first = first_most page page (omega arith) low in
+      omega (arith, own, first, less)
+
+  there : (n page : ℕ) → 0 < n → n ≤ get_or most page 0 → page < length free
+  there n page some enough = by (cases_lt page (length free))
+    where
+      by : (page < length free) ⊎ (length free ≤ page) → page < length free
+      by (inl low) = low
+      by (inr high) =
+          let none = get_or_past most page 0 (omega (arith, high, are.count)) in
+          absurd (omega (arith, some, enough, none))
+
+  -- on this page are fewer, and on it and below it are so many
+  module _ (n page : ℕ) (low : page < length free) (enough : n ≤ get_or most page 0) (less : get_or free page 0 < n) where
+    pub left_has : n ≤ get_or most (2 * page + 1) 0 → 2 * page + 1 < length free
+    left_has has = there n (2 * page + 1) (omega (arith, less)) has
+
+    pub right_has : get_or most (2 * page + 1) 0 < n → (2 * page + 2 < length free) × (n ≤ get_or most (2 * page + 2) 0)
+    right_has lacks =
+        let has : n ≤ get_or most (2 * page + 2) 0 = omega (arith, are.each page low, enough, less, lacks) in
+        (there n (2 * page + 2) (omega (arith, less)) has, has)
+
+  -- one page has other free bytes
+  pub changed_but : (at n : ℕ) → AreMostBut at (set free at n) most
+  changed_but at n = record {
+    count = are.count ∙ sym (length-set free at n);
+    each = λ page low other. are.each page (omega (arith, low, length-set free at n)) ∙ ap (λ m. max m (max (get_or most (2 * page + 1) 0) (get_or most (2 * page + 2) 0))) (sym (get_or-set_other free at page n 0 other));
   }
+
+  padded : (page : ℕ) → get_or (most ++ 0 ∷ []) page 0 ≡ get_or most page 0
+  padded page = by (cases_lt page (length most))
     where
-      from : (k page : ℕ) → contains room_cmp new (room k page) ≡ true → (page < length (free ++ n ∷ [])) × (get_or (free ++ n ∷ []) page 0 ≡ k)
-      from k page h = by (is_eq (room_cmp (room n (length free)) (room k page))) refl (sym (has (room k page)) ∙ h)
+      by : (page < length most) ⊎ (length most ≤ page) → get_or (most ++ 0 ∷ []) page 0 ≡ get_or most page 0
+      by (inl low) = get_or_append_left most (0 ∷ []) 0 page low
+      by (inr high) = last (cases_eq page (length most)) ∙ sym (get_or_past most page 0 high)
         where
-          by : (b : Bool) → is_eq (room_cmp (room n (length free)) (room k page)) ≡ b → cond b true (contains room_cmp order (room k page)) ≡ true → (page < length (free ++ n ∷ [])) × (get_or (free ++ n ∷ []) page 0 ≡ k)
-          by true e h =
-              let both = same_room n k (length free) page e in
-              (omega (arith, length_push free n, both.1), ap (λ j. get_or (free ++ n ∷ []) j 0) (sym both.1) ∙ get_or_push free n 0 (length free) refl ∙ both.0)
-          by false e h =
-              let old = (is.each k page).0 h in
-              (omega (arith, length_push free n, old.0), get_or_append_left free (n ∷ []) 0 page old.0 ∙ old.1)
+          last : (page ≡ length most) ⊎ (page ≡ length most → ⊥) → get_or (most ++ 0 ∷ []) page 0 ≡ 0
+          last (inl same) = get_or_push most 0 0 page (sym same)
+          last (inr other) = get_or_past (most ++ 0 ∷ []) page 0 (omega (arith, high, other, length_push most 0))
 
-      to : (k page : ℕ) → (page < length (free ++ n ∷ [])) × (get_or (free ++ n ∷ []) page 0 ≡ k) → contains room_cmp new (room k page) ≡ true
-      to k page h = has (room k page) ∙ by (cases_eq page (length free))
-        where
-          by : (page ≡ length free) ⊎ (page ≡ length free → ⊥) → cond (is_eq (room_cmp (room n (length free)) (room k page))) true (contains room_cmp order (room k page)) ≡ true
-          by (inl last) =
-              let own : n ≡ k = sym (get_or_push free n 0 (length free) refl) ∙ ap (λ j. get_or (free ++ n ∷ []) j 0) (sym last) ∙ h.1 in
-              ap (λ b. cond b true (contains room_cmp order (room k page))) ((λ i. is_eq (room_cmp (room n (length free)) (room (sym own i) (last i)))) ∙ own_room n (length free))
-          by (inr earlier) =
-              let low : page < length free = omega (arith, length_push free n, h.0, earlier) in
-              either (is_eq (room_cmp (room n (length free)) (room k page))) (contains room_cmp order (room k page)) ((is.each k page).1 (low, sym (get_or_append_left free (n ∷ []) 0 page low) ∙ h.1))
-
-  -- a page with other free bytes
-  pub set_to : (at n : ℕ) (new : BTreeSet Room) → at < length free → (get_or free at 0 ≡ n → ⊥)
-      → ((q : Room) → contains room_cmp new q ≡ cond (is_eq (room_cmp (room (get_or free at 0) at) q)) false (cond (is_eq (room_cmp (room n at) q)) true (contains room_cmp order q))) → IsOrderOf (set free at n) new
-  set_to at n new low other has = record {
-    each = λ k page. (from k page, to k page);
-    few = omega (arith, is.few, length-set free at n);
+  -- one page more, for which nothing stands yet
+  pub pushed_but : (n : ℕ) → AreMostBut (length free) (free ++ n ∷ []) (most ++ 0 ∷ [])
+  pushed_but n = record {
+    count = omega (arith, length_push most 0, length_push free n, are.count);
+    each = λ page low other.
+        let old : page < length free = omega (arith, low, other, length_push free n) in
+        padded page ∙ are.each page old
+        ∙ sym (λ i. max (get_or_append_left free (n ∷ []) 0 page old i) (max (padded (2 * page + 1) i) (padded (2 * page + 2) i)));
   }
+
+-- what stands for a page is mended, and all others stand but maybe for the one above it
+module _ (free most : List ℕ) (at : ℕ) (low : at < length free) (are : AreMostBut at free most) where
+  kept : (page n : ℕ) → (2 * page + 1 ≡ at → ⊥) → (2 * page + 2 ≡ at → ⊥) → most_from free (set most at n) page ≡ most_from free most page
+  kept page n left right = λ i. max (get_or free page 0) (max (get_or-set_other most at (2 * page + 1) n 0 left i) (get_or-set_other most at (2 * page + 2) n 0 right i))
+
+  mended : (page : ℕ) → page < length free → (2 * page + 1 ≡ at → ⊥) → (2 * page + 2 ≡ at → ⊥) → get_or (set most at (most_from free most at)) page 0 ≡ most_from free (set most at (most_from free most at)) page
+  mended page within left right = by (cases_eq page at) ∙ sym (kept page (most_from free most at) left right)
     where
-      from : (k page : ℕ) → contains room_cmp new (room k page) ≡ true → (page < length (set free at n)) × (get_or (set free at n) page 0 ≡ k)
-      from k page h = by (is_eq (room_cmp (room (get_or free at 0) at) (room k page))) refl (is_eq (room_cmp (room n at) (room k page))) refl (sym (has (room k page)) ∙ h)
-        where
-          by : (a : Bool) → is_eq (room_cmp (room (get_or free at 0) at) (room k page)) ≡ a → (b : Bool) → is_eq (room_cmp (room n at) (room k page)) ≡ b → cond a false (cond b true (contains room_cmp order (room k page))) ≡ true
-              → (page < length (set free at n)) × (get_or (set free at n) page 0 ≡ k)
-          by true e b f h = cc
-          by false e true f h =
-              let both = same_room n k at page f in
-              (omega (arith, length-set free at n, low, both.1), ap (λ j. get_or (set free at n) j 0) (sym both.1) ∙ get_or-set_same free at n 0 low ∙ both.0)
-          by false e false f h =
-              let old = (is.each k page).0 h in
-              let elsewhere : page ≡ at → ⊥ = λ same. true_is_not_false (sym (own_room k page) ∙ (λ i. is_eq (room_cmp (room (sym old.1 i) page) (room k page))) ∙ (λ i. is_eq (room_cmp (room (get_or free (same i) 0) (same i)) (room k page))) ∙ e) in
-              (omega (arith, length-set free at n, old.0), get_or-set_other free at page n 0 elsewhere ∙ old.1)
+      by : (page ≡ at) ⊎ (page ≡ at → ⊥) → get_or (set most at (most_from free most at)) page 0 ≡ most_from free most page
+      by (inl same) = rw same (get_or-set_same most at (most_from free most at) 0 (omega (arith, low, are.count)))
+      by (inr other) = get_or-set_other most at page (most_from free most at) 0 other ∙ are.each page within other
 
-      to : (k page : ℕ) → (page < length (set free at n)) × (get_or (set free at n) page 0 ≡ k) → contains room_cmp new (room k page) ≡ true
-      to k page h = has (room k page) ∙ by (cases_eq page at)
-        where
-          by : (page ≡ at) ⊎ (page ≡ at → ⊥) → cond (is_eq (room_cmp (room (get_or free at 0) at) (room k page))) false (cond (is_eq (room_cmp (room n at) (room k page))) true (contains room_cmp order (room k page))) ≡ true
-          by (inl same) =
-              let own : n ≡ k = sym (get_or-set_same free at n 0 low) ∙ ap (λ j. get_or (set free at n) j 0) (sym same) ∙ h.1 in
-              ap (λ a. cond a false (cond (is_eq (room_cmp (room n at) (room k page))) true (contains room_cmp order (room k page)))) (other_room (get_or free at 0) k at page (λ both. other (both.0 ∙ sym own)))
-              ∙ ap (λ b. cond b true (contains room_cmp order (room k page))) ((λ i. is_eq (room_cmp (room n at) (room (sym own i) (same i)))) ∙ own_room n at)
-          by (inr elsewhere) =
-              let within : page < length free = omega (arith, length-set free at n, h.0) in
-              ap (λ a. cond a false (cond (is_eq (room_cmp (room n at) (room k page))) true (contains room_cmp order (room k page)))) (other_room (get_or free at 0) k at page (λ both. elsewhere (sym both.1)))
-              ∙ either (is_eq (room_cmp (room n at) (room k page))) (contains room_cmp order (room k page)) ((is.each k page).1 (within, sym (get_or-set_other free at page n 0 elsewhere) ∙ h.1))
+  pub mended_but : 0 < at → AreMostBut ((at - 1) / 2) free (set most at (most_from free most at))
+  mended_but more = record {
+    count = length-set most at (most_from free most at) ∙ are.count;
+    each = λ page within other. mended page within (λ left. other (omega (arith, left))) (λ right. other (omega (arith, right)));
+  }
 
-  -- LOOKED FOR
+  pub mended_first : at ≡ 0 → AreMost free (set most at (most_from free most at))
+  mended_first first = record {
+    count = length-set most at (most_from free most at) ∙ are.count;
+    each = λ page within. mended page within (λ left. absurd (omega (arith, left, first))) (λ right. absurd (omega (arith, right, first)));
+  }
 
-  not_above : (n m page : ℕ) → n ≤ m → is_gt (room_cmp (room n 0) (room m page)) ≡ false
-  not_above n m page low = by (nat_cmp n m) (ranked n m (nat_cmp n m) refl) (nat_cmp 0 page) (ranked 0 page (nat_cmp 0 page) refl)
+  pub stands : get_or most at 0 ≡ most_from free most at → AreMost free (set most at (most_from free most at))
+  stands own = rw (← own, set-get_or most at 0) record { count = are.count; each = λ page within. by page within (cases_eq page at) }
     where
-      by : (a : Ordering) → MatchOrdering a (n < m) (n ≡ m) (m < n) → (b : Ordering) → MatchOrdering b (0 < page) (0 ≡ page) (page < 0) → is_gt (ordering_then a b) ≡ false
-      by Less h b k = refl
-      by Greater h b k = absurd (omega (arith, h, low))
-      by Equal h Less k = refl
-      by Equal h Equal k = refl
-      by Equal h Greater k = absurd (omega (arith, k))
-
-  at_least : (n m page : ℕ) → is_gt (room_cmp (room n 0) (room m page)) ≡ false → n ≤ m
-  at_least n m page h = by (nat_cmp n m) (ranked n m (nat_cmp n m) refl) h
-    where
-      by : (a : Ordering) → MatchOrdering a (n < m) (n ≡ m) (m < n) → is_gt (ordering_then a (nat_cmp 0 page)) ≡ false → n ≤ m
-      by Less k g = omega (arith, k)
-      by Equal k g = omega (arith, k)
-      by Greater k g = cc
-
-  pub no_room : (n : ℕ) → IsFirstFrom order (room n 0) None → HasRoom free n None
-  no_room n none page low = by (cases_lt (get_or free page 0) n)
-    where
-      by : (get_or free page 0 < n) ⊎ (n ≤ get_or free page 0) → get_or free page 0 < n
-      by (inl less) = less
-      by (inr more) = absurd (true_is_not_false (sym ((is.each (get_or free page 0) page).1 (low, refl)) ∙ none (room (get_or free page 0) page) (not_above n (get_or free page 0) page more)))
-
-  pub has_room : (n : ℕ) (found : Room) → IsFirstFrom order (room n 0) (Some found) → HasRoom free n (Some found.page)
-  has_room n found h =
-      let there = (is.each found.free found.page).0 h.0 in
-      (there.0, subst (λ m. n ≤ m) (sym there.1) (at_least n found.free found.page h.1))
+      by : (page : ℕ) → page < length free → (page ≡ at) ⊎ (page ≡ at → ⊥) → get_or most page 0 ≡ most_from free most page
+      by page within (inl same) = rw same own
+      by page within (inr other) = are.each page within other

@@ -1,37 +1,24 @@
--- The free bytes of pages, and which of them have so many.
-use Rattle.salt_directory.specs.declared.space.Room.{Room}
-use Rattle.std.specs.BTreeSet.{BTreeSet, contains}
-use Rattle.std.specs.Cmp.{IsTotalOrder, nat_cmp_total, on_total, then_total}
+-- The free bytes of pages, and the most of them on many.
 use Rattle.std.specs.List.{All}
-use Rattle.std.specs.Ordering.{is_gt, nat_cmp, on, then_cmp}
-use Rattle.std.specs.Prelude.{Bool, List, None, Option, Some, false, get_or, length, nat_le, sum, true, ℕ, ◌*◌, ◌<◌, ◌↔◌, ◌≡◌, ◌≤◌}
-use Rattle.std.specs.declared.cmp.Ordering.{Ordering}
+use Rattle.std.specs.Prelude.{Bool, List, None, Option, Some, get_or, length, max, nat_le, sum, ℕ, ◌*◌, ◌+◌, ◌<◌, ◌≡◌, ◌≤◌}
 
-abbrev pub free_in : Room → ℕ
-free_in r = r.free
+-- the most of a page's free bytes and of what stands for the two below it, of which there may be none
+abbrev pub most_from : (free most : List ℕ) → ℕ → ℕ
+most_from free most page = max (get_or free page 0) (max (get_or most (2 * page + 1) 0) (get_or most (2 * page + 2) 0))
 
-abbrev pub page_in : Room → ℕ
-page_in r = r.page
+-- for each page the most free bytes on it and below it
+pub record AreMost (free most : List ℕ) : Type 0 where
+  pub count : length most ≡ length free
+  pub each : (page : ℕ) → page < length free → get_or most page 0 ≡ most_from free most page
 
--- by free bytes, and then by page
-abbrev pub room_cmp : Room → Room → Ordering
-room_cmp = then_cmp (on free_in nat_cmp) (on page_in nat_cmp)
+-- the same of each page but one, for which any number stands
+pub record AreMostBut (one : ℕ) (free most : List ℕ) : Type 0 where
+  pub count : length most ≡ length free
+  pub each : (page : ℕ) → page < length free → (page ≡ one → ⊥) → get_or most page 0 ≡ most_from free most page
 
-pub room_total : IsTotalOrder room_cmp
-room_total = then_total (on_total free_in nat_cmp_total) (on_total page_in nat_cmp_total)
-
-abbrev pub room : ℕ → ℕ → Room
-room free page = record { free = free; page = page }
-
--- the set has each page with its free bytes, and nothing else
-pub record IsOrderOf (free : List ℕ) (order : BTreeSet Room) : Type 0 where
-  pub each : (n page : ℕ) → (contains room_cmp order (room n page) ≡ true) ↔ ((page < length free) × (get_or free page 0 ≡ n))
-  pub few : length free < 4294967296
-
--- the first one that is not below this; none exactly where there is none
-abbrev pub IsFirstFrom : BTreeSet Room → Room → Option Room → Type 0
-IsFirstFrom order least None = (r : Room) → is_gt (room_cmp least r) ≡ false → contains room_cmp order r ≡ false
-IsFirstFrom order least (Some found) = (contains room_cmp order found ≡ true) × (is_gt (room_cmp least found) ≡ false)
+-- their numbers are of 32 bits
+abbrev pub IsFew : List ℕ → Type 0
+IsFew free = length free < 4294967296
 
 -- a page with so many free bytes; none exactly where there is none
 abbrev pub HasRoom : List ℕ → ℕ → Option ℕ → Type 0

@@ -1,86 +1,68 @@
-//! The free bytes of pages, by page and by how many.
+//! The free bytes of pages, and which page has so many.
 
-ghost use Rattle.salt_directory.specs.Space.{HasRoom, IsFirstFrom, may_grow, room_cmp, room_total};
-ghost use Rattle.std.specs.Cmp.{eq_by_cmp_equiv, partial_equiv_from_equiv, partial_order_from_total};
-ghost use Rattle.std.specs.Ordering.{as_partial_cmp, eq_by_cmp};
-ghost use Rattle.std.specs.Prelude.{OnErr, OnOk, [], get_or, length, refl, slice_set, ◌+◌, ◌++◌, ◌<◌, ◌^◌, ◌∷◌, ◌≡◌};
+ghost use Rattle.salt_directory.specs.Space.{AreMost, AreMostBut, HasRoom, may_grow, most_from};
+ghost use Rattle.std.specs.Prelude.{OnErr, OnOk, [], get_or, length, slice_set, ◌+◌, ◌++◌, ◌<◌, ◌^◌, ◌∷◌, ◌≡◌};
 
 use std::alloc::{AllocError, Global};
-use std::cmp::Ordering;
-use std::collections::BTreeSet;
 use std::marker::Model;
 
-/// A page and its free bytes. Fewer bytes stand first, and of pages with as many the one of the lower number.
-#[derive(Clone, Copy, Debug)]
-pub struct Room {
-    pub free: u16,
-    pub page: u32,
-}
-
-impl PartialEq for Room {
-    ghost eq = { eq_by_cmp room_cmp };
-
-    ghost laws = { partial_equiv_from_equiv (eq_by_cmp_equiv room_total) };
-
-    fn eq(&self, other: &Room) -> bool {
-        self.cmp(other).is_eq()
-    }
-}
-
-impl Eq for Room {
-    ghost laws = { eq_by_cmp_equiv room_total };
-}
-
-impl PartialOrd for Room {
-    ghost partial_cmp = { as_partial_cmp room_cmp };
-
-    ghost laws = { partial_order_from_total room_total };
-
-    fn partial_cmp(&self, other: &Room) -> Option<Ordering> {
-        Some(self.cmp(other))
-    }
-}
-
-impl Ord for Room {
-    ghost cmp = { room_cmp };
-
-    ghost total = { room_total };
-
-    ghost matches_partial_cmp = { λ a b. refl };
-
-    ghost matches_eq = { λ a b. refl };
-
-    fn cmp(&self, other: &Room) -> Ordering {
-        self.free.cmp(&other.free).then(self.page.cmp(&other.page))
-    }
-}
-
-/// The first one in order that is not below this.
-fn first_from(order: &BTreeSet<Room>, least: Room) -> Option<Room>
-    ensures { IsFirstFrom order.now least result }
+/// The number that stands for a page, 0 behind the last one.
+fn on_page(numbers: &[u16], page: usize) -> u16
+    ensures { result ≡ get_or numbers.now page 0 }
 {
-    let found = order.range(least..).next()?;
-    Some(*found)
+    if page < numbers.len() {
+        numbers[page]
+    } else {
+        0
+    }
+}
+
+/// The most free bytes on a page and on those below it.
+fn most_from(free: &[u16], most: &[u16], page: usize) -> u16
+    requires { page < 2 ^ 32 }
+    ensures { result ≡ most_from free.now most.now page }
+{
+    let left = on_page(most, 2 * page + 1);
+    let right = on_page(most, 2 * page + 2);
+    on_page(free, page).max(left.max(right))
+}
+
+/// Mends what stands for a page, and then for those above it, as far up as it changes.
+fn mend(free: &[u16], most: &mut [u16], page: usize)
+    requires few { length free.now < 2 ^ 32 }
+    requires within { page < length free.now }
+    requires others { AreMostBut page free.now most.old }
+    ensures { AreMost free.now most.new }
+{
+    let mut at = page;
+    let mut greatest = most_from(free, most, at);
+    while at > 0 && most[at] != greatest {
+        most[at] = greatest;
+        at = (at - 1) / 2;
+        greatest = most_from(free, most, at);
+    }
+    most[at] = greatest;
 }
 
 /// The free bytes of each page. Contracts see the list of them.
 #[derive(Drop)]
 pub struct Space {
     free: Vec<u16>,
-    order: BTreeSet<Room>,
+    // for each page the most free bytes on it and on those below it: below a page n stand 2 n + 1 and 2 n + 2
+    most: Vec<u16>,
     // the free bytes of all pages
     total: u64,
 }
 
 impl Model for Space {
     ghost use Rattle.std.specs.Prelude.{List, ℕ};
-    ghost use Rattle.salt_directory.specs.Space.{IsOrderOf, IsSumOf};
+    ghost use Rattle.salt_directory.specs.Space.{AreMost, IsFew, IsSumOf};
 
     ghost Value = { List ℕ };
 
     ghost view = { λ s. s.free.items };
 
-    ghost invariant = { λ s. IsOrderOf s.free.items s.order × IsSumOf s.free.items s.total };
+    ghost invariant = { λ s. AreMost s.free.items s.most.items × IsFew s.free.items × IsSumOf s.free.items s.total };
 }
 
 impl Space {
@@ -90,7 +72,7 @@ impl Space {
     {
         Space {
             free: Vec::new(alloc),
-            order: BTreeSet::new(alloc),
+            most: Vec::new(alloc),
             total: 0,
         }
     }
@@ -108,10 +90,11 @@ impl Space {
         requires { length self.old + 1 < 2 ^ 32 }
         ensures ok { OnOk result (self.new ≡ self.old ++ free ∷ []) }
     {
-        let page = self.free.as_slice().len() as u32;
-        self.free.reserve(1)?;
-        self.order.insert(Room { free, page })?;
+        let page = self.free.as_slice().len();
+        self.most.reserve(1)?;
         self.free.push(free)?;
+        self.most.push(0)?;
+        mend(&self.free, &mut self.most, page);
         self.total += u64::from(free);
         Ok(())
     }
@@ -123,12 +106,8 @@ impl Space {
         ensures err { OnErr result (self.new ≡ self.old) }
     {
         let before = self.free[page as usize];
-        if before == free {
-            return Ok(());
-        }
-        self.order.insert(Room { free, page })?;
-        self.order.remove(&Room { free: before, page });
         self.free[page as usize] = free;
+        mend(&self.free, &mut self.most, page as usize);
         self.total = self.total + u64::from(free) - u64::from(before);
         Ok(())
     }
@@ -141,15 +120,22 @@ impl Space {
         self.total <= count * 4114
     }
 
-    /// A page with at least so many free bytes, of those the fullest.
+    /// A page with at least so many free bytes.
     pub fn with_room(&self, needed: u16) -> Option<u32>
         ensures { HasRoom self.now needed result }
     {
-        let least = Room {
-            free: needed,
-            page: 0,
-        };
-        let found = first_from(&self.order, least)?;
-        Some(found.page)
+        if self.most.is_empty() || self.most[0] < needed {
+            return None;
+        }
+        let mut at = 0;
+        while self.free[at] < needed {
+            let left = 2 * at + 1;
+            at = if on_page(&self.most, left) >= needed {
+                left
+            } else {
+                left + 1
+            };
+        }
+        Some(at as u32)
     }
 }
