@@ -1,16 +1,15 @@
--- A page is made dirty: it is put at its place among the others, and there is room.
+-- A page is made dirty: what is kept of the dirty ones with it, and that there is room.
 use Rattle.salt_pool.proofs.Clean.{looked_up, pages_of, dirty_is}
 use Rattle.salt_pool.proofs.Distinct.{none_distinct, with_first}
 use Rattle.salt_pool.proofs.Numbers.{equal, true_is_not_false}
 use Rattle.salt_pool.proofs.Pigeons.{AreAmong, pigeons}
-use Rattle.salt_pool.specs.Dirtied.{AreSides, IsRisingFrom, count_below, is_dirty, put_before, put_dirty}
+use Rattle.salt_pool.specs.Dirtied.{AreSides, IsRisingFrom, is_dirty, put_dirty}
 use Rattle.salt_pool.specs.Flushing.{AreFramed}
 use Rattle.salt_pool.specs.declared.places.Dirty.{Dirty}
-use Rattle.std.proofs.Common.{Bool, List, [], ap, arith, cond, false, is_some, length, nat_eq, refl, subst, suc, sym, true, ℕ, ◌+◌, ◌||◌, ◌<◌, ◌≡◌, ◌≤◌, ◌∙◌, ◌∷◌}
+use Rattle.std.proofs.Common.{Bool, List, [], ap, arith, cond, false, is_some, length, nat_eq, refl, subst, suc, sym, true, ℕ, ◌||◌, ◌<◌, ◌≡◌, ◌≤◌, ◌∙◌, ◌∷◌}
 use Rattle.std.proofs.lemmas.Bool.Decides.{nat_tests}
-use Rattle.std.proofs.lemmas.List.Edits.{length-remove}
 use Rattle.std.proofs.lemmas.List.{length-map}
-use Rattle.std.specs.List.{AllByRecursion, IsDistinct, insert, list_any, remove}
+use Rattle.std.specs.List.{AllByRecursion, IsDistinct, list_any}
 use Rattle.std.specs.Map.{keys_of, lookup}
 use Rattle.std.specs.Prelude.{nat_lt}
 
@@ -27,67 +26,6 @@ not_above n low (d ∷ ds) below rising =
     let here : n < d.page = omega (arith, below, rising.0) in
     let first : nat_eq d.page n ≡ false = grind (arith, nat_tests) in
     (λ i. first i || not_above n (suc d.page) ds (omega (arith, here)) rising.1 i)
-
-pub put_new : (d : Dirty) (ds : List Dirty) → is_dirty ds d.page ≡ false → insert ds (count_below d.page ds) d ≡ put_dirty d ds
-put_new d [] clean = refl
-put_new d (e ∷ ds) clean = by (nat_lt e.page d.page) (nat_eq e.page d.page) refl (λ h. put_new d ds h)
-  where
-    by : (b c : Bool) → nat_eq e.page d.page ≡ c → (is_dirty ds d.page ≡ false → insert ds (count_below d.page ds) d ≡ put_dirty d ds) → insert (e ∷ ds) (cond b (suc (count_below d.page ds)) 0) d ≡ cond b (e ∷ put_dirty d ds) (put_before d e ds)
-    by true true is on = absurd (true_is_not_false (ap (λ t. t || is_dirty ds d.page) (sym is) ∙ clean))
-    by true false is on = ap (λ t. e ∷ t) (on (ap (λ t. t || is_dirty ds d.page) (sym is) ∙ clean))
-    by false true is on = absurd (true_is_not_false (ap (λ t. t || is_dirty ds d.page) (sym is) ∙ clean))
-    by false false is on = ap (λ t. cond t (d ∷ ds) (d ∷ e ∷ ds)) (sym is)
-
-pub put_over : (low : ℕ) (d : Dirty) (ds : List Dirty) → IsRisingFrom low ds → is_dirty ds d.page ≡ true → (count_below d.page ds < length ds) × (insert (remove ds (count_below d.page ds)) (count_below d.page ds) d ≡ put_dirty d ds)
-put_over low d [] rising dirty = cc
-put_over low d (e ∷ ds) rising dirty = by (nat_lt e.page d.page) refl (nat_eq e.page d.page) refl (λ h. put_over (suc e.page) d ds rising.1 h)
-  where
-    by : (b : Bool) → nat_lt e.page d.page ≡ b → (c : Bool) → nat_eq e.page d.page ≡ c → (is_dirty ds d.page ≡ true → (count_below d.page ds < length ds) × (insert (remove ds (count_below d.page ds)) (count_below d.page ds) d ≡ put_dirty d ds)) → (cond (nat_lt e.page d.page) (suc (count_below d.page ds)) 0 < length (e ∷ ds)) × (insert (remove (e ∷ ds) (cond (nat_lt e.page d.page) (suc (count_below d.page ds)) 0)) (cond (nat_lt e.page d.page) (suc (count_below d.page ds)) 0) d ≡ cond (nat_lt e.page d.page) (e ∷ put_dirty d ds) (put_before d e ds))
-    by true less true is on = absurd (grind (arith, nat_tests))
-    by true less false is on =
-        let rest = on (ap (λ t. t || is_dirty ds d.page) (sym is) ∙ dirty) in
-        let below = rest.0 in
-        rw less (omega (arith, below), ap (λ t. e ∷ t) rest.1)
-    by false less true is on = rw less (omega arith, ap (λ t. cond t (d ∷ ds) (d ∷ e ∷ ds)) (sym is))
-    by false less false is on =
-        let below : d.page < suc e.page = grind (arith, nat_tests) in
-        absurd (true_is_not_false (sym dirty ∙ (λ i. is i || not_above d.page (suc e.page) ds below rising.1 i)))
-
-below_few : (page : ℕ) (ds : List Dirty) → count_below page ds ≤ length ds
-below_few page [] = omega arith
-below_few page (d ∷ ds) = by (nat_lt d.page page) (below_few page ds)
-  where
-    by : (b : Bool) → count_below page ds ≤ length ds → cond b (suc (count_below page ds)) 0 ≤ length (d ∷ ds)
-    by true on = omega (arith, on)
-    by false on = omega arith
-
--- these are the dirty pages without one, and it can be put in there
-pub record IsPlaced (d : Dirty) (ds others : List Dirty) (at : ℕ) : Type 0 where
-  pub within : at ≤ length others
-  pub room : length others < 64
-  pub put : insert others at d ≡ put_dirty d ds
-
-pub placed : (d : Dirty) (ds others : List Dirty) (at : ℕ) (b : Bool) → IsRisingFrom 0 ds → at ≡ count_below d.page ds → b ≡ is_dirty ds d.page → others ≡ cond b (remove ds at) ds → length ds ≤ 64 → (is_dirty ds d.page ≡ false → length ds < 64) → IsPlaced d ds others at
-placed d ds others at true rising is own made few room =
-    let over = put_over 0 d ds rising (sym own) in
-    let first = over.0 in
-    let short : at < length ds = omega (arith, is, first) in
-    let size : length (remove ds at) + 1 ≡ length ds = length-remove ds at short in
-    let same : length others ≡ length (remove ds at) = ap (λ (l : List Dirty). length l) made in
-    record {
-      within = omega (arith, same, size, short);
-      room = omega (arith, same, size, few);
-      put = ap (λ (l : List Dirty). insert l at d) made ∙ ap (λ n. insert (remove ds n) n d) is ∙ over.1;
-    }
-placed d ds others at false rising is own made few room =
-    let same : length others ≡ length ds = ap (λ (l : List Dirty). length l) made in
-    let low : count_below d.page ds ≤ length ds = below_few d.page ds in
-    let free : length ds < 64 = room (sym own) in
-    record {
-      within = omega (arith, same, is, low);
-      room = omega (arith, same, free);
-      put = ap (λ (l : List Dirty). insert l at d) made ∙ ap (λ n. insert ds n d) is ∙ put_new d ds (sym own);
-    }
 
 pub rising_put : (low : ℕ) (d : Dirty) (ds : List Dirty) → low ≤ d.page → IsRisingFrom low ds → IsRisingFrom low (put_dirty d ds)
 rising_put low d [] high rising = (high, tt)

@@ -7,5 +7,6 @@ pub mod Near
 mod Numbers
 mod Pigeons
 mod Pools
+mod Put
 pub mod Seen
 mod Writing

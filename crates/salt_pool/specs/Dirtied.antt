@@ -18,11 +18,6 @@ is_dirty ds page = list_any (λ d. nat_eq d.page page) ds
 abbrev pub goes_to : List Dirty → (page side : ℕ) → Bool
 goes_to ds page side = list_any (λ d. nat_eq d.page page && nat_eq d.side side) ds
 
--- how many of the first ones are below a page
-abbrev pub count_below : ℕ → List Dirty → ℕ
-count_below page [] = 0
-count_below page (d ∷ ds) = cond (nat_lt d.page page) (suc (count_below page ds)) 0
-
 -- this one before others, or in the place of the first one where that is the same page
 abbrev pub put_before : Dirty → Dirty → List Dirty → List Dirty
 put_before d e ds = cond (nat_eq e.page d.page) (d ∷ ds) (d ∷ e ∷ ds)

@@ -1,6 +1,6 @@
 //! Dirty pages in the order of their numbers.
 
-ghost use Rattle.salt_pool.specs.Dirtied.{IsRisingFrom, count_below, is_dirty, put_dirty};
+ghost use Rattle.salt_pool.specs.Dirtied.{IsRisingFrom, is_dirty, put_dirty};
 ghost use Rattle.salt_pool.specs.Frames.{frame_count};
 ghost use Rattle.std.specs.Prelude.{false, length, ◌<◌, ◌≡◌, ◌≤◌};
 
@@ -23,28 +23,17 @@ pub fn is_among(dirty: &[Dirty], page: u32) -> bool
     dirty.iter().any(|d| d.page == page)
 }
 
-/// How many of the first ones are below a page.
-pub fn count_below(dirty: &[Dirty], page: u32) -> usize
-    ensures count { result ≡ count_below page dirty.now }
-    ensures fits { result ≤ length dirty.now }
-{
-    match dirty {
-        [first, rest @ ..] if first.page < page => 1 + count_below(rest, page),
-        _ => 0,
-    }
-}
-
 /// Puts a page at its place among dirty ones; one that is among them goes to this side then.
 pub fn put_dirty(dirty: &mut ArrayVec<Dirty, FRAMES>, added: Dirty)
     requires rising { IsRisingFrom 0 dirty.old.items }
     requires room { is_dirty dirty.old.items added.page ≡ false → length dirty.old.items < frame_count }
     ensures { dirty.new.items ≡ put_dirty added dirty.old.items }
 {
-    let items = dirty.as_slice();
-    let at = count_below(items, added.page);
-    let found = is_among(items, added.page);
-    if found {
-        dirty.remove(at);
+    let found = dirty
+        .as_slice()
+        .binary_search_by_key(&added.page, |d| d.page);
+    match found {
+        Ok(at) => dirty[at] = added,
+        Err(at) => dirty.insert(at, added),
     }
-    dirty.insert(at, added);
 }
