@@ -12,6 +12,7 @@ pub mod PageAt
 pub mod Parts
 pub mod Placed
 pub mod Rooms
+pub mod Seated
 pub mod Spelled
 pub mod Split
 pub mod Totals

@@ -23,7 +23,7 @@ use Rattle.std.specs.declared.ops.Bound.TheVariants.{Unbounded}
 use lib.Dec.{T}
 
 -- A narrower test after a wider one
-narrowed : (p q : Place → Bool) → ((x : Place) → p x ≡ true → q x ≡ true) → (es : List (Place × ℕ)) → where_key place_cmp p (where_key place_cmp q es) ≡ where_key place_cmp p es
+pub narrowed : (p q : Place → Bool) → ((x : Place) → p x ≡ true → q x ≡ true) → (es : List (Place × ℕ)) → where_key place_cmp p (where_key place_cmp q es) ≡ where_key place_cmp p es
 narrowed p q narrow [] = refl
 narrowed p q narrow (e ∷ es) = by (q e.0) refl (p e.0) refl (narrowed p q narrow es)
   where
@@ -39,7 +39,7 @@ narrowed p q narrow (e ∷ es) = by (q e.0) refl (p e.0) refl (narrowed p q narr
     by false wide true is more = absurd (clash (sym (narrow e.0 is) ∙ wide))
     by false wide false is more = more
 
-all_pass : (p : Place → Bool) (es : List (Place × ℕ)) → list_all (λ (e : Place × ℕ). p e.0) (where_key place_cmp p es) ≡ true
+pub all_pass : (p : Place → Bool) (es : List (Place × ℕ)) → list_all (λ (e : Place × ℕ). p e.0) (where_key place_cmp p es) ≡ true
 all_pass p [] = refl
 all_pass p (e ∷ es) = by (p e.0) refl (all_pass p es)
   where
@@ -56,7 +56,7 @@ module _ (t : ℕ) (range : KeyRange) where
     pub counted : rows + count_in t range rest ≡ count_in t range directory
     pub few : rows + length rest < 2 ^ 63
 
-  in_from : (x : Place) → is_in t range x ≡ true → from t range None x ≡ true
+  pub in_from : (x : Place) → is_in t range x ≡ true → from t range None x ≡ true
   in_from x within = narrower t range None x (and_true (is_in t range x) ∙ within)
 
   page_left : (p : Place → Bool) (es : List (Place × ℕ)) (q : Place) → p q ≡ true → page_of (where_key place_cmp p es) q ≡ page_of es q
@@ -74,6 +74,15 @@ module _ (t : ℕ) (range : KeyRange) where
     counted = omega (arith, ap (λ (l : List (Place × ℕ)). length l) (narrowed (is_in t range) (from t range None) in_from directory));
     few = omega (arith, few, ap (λ (l : List (Place × ℕ)). length l) is);
   })
+
+  -- behind the range nothing is in it
+  pub none_behind : (e : Place × ℕ) (left_over : List (Place × ℕ)) → T (is_sorted place_cmp (e ∷ left_over)) → list_all (λ (f : Place × ℕ). from t range None f.0) (e ∷ left_over) ≡ true → is_in t range e.0 ≡ false → where_key place_cmp (is_in t range) (e ∷ left_over) ≡ []
+  none_behind e left_over sorted all_from outside =
+      let begun = left (from t range None e.0) (list_all (λ (f : Place × ℕ). from t range None f.0) left_over) all_from in
+      let out : is_next t range None e.0 ≡ false = and_true (is_in t range e.0) ∙ outside in
+      ap (λ b. cond b (e ∷ where_key place_cmp (is_in t range) left_over) (where_key place_cmp (is_in t range) left_over)) outside
+      ∙ filter-alike (λ (f : Place × ℕ). is_in t range f.0) (λ (f : Place × ℕ). is_next t range None f.0) (λ f. sym (and_true (is_in t range f.0))) left_over
+      ∙ none place_cmp (is_next t range None) (from t range None) (narrower t range None) (falls t range None) e begun out left_over (parted (below_all place_cmp e.0 left_over) (is_sorted place_cmp left_over) sorted).0
 
   module _ (directory : List (Place × ℕ)) (marks : List Bool) (rows : ℕ) (rest : List (Place × ℕ)) (so : IsMarking directory marks rows rest) where
     -- a place in the range is passed
@@ -133,9 +142,4 @@ module _ (t : ℕ) (range : KeyRange) where
     marking_stops e left_over is outside = ended (ap (where_key place_cmp (is_in t range)) is ∙ by (subst (IsMarking directory marks rows) is so))
       where
         by : IsMarking directory marks rows (e ∷ left_over) → where_key place_cmp (is_in t range) (e ∷ left_over) ≡ []
-        by h =
-            let begun = left (from t range None e.0) (list_all (λ (f : Place × ℕ). from t range None f.0) left_over) h.begun in
-            let out : is_next t range None e.0 ≡ false = and_true (is_in t range e.0) ∙ outside in
-            ap (λ b. cond b (e ∷ where_key place_cmp (is_in t range) left_over) (where_key place_cmp (is_in t range) left_over)) outside
-            ∙ filter-alike (λ (f : Place × ℕ). is_in t range f.0) (λ (f : Place × ℕ). is_next t range None f.0) (λ f. sym (and_true (is_in t range f.0))) left_over
-            ∙ none place_cmp (is_next t range None) (from t range None) (narrower t range None) (falls t range None) e begun out left_over (parted (below_all place_cmp e.0 left_over) (is_sorted place_cmp left_over) h.in_order).0
+        by h = none_behind e left_over h.in_order h.begun outside

@@ -16,7 +16,7 @@ use Rattle.std.specs.declared.cmp.Ordering.{Ordering}
 use denote.Ref.{Bor}
 use lib.Dec.{T}
 
-less_apart : (o : Ordering) → T (is_lt o) → is_eq o ≡ false
+pub less_apart : (o : Ordering) → T (is_lt o) → is_eq o ≡ false
 less_apart Less h = refl
 less_apart Equal h = absurd h
 less_apart Greater h = absurd h

@@ -7,6 +7,7 @@ mod halving;
 mod judge;
 mod listing;
 mod page;
+mod seats;
 mod space;
 
 pub use directory::{Directory, Extent, extent_of, is_last, next_place, page_before, page_of};
@@ -15,4 +16,5 @@ pub use halving::{Half, put_places, split_page};
 pub use judge::{AnyRow, RowJudge};
 pub use listing::list_page;
 pub use page::{Replaced, load_page, load_row, new_page, put_on, replace_on, row_of};
+pub use seats::{Seat, few_seats};
 pub use space::Space;
