@@ -4,10 +4,12 @@ use Rattle.salt_directory.specs.Halves.{placed_on}
 use Rattle.salt_directory.specs.Pages.{free_on}
 use Rattle.salt_directory.specs.Rows.{one_row}
 use Rattle.salt_directory.specs.declared.halving.Half.{Half}
-use Rattle.salt_model.specs.Tables.{place_cmp}
+use Rattle.salt_model.specs.Tables.{Tables, place_cmp, remove_at, set_row}
 use Rattle.salt_model.specs.declared.places.Place.{Place}
 use Rattle.salt_pool.specs.Pools.{IsPool, with_dirty, with_frame}
 use Rattle.salt_rows.specs.Sides.{spare_side}
+use Rattle.salt_rows.specs.declared.split.Way.TheVariants.{Done, Open}
+use Rattle.salt_rows.specs.declared.split.Way.{Way}
 use Rattle.salt_rows.specs.declared.store.RowStore.{RowStore}
 use Rattle.salt_values.specs.declared.value.Value.{Value}
 use Rattle.std.specs.BTreeMap.{insert_entry}
@@ -27,6 +29,11 @@ pub record IsMarked (old new : RowStore) (page free : ℕ) : Type 0 where
 abbrev pub NamesKey : Place → Option (List Value) → Type 0
 NamesKey q None = ⊤
 NamesKey q (Some row) = key_of row ≡ q.key
+
+-- the tables behind `make_way`: the change is made, or its place is empty
+abbrev pub tables_left : Way → Place → Option (List Value) → Tables → Tables
+tables_left Done q row t = set_row q row t
+tables_left (Open beside) q row t = remove_at q t
 
 -- a new page behind the others has this row alone; all else is as it was
 pub record IsFresh (old new : RowStore) (q : Place) (row : List Value) : Type 0 where

@@ -12,7 +12,6 @@ ghost use Rattle.salt_pool.specs.Frames.{frame_count};
 ghost use Rattle.salt_pool.specs.Pools.{IsPool, dirty_of, frame_of};
 ghost use Rattle.salt_rows.specs.Changing.{IsFresh, IsMarked, NamesKey};
 ghost use Rattle.salt_directory.specs.Bytes.{IsWithin, bytes_of_changes, bytes_of_entries, row_bytes};
-ghost use Rattle.salt_directory.specs.Directories.{HasPagesBelow};
 ghost use Rattle.salt_directory.specs.Pages.{page_of};
 ghost use Rattle.salt_directory.specs.Space.{HasRoom};
 ghost use Rattle.salt_rows.specs.Stores.{IsKept, IsRowStore, IsSide, IsStanding, StandsOnPages, device_of, page_count};
@@ -21,8 +20,9 @@ ghost use Rattle.std.specs.Prelude.{IfOk, IsTrue, List, None, OnOk, Some, false,
 ghost use Rattle.std.specs.Result.{result_err};
 
 use crate::frame::{put_row, replace_row};
+use crate::split::Way;
 use crate::store::RowStore;
-use salt_directory::{Replaced, new_page, page_before, page_of};
+use salt_directory::{Replaced, new_page, page_of};
 use salt_disk::{DiskErr, Disks};
 use salt_gatelog::rejected;
 use salt_model::Place;
@@ -131,13 +131,16 @@ impl RowStore {
         }
     }
 
-    /// The page for a new row that takes so many bytes: that of the row before it, where it has room, else one that has, if any.
-    fn page_for(&self, place: &Place, needed: u16) -> Option<u32>
-        requires { HasPagesBelow self.now.directory.entries (length self.now.space) }
+    /// The page for a new row that takes so many bytes: this one, where it is a page that has room, else one that has, if any.
+    fn page_for(&self, beside: Option<u32>, needed: u16) -> Option<u32>
+        requires { length self.now.space ≡ page_count self.now }
         ensures { HasRoom self.now.space needed result }
     {
-        match page_before(&self.directory, place) {
-            Some(page) if needed <= self.space.free_on(page) => Some(page),
+        match beside {
+            Some(page)
+                if (page as usize) < self.page_count() && needed <= self.space.free_on(page) => {
+                Some(page)
+            }
             _ => self.space.with_room(needed),
         }
     }
@@ -208,8 +211,14 @@ impl RowStore {
         Ok(())
     }
 
-    /// A new row comes at a place where there is none.
-    fn put<D: Disks>(&mut self, disks: &mut D, place: Place, row: &Row) -> Result<(), DiskErr>
+    /// A new row comes at a place where there is none, on this page, where it has room.
+    fn put<D: Disks>(
+        &mut self,
+        disks: &mut D,
+        place: Place,
+        row: &Row,
+        beside: Option<u32>,
+    ) -> Result<(), DiskErr>
         requires stands { StandsOnPages (D.view disks.old) self.old }
         requires row { is_row_length (length row.now) ≡ true }
         requires key { key_of row.now ≡ place.key }
@@ -223,7 +232,7 @@ impl RowStore {
         ensures answers { OnlyFails (result_err result) }
     {
         let needed = row_room(row.as_slice()) as u16;
-        match self.page_for(&place, needed) {
+        match self.page_for(beside, needed) {
             Some(page) => self.put_beside(disks, place, row, page),
             None => {
                 self.put_fresh(place, row)?;
@@ -253,13 +262,16 @@ impl RowStore {
             key: change.key.copy(self.alloc)?,
         };
         let row = change.row.as_ref();
-        let done = self.make_way(disks, &place, row)?;
+        let way = self.make_way(disks, &place, row)?;
+        let Way::Open(beside) = way else {
+            return Ok(());
+        };
         match row {
-            Some(row) if !done => {
-                self.put(disks, place, row)?;
+            Some(row) => {
+                self.put(disks, place, row, beside)?;
                 self.make_room(disks)
             }
-            _ => Ok(()),
+            None => Ok(()),
         }
     }
 

@@ -5,13 +5,13 @@ ghost use Rattle.salt_bytes.specs.Values.{HasRowTo};
 ghost use Rattle.salt_checkpoint.specs.Sides.{KeepsNamed, NamedSame};
 ghost use Rattle.salt_directory.specs.Bytes.{IsWithin, bytes_of_entries};
 ghost use Rattle.salt_disk.specs.Disks.{FullOnly, HasCause, KeepsAll, KeepsOthers, OnlyFails};
-ghost use Rattle.salt_model.specs.Tables.{Tables, remove_at, set_row};
+ghost use Rattle.salt_model.specs.Tables.{Tables};
 ghost use Rattle.salt_pool.specs.Frames.{frame_count};
 ghost use Rattle.salt_pool.specs.Pools.{dirty_of};
-ghost use Rattle.salt_rows.specs.Changing.{IsHalfPut, NamesKey};
+ghost use Rattle.salt_rows.specs.Changing.{IsHalfPut, NamesKey, tables_left};
 ghost use Rattle.salt_rows.specs.Stores.{IsKept, IsRowStore, IsStanding, StandsOnPages, device_of, page_count};
 ghost use Rattle.std.specs.Option.{option_copied};
-ghost use Rattle.std.specs.Prelude.{IfOk, IsTrue, List, OnOk, false, length, ℕ, ◌+◌, ◌<◌, ◌≡◌, ◌≤◌};
+ghost use Rattle.std.specs.Prelude.{IfOk, IsTrue, List, OnOk, length, ℕ, ◌+◌, ◌<◌, ◌≡◌, ◌≤◌};
 ghost use Rattle.std.specs.Result.{result_err};
 
 use crate::frame::half_of;
@@ -23,6 +23,15 @@ use salt_pages::row_room;
 use salt_pool::PoolErr;
 use salt_values::Row;
 use std::alloc::AllocError;
+
+/// What is left of a change behind `make_way`.
+#[derive(Clone, Copy, Debug)]
+pub(crate) enum Way {
+    /// It is made.
+    Done,
+    /// No row stands at its place, and the new one is to come: beside the row before it, where there is one, on this page.
+    Open(Option<u32>),
+}
 
 impl RowStore {
     /// A half that was taken from a page comes on a new page, behind the others. A store of 2^32 - 1 pages has no memory for more.
@@ -89,13 +98,14 @@ impl RowStore {
 
     /// Where the page of the row before a place has too few free bytes for a new one, it is split: so rows of neighbouring keys stand together.
     /// It is not where the rows fill less than half of the pages on the whole, so that there are never more pages than rows of so many bytes
-    /// may have; nor behind all rows of a table, so that rows which come in rising order fill their pages.
+    /// may have; nor behind all rows of a table, so that rows which come in rising order fill their pages. It answers the page of
+    /// the row before the place, where there is one.
     fn make_place<D: Disks>(
         &mut self,
         disks: &mut D,
         place: &Place,
         needed: u16,
-    ) -> Result<(), DiskErr>
+    ) -> Result<Option<u32>, DiskErr>
         requires stands { StandsOnPages (D.view disks.old) self.old }
         ensures rows { (dev : ℕ) (named : List ℕ) (t : Tables) → IsRowStore (D.view disks.old) self.old dev named t → OnOk result (IsRowStore (D.view disks.new) self.new dev named t) }
         ensures images { (dev : ℕ) (named : List ℕ) (t : Tables) → IsRowStore (D.view disks.old) self.old dev named t → KeepsNamed named (D.view disks.old) (D.view disks.new) dev }
@@ -108,30 +118,32 @@ impl RowStore {
         ensures cause { HasCause (D.view disks.old) (D.view disks.new) (result_err result) }
         ensures full { FullOnly (device_of self.old) ((D.view disks.old).limit (device_of self.old)) (page_place (page_count self.new) 0) (result_err result) }
     {
-        match page_before(&self.directory, place) {
+        let beside = page_before(&self.directory, place);
+        match beside {
             Some(page)
                 if self.space.free_on(page) < needed
                     && self.space.may_grow()
-                    && !is_last(&self.directory, place) => { self.split(disks, page) }
-            _ => Ok(()),
+                    && !is_last(&self.directory, place) => {
+                self.split(disks, page)?;
+                Ok(page_before(&self.directory, place))
+            }
+            _ => Ok(beside),
         }
     }
 
-    /// The row at a place goes, where there is one; the new one comes on the page of the old one, where it has room. Whether all is
-    /// done: else no row stands at the place, and a new one is to come, for which a page may have been split.
+    /// The row at a place goes, where there is one; the new one comes on the page of the old one, where it has room. What is left to do
+    /// for it, for which a page may have been split.
     pub(crate) fn make_way<D: Disks>(
         &mut self,
         disks: &mut D,
         place: &Place,
         row: Option<&Row>,
-    ) -> Result<bool, DiskErr>
+    ) -> Result<Way, DiskErr>
         requires stands { StandsOnPages (D.view disks.old) self.old }
         requires row { HasRowTo (option_copied row) }
         requires key { NamesKey place.now (option_copied row) }
-        ensures done { (dev : ℕ) (named : List ℕ) (t : Tables) → IsRowStore (D.view disks.old) self.old dev named t
-            → IfOk result (λ done. IsTrue done → IsRowStore (D.view disks.new) self.new dev named (set_row place.now (option_copied row.entry) t)) }
-        ensures left { (dev : ℕ) (named : List ℕ) (t : Tables) → IsRowStore (D.view disks.old) self.old dev named t
-            → IfOk result (λ done. done ≡ false → IsRowStore (D.view disks.new) self.new dev named (remove_at place.now t)) }
+        ensures way { (dev : ℕ) (named : List ℕ) (t : Tables) → IsRowStore (D.view disks.old) self.old dev named t
+            → IfOk result (λ way. IsRowStore (D.view disks.new) self.new dev named (tables_left way place.now (option_copied row.entry) t)) }
         ensures images { (dev : ℕ) (named : List ℕ) (t : Tables) → IsRowStore (D.view disks.old) self.old dev named t → KeepsNamed named (D.view disks.old) (D.view disks.new) dev }
         ensures named { (dev : ℕ) (named : List ℕ) (t : Tables) → IsRowStore (D.view disks.old) self.old dev named t → IsTrue (D.view disks.old).told
             → OnOk result (NamedSame named ((D.view disks.old).bytes dev) ((D.view disks.new).bytes dev)) }
@@ -143,12 +155,15 @@ impl RowStore {
         ensures full { FullOnly (device_of self.old) ((D.view disks.old).limit (device_of self.old)) (page_place (page_count self.new) 0) (result_err result) }
     {
         let done = self.take_out(disks, place, row)?;
+        if done {
+            return Ok(Way::Done);
+        }
         match row {
-            Some(row) if !done => {
-                self.make_place(disks, place, row_room(row.as_slice()) as u16)?;
-                Ok(false)
+            Some(row) => {
+                let beside = self.make_place(disks, place, row_room(row.as_slice()) as u16)?;
+                Ok(Way::Open(beside))
             }
-            _ => Ok(done),
+            None => Ok(Way::Done),
         }
     }
 }
