@@ -1,13 +1,15 @@
 //! Rows are read.
 
 ghost use Rattle.salt_bytes.specs.Page.{TableRow};
-ghost use Rattle.salt_directory.specs.Loading.{HasLoaded, HaveOthersNone, rows_within};
+ghost use Rattle.salt_bytes.specs.Spellable.{Every};
+ghost use Rattle.salt_directory.specs.Loading.{HasLoaded, HaveOthersNone, IsRowLoaded, IsSeated, rows_within, seats_in};
 ghost use Rattle.salt_directory.specs.Pages.{all_rows, page_of};
 ghost use Rattle.salt_disk.specs.Disks.{HasCause, KeepsAll, OnlyFails, UnlessDown};
 ghost use Rattle.salt_eval.specs.Scans.{point_of};
 ghost use Rattle.salt_eval.specs.Views.{next_row};
 ghost use Rattle.salt_loaded.specs.Rows.{with_rows};
 ghost use Rattle.salt_model.specs.Tables.{Tables, place, row_at};
+ghost use Rattle.salt_ranges.specs.declared.range.KeyRange.{KeyRange};
 ghost use Rattle.salt_rows.specs.Reads.{HasOnPages, LooksOn};
 ghost use Rattle.salt_rows.specs.Stores.{IsRowStore, StandsOnPages, page_count, places_of};
 ghost use Rattle.salt_values.specs.Value.{key_of};
@@ -17,7 +19,7 @@ ghost use Rattle.std.specs.Result.{result_err};
 
 use crate::frame::{load_key, load_range, row_on};
 use crate::store::RowStore;
-use salt_directory::{extent_of, next_place, page_of};
+use salt_directory::{Seat, extent_of, few_seats, next_place, page_of};
 use salt_disk::{DiskErr, Disks};
 use salt_eval::point_of;
 use salt_gatelog::rejected;
@@ -114,8 +116,33 @@ impl RowStore {
         }
     }
 
-    /// The row of a range of one key is loaded, where there is one. Where its page lacks it, which only disks can give that don't tell
-    /// their bytes, the disks have failed.
+    /// The row of a key that the directory has on this page is loaded. Where the page lacks it, which only disks can give that don't
+    /// tell their bytes, the disks have failed.
+    fn load_seat<D: Disks>(
+        &mut self,
+        disks: &mut D,
+        key: &Key,
+        page: u32,
+        out: &mut Loading,
+    ) -> Result<(), DiskErr>
+        requires stands { StandsOnPages (D.view disks.old) self.old }
+        requires page { page_of self.old.directory.entries (place out.old.table key.now) ≡ Some page }
+        ensures row { (dev : ℕ) (named : List ℕ) (t : Tables) → IsRowStore (D.view disks.old) self.old dev named t → IsTrue (D.view disks.old).told
+            → OnOk result (IsRowLoaded t key.now out.old out.new) }
+        ensures table { OnOk result (out.new.table ≡ out.old.table) }
+        ensures stands { (dev : ℕ) (named : List ℕ) (t : Tables) → IsRowStore (D.view disks.old) self.old dev named t
+            → UnlessDown (result_err result) (IsRowStore (D.view disks.new) self.new dev named t) }
+        ensures same { LooksOn self.old self.new }
+        ensures kept { KeepsAll (D.view disks.old) (D.view disks.new) (result_err result) }
+        ensures cause { HasCause (D.view disks.old) (D.view disks.new) (result_err result) }
+        ensures answers { OnlyFails (result_err result) }
+    {
+        let side = self.sides[page as usize];
+        let found = load_key(&mut self.pool, self.alloc, disks, page, side, key, out)?;
+        if found { Ok(()) } else { Err(rejected(disks)) }
+    }
+
+    /// The row of a range of one key is loaded, where there is one.
     fn load_one<D: Disks>(
         &mut self,
         disks: &mut D,
@@ -129,7 +156,7 @@ impl RowStore {
             → OnOk result (HasLoaded range.now t out.old out.new) }
         ensures stands { (dev : ℕ) (named : List ℕ) (t : Tables) → IsRowStore (D.view disks.old) self.old dev named t
             → UnlessDown (result_err result) (IsRowStore (D.view disks.new) self.new dev named t) }
-        ensures places { places_of self.new ≡ places_of self.old }
+        ensures same { LooksOn self.old self.new }
         ensures kept { KeepsAll (D.view disks.old) (D.view disks.new) (result_err result) }
         ensures cause { HasCause (D.view disks.old) (D.view disks.new) (result_err result) }
         ensures answers { OnlyFails (result_err result) }
@@ -138,12 +165,34 @@ impl RowStore {
             table: out.table(),
             key: key.copy(self.alloc)?,
         };
-        let Some(page) = page_of(&self.directory, &place) else {
-            return Ok(());
-        };
-        let side = self.sides[page as usize];
-        let found = load_key(&mut self.pool, self.alloc, disks, page, side, key, out)?;
-        if found { Ok(()) } else { Err(rejected(disks)) }
+        match page_of(&self.directory, &place) {
+            Some(page) => self.load_seat(disks, key, page, out),
+            None => Ok(()),
+        }
+    }
+
+    /// The rows of a range that is seated so are loaded one by one.
+    fn load_seats<D: Disks>(
+        &mut self,
+        disks: &mut D,
+        seats: &[Seat],
+        out: &mut Loading,
+    ) -> Result<(), DiskErr>
+        requires stands { StandsOnPages (D.view disks.old) self.old }
+        requires seated { Every (IsSeated out.old.table self.old.directory.entries) seats.now }
+        ensures rows { (dev : ℕ) (named : List ℕ) (t : Tables) → IsRowStore (D.view disks.old) self.old dev named t → IsTrue (D.view disks.old).told
+            → (range : KeyRange) → seats.now ≡ seats_in out.old.table range self.old.directory.entries → OnOk result (HasLoaded range t out.old out.new) }
+        ensures stands { (dev : ℕ) (named : List ℕ) (t : Tables) → IsRowStore (D.view disks.old) self.old dev named t
+            → UnlessDown (result_err result) (IsRowStore (D.view disks.new) self.new dev named t) }
+        ensures same { LooksOn self.old self.new }
+        ensures kept { KeepsAll (D.view disks.old) (D.view disks.new) (result_err result) }
+        ensures cause { HasCause (D.view disks.old) (D.view disks.new) (result_err result) }
+        ensures answers { OnlyFails (result_err result) }
+    {
+        for seat in seats {
+            self.load_seat(disks, &seat.key, seat.page, out)?;
+        }
+        Ok(())
     }
 
     /// The rows of a range that stand on a page are loaded.
@@ -201,9 +250,10 @@ impl RowStore {
         Ok(())
     }
 
-    /// The rows of a range are loaded: each page that has some is looked at once. It writes nothing. Where memory runs out the store
-    /// stands as before. Where pages have another number of rows of the range than the directory, which only disks can give that don't
-    /// tell their bytes, the disks have failed; of all rows of a table none are counted.
+    /// The rows of a range are loaded: one by one where there are few; else each page that has some is looked at once. It writes nothing.
+    /// Where memory runs out the store stands as before. Where a page lacks a row, or pages have another number of rows of the range
+    /// than the directory, which only disks can give that don't tell their bytes, the disks have failed; of all rows of a table none
+    /// are counted.
     pub fn load<D: Disks>(
         &mut self,
         disks: &mut D,
@@ -228,7 +278,11 @@ impl RowStore {
             let marks = vec![in self.alloc; true; count]?;
             return self.load_marked(disks, marks.as_slice(), range, out);
         }
-        let extent = extent_of(self.alloc, &self.directory, out.table(), range, count)?;
+        let table = out.table();
+        if let Some(seats) = few_seats(self.alloc, &self.directory, table, range)? {
+            return self.load_seats(disks, seats.as_slice(), out);
+        }
+        let extent = extent_of(self.alloc, &self.directory, table, range, count)?;
         let before = out.count();
         self.load_marked(disks, extent.pages.as_slice(), range, out)?;
         let came = out.count().saturating_sub(before);
