@@ -10,7 +10,7 @@ use Rattle.salt_model.specs.Tables.{Tables, place_cmp, put_row, remove_at, row_a
 use Rattle.salt_model.specs.declared.places.Place.{Place}
 use Rattle.salt_stands.proofs.Places.{equal_is, place_same, row_at_set, same_tables}
 use Rattle.salt_values.specs.declared.value.Value.{Value}
-use Rattle.std.proofs.Common.{Bool, List, None, Option, Some, [], ap, append_assoc, arith, cond, drop, false, get_or, length, refl, set, subst, suc, sym, true, zero, ℕ, ◌+◌, ◌++◌, ◌<◌, ◌≡◌, ◌∙◌, ◌∷◌}
+use Rattle.std.proofs.Common.{Bool, List, None, Some, [], ap, append_assoc, arith, cond, drop, false, get_or, length, refl, set, subst, suc, sym, true, zero, ℕ, ◌+◌, ◌++◌, ◌<◌, ◌≡◌, ◌∙◌, ◌∷◌}
 use Rattle.std.proofs.lemmas.List.{get_or-set_same, get_or_append_left, get_or_push, length-set, length_push, set-append_left, set-get_or, set-set, set_at}
 use Rattle.std.specs.BTreeMap.{insert_entry, is_at}
 use Rattle.std.specs.List.{remove}
@@ -54,16 +54,16 @@ module _ (qs : List Place) (page lower upper : List TableRow) (i : ℕ) (r : Tab
   now : HaveGone qs page [] (lower ++ r ∷ drop (i + 1) page) upper
   now = subst (λ (l : List TableRow). HaveGone qs page [] (lower ++ l) upper) (rows_from page i r there) so_far
 
-  same : (ps : List Place) (rows rows' others : List TableRow) → qs' ≡ ps → rows' ≡ rows → upper' ≡ others → HaveGone ps page [] rows others → HaveGone qs' page [] rows' upper'
-  same ps rows rows' others a b c h =
+  told_so : (ps : List Place) (rows rows' others : List TableRow) → qs' ≡ ps → rows' ≡ rows → upper' ≡ others → HaveGone ps page [] rows others → HaveGone qs' page [] rows' upper'
+  told_so ps rows rows' others a b c h =
       subst (λ (l : List Place). HaveGone l page [] rows' upper') (sym a) (subst (λ (l : List TableRow). HaveGone ps page [] l upper') (sym b) (subst (λ (l : List TableRow). HaveGone ps page [] rows l) (sym c) h))
 
   pub next_stays : qs' ≡ qs → lower' ≡ lower ++ r ∷ [] → upper' ≡ upper → HaveGone qs' page [] (lower' ++ drop (i + 1) page) upper'
-  next_stays a b c = same qs (lower ++ r ∷ drop (i + 1) page) (lower' ++ drop (i + 1) page) upper a (ap (λ (l : List TableRow). l ++ drop (i + 1) page) b ∙ append_assoc lower (r ∷ []) (drop (i + 1) page)) c now
+  next_stays a b c = told_so qs (lower ++ r ∷ drop (i + 1) page) (lower' ++ drop (i + 1) page) upper a (ap (λ (l : List TableRow). l ++ drop (i + 1) page) b ∙ append_assoc lower (r ∷ []) (drop (i + 1) page)) c now
 
   pub next_goes : (q : Place) → place_of_row r ≡ q → qs' ≡ qs ++ q ∷ [] → lower' ≡ lower → upper' ≡ upper ++ r ∷ [] → HaveGone qs' page [] (lower' ++ drop (i + 1) page) upper'
   next_goes q of a b c =
-      same (qs ++ q ∷ []) (remove (lower ++ r ∷ drop (i + 1) page) (length lower)) (lower' ++ drop (i + 1) page) (upper ++ r ∷ []) a
+      told_so (qs ++ q ∷ []) (remove (lower ++ r ∷ drop (i + 1) page) (length lower)) (lower' ++ drop (i + 1) page) (upper ++ r ∷ []) a
       (ap (λ (l : List TableRow). l ++ drop (i + 1) page) b ∙ sym (without_seam lower r (drop (i + 1) page))) c
       (gone_more qs page [] (lower ++ r ∷ drop (i + 1) page) upper (length lower) r q now (row_at_seam lower r (drop (i + 1) page)) of)
 

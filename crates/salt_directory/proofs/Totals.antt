@@ -1,6 +1,6 @@
 -- The free bytes of pages on the whole.
 use Rattle.salt_directory.specs.Space.{IsSumOf}
-use Rattle.std.proofs.Common.{List, [], arith, get_or, length, refl, set, sum, ℕ, ◌*◌, ◌+◌, ◌++◌, ◌-◌, ◌<◌, ◌≡◌, ◌≤◌, ◌∷◌}
+use Rattle.std.proofs.Common.{List, [], arith, get_or, length, refl, set, ℕ, ◌*◌, ◌+◌, ◌++◌, ◌-◌, ◌<◌, ◌≡◌, ◌≤◌, ◌∷◌}
 use Rattle.std.proofs.lemmas.List.Elements.{All-push, All-set}
 use Rattle.std.proofs.lemmas.List.Sums.{get_or-le-sum_by, sum_by-le, sum_by-set, sum_by_push}
 

@@ -9,8 +9,8 @@ use Rattle.salt_directory.specs.Loading.{HasLoaded, HaveAllOf, HaveOthersNone, I
 use Rattle.salt_directory.specs.Pages.{all_rows, page_of}
 use Rattle.salt_directory.specs.Rows.{IsRowFound}
 use Rattle.salt_directory.specs.declared.seats.Seat.{Seat}
-use Rattle.salt_disk.proofs.CallAfterCall.{cause_none, cause_on, keeps_on, unless_down}
-use Rattle.salt_disk.specs.Disks.{HasCause, KeepsAll, SameShape, UnlessDown, View}
+use Rattle.salt_disk.proofs.CallAfterCall.{cause_none, cause_on, keeps_on}
+use Rattle.salt_disk.specs.Disks.{HasCause, KeepsAll, View}
 use Rattle.salt_disk.specs.declared.disks.DiskErr.{DiskErr}
 use Rattle.salt_eval.specs.Scans.{point_of, row_list}
 use Rattle.salt_loaded.specs.Rows.{RowsOf, with_rows}
@@ -18,10 +18,10 @@ use Rattle.salt_model.specs.Tables.{Tables, place, row_at}
 use Rattle.salt_pool.specs.Pools.{with_frame}
 use Rattle.salt_ranges.specs.declared.range.KeyRange.{KeyRange}
 use Rattle.salt_rows.proofs.Applied.{keeps_same}
-use Rattle.salt_rows.proofs.Read.{found_key, frames_page, row_behind}
+use Rattle.salt_rows.proofs.Read.{found_key, row_behind}
 use Rattle.salt_rows.proofs.Reading.{shows_on, some_same}
 use Rattle.salt_rows.proofs.Standing.{pages_framed}
-use Rattle.salt_rows.specs.Frames.{CanFrame, Frames, HasFramed, shown_page}
+use Rattle.salt_rows.specs.Frames.{Frames, HasFramed}
 use Rattle.salt_rows.specs.Reads.{HasOnPages, LooksOn}
 use Rattle.salt_rows.specs.Sides.{ArePages}
 use Rattle.salt_rows.specs.Stores.{IsRowStore, StandsOnPages}

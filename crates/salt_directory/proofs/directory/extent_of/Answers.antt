@@ -6,7 +6,7 @@ use Rattle.salt_directory.specs.Loading.{HaveAllOf, count_in}
 use Rattle.salt_eval.proofs.InOrder.{in_order}
 use Rattle.salt_model.specs.Tables.{place_cmp}
 use Rattle.salt_ranges.specs.Ranges.{has_key}
-use Rattle.std.proofs.Common.{ap, arith, false, length, refl, rules, subst, sym, true, ◌&&◌, ◌<◌, ◌==◌, ◌^◌, ◌≡◌, ◌∙◌}
+use Rattle.std.proofs.Common.{ap, arith, length, refl, rules, subst, sym, true, ◌&&◌, ◌<◌, ◌==◌, ◌^◌, ◌≡◌, ◌∙◌}
 use Rattle.std.proofs.lemmas.Bool.{eq-eqb, ne_eqb}
 use Rattle.std.proofs.lemmas.List.{length-set}
 use Rattle.std.specs.BTreeMap.Range.{entries_between}

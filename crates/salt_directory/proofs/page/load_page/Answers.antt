@@ -3,7 +3,7 @@ use Rattle.salt_directory.proofs.page.load_page.Goals as goal
 use Rattle.salt_directory.proofs.page.load_page.Goals.{else-is_of_table, then-is_of_table+in_ok-push_within}
 use Rattle.salt_loaded.specs.Rows.{with_rows}
 use Rattle.salt_pages.proofs.Spelled.{some_at}
-use Rattle.std.proofs.Common.{ap, arith, false, sym, true, ◌==◌, ◌≡◌, ◌∙◌}
+use Rattle.std.proofs.Common.{ap, arith, sym, ◌==◌, ◌≡◌, ◌∙◌}
 
 pub loop-i-init : goal.loop-i-init
 loop-i-init c = sym (with_none c.args.out.now)

@@ -8,7 +8,7 @@ use Rattle.salt_directory.specs.declared.seats.Seat.{Seat}
 use Rattle.salt_eval.proofs.InOrder.{in_order}
 use Rattle.salt_model.specs.Tables.{place_cmp}
 use Rattle.salt_ranges.specs.Ranges.{has_key}
-use Rattle.std.proofs.Common.{List, [], ap, false, refl, subst, sym, true, ◌&&◌, ◌++◌, ◌==◌, ◌≡◌, ◌∙◌, ◌∷◌}
+use Rattle.std.proofs.Common.{List, [], ap, refl, subst, sym, true, ◌&&◌, ◌++◌, ◌==◌, ◌≡◌, ◌∙◌, ◌∷◌}
 use Rattle.std.proofs.lemmas.Bool.{eq-eqb, ne_eqb}
 use Rattle.std.specs.BTreeMap.Range.{entries_between}
 use Rattle.std.specs.declared.ops.Bound.TheVariants.{Unbounded}

@@ -9,7 +9,7 @@ use Rattle.salt_rows.proofs.open.open_rows.Goals as goal
 use Rattle.salt_rows.specs.Errors.{rows_disk_err}
 use Rattle.salt_rows.specs.Sides.{sides_up_to}
 use Rattle.salt_rows.specs.declared.error.RowsErr.TheVariants.{NotPage, NotRow}
-use Rattle.std.proofs.Common.{Err, List, None, Some, [], ap, arith, false, get_or, length, refl, subst, sym, true, ℕ, ◌*◌, ◌++◌, ◌<◌, ◌≡◌, ◌≤◌, ◌∙◌, ◌∷◌}
+use Rattle.std.proofs.Common.{Err, List, None, Some, [], ap, arith, get_or, length, refl, subst, sym, ℕ, ◌*◌, ◌++◌, ◌<◌, ◌≡◌, ◌≤◌, ◌∙◌, ◌∷◌}
 use Rattle.std.proofs.lemmas.Result.{err_from_is_err_and}
 
 pub loop-number-init : goal.loop-number-init

@@ -1,10 +1,10 @@
-use Rattle.salt_directory.specs.Loading.{HasLoaded, HaveAllOf, HaveOthersNone, count_in, rows_within, seats_in}
+use Rattle.salt_directory.specs.Loading.{HasLoaded, HaveAllOf, count_in, rows_within, seats_in}
 use Rattle.salt_directory.specs.Pages.{all_rows}
 use Rattle.salt_gatelog.proofs.Entries.{not_told}
 use Rattle.salt_loaded.specs.Rows.{with_rows}
 use Rattle.salt_rows.proofs.Loads.{each_marked, marked_none, on_ok, on_own, own_pages, range_counted, range_loaded}
 use Rattle.salt_rows.proofs.store.RowStore.load.Goals as goal
-use Rattle.std.proofs.Common.{IfSome, Option, Some, ap, arith, get_or, length, replicate, rules, subst, sym, true, false, ◌+◌, ◌-◌, ◌≡◌, ◌∙◌}
+use Rattle.std.proofs.Common.{IfSome, Option, Some, ap, arith, get_or, length, replicate, rules, subst, sym, true, false, ◌≡◌, ◌∙◌}
 use Rattle.std.proofs.lemmas.List.{get_or-replicate, length-replicate}
 
 -- ALL ROWS OF A TABLE
