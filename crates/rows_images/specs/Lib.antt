@@ -5,6 +5,7 @@ pub mod Units
 pub mod Continuations
 pub mod Moves
 pub mod Entries
+pub mod Pages
 pub mod Runs
 pub mod Messages
 pub mod Witness
