@@ -1,5 +1,5 @@
 //! Bytes that are collected before they are written.
-ghost use Rattle.std.specs.Prelude.{◌≡◌, ◌<◌, ◌≤◌, ◌++◌, [], length, take, OnOk};
+ghost use Rattle.std.specs.Prelude.{◌≡◌, ◌<◌, ◌≤◌, ◌+◌, ◌++◌, [], length, take, OnOk};
 ghost use Rattle.salt_io.specs.Collects.{Collects};
 ghost use Rattle.salt_io.specs.Sends.{Sends};
 ghost use Rattle.salt_io.specs.declared.buffer.TheConstants.{ROOM};
@@ -47,6 +47,7 @@ impl WriteBuffer {
         ensures within { result ≤ length bytes.now }
         ensures some { 0 < length bytes.now → 0 < result }
         ensures kept { self.new ≡ self.old ++ take result bytes.now }
+        ensures all { length self.old + length bytes.now < ROOM → result ≡ length bytes.now }
     {
         let n = bytes.len().min(ROOM - self.end);
         self.bytes[self.end..self.end + n].copy_from_slice(&bytes[..n]);
@@ -76,9 +77,9 @@ impl WriteBuffer {
         Ok(())
     }
 
-    /// Puts the bytes behind those that wait, and writes what waits each time that there is no more room. `IoFailed` where a write
-    /// failed: the sink has counted the fault, and has some first part of what waited and of these bytes, and not all.
-    pub fn put<K: Sink>(&mut self, sink: &mut K, bytes: &[u8]) -> Result<(), IoFailed>
+    /// Puts the bytes behind those that wait, a piece at a time, and writes what waits each time that there is no more room. `IoFailed`
+    /// as for `put`.
+    fn put_in_pieces<K: Sink>(&mut self, sink: &mut K, bytes: &[u8]) -> Result<(), IoFailed>
         ensures { Collects K.held K.faults sink.old self.old sink.new self.new result bytes.now }
     {
         let mut done = 0;
@@ -87,5 +88,17 @@ impl WriteBuffer {
             done += self.keep(&bytes[done..]);
         }
         Ok(())
+    }
+
+    /// Puts the bytes behind those that wait, and writes what waits each time that there is no more room. `IoFailed` where a write
+    /// failed: the sink has counted the fault, and has some first part of what waited and of these bytes, and not all.
+    pub fn put<K: Sink>(&mut self, sink: &mut K, bytes: &[u8]) -> Result<(), IoFailed>
+        ensures { Collects K.held K.faults sink.old self.old sink.new self.new result bytes.now }
+    {
+        if bytes.len() < ROOM - self.end {
+            self.keep(bytes);
+            return Ok(());
+        }
+        self.put_in_pieces(sink, bytes)
     }
 }

@@ -3,7 +3,7 @@ use Rattle.std.proofs.Math.Seq.{take-length}
 use Rattle.salt_io.proofs.Collecting.{moves-more, moves-none, moves-short}
 use Rattle.salt_io.proofs.Results.{on_err}
 use Rattle.salt_io.proofs.Taking.{all-left, within-more}
-use Rattle.salt_io.proofs.buffer.WriteBuffer.put.Goals as goal
+use Rattle.salt_io.proofs.buffer.WriteBuffer.put_in_pieces.Goals as goal
 
 pub loop-done-init : goal.loop-done-init
 loop-done-init g c = record { within = omega arith; moves = moves-none _ _; same = search rules }

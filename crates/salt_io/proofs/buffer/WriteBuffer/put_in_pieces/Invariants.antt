@@ -1,6 +1,6 @@
 use Rattle.std.proofs.Common.{length, take, ◌-◌, ◌≡◌, ◌≤◌}
 use Rattle.salt_io.specs.Collects.{Moves}
-use Rattle.salt_io.proofs.buffer.WriteBuffer.put.Given as goal
+use Rattle.salt_io.proofs.buffer.WriteBuffer.put_in_pieces.Given as goal
 
 abbrev pub invariant-loop-done : goal.invariant-loop-done
 invariant-loop-done g l = record {
