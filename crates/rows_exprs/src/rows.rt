@@ -88,9 +88,10 @@ fn expr_of(alloc: Global, bytes: &[u8]) -> Result<Expr, RowErr> {
     }
 }
 
-fn sets_of(alloc: Global, bytes: &[u8]) -> Result<Sets, RowErr> {
-    match &read_statement(alloc, bytes)? {
-        Statement::Update { sets, .. } => Ok(sets.copy(alloc)?),
+/// What an update changes.
+fn sets_in(statement: &Statement) -> Result<&Sets, RowErr> {
+    match statement {
+        Statement::Update { sets, .. } => Ok(sets),
         _ => Err(RowErr::Unread),
     }
 }
@@ -150,11 +151,12 @@ impl Table {
 
     /// What an update gives, in words.
     fn update(&self, bytes: &[u8]) -> Result<Vec<u8>, RowErr> {
-        let sets = sets_of(self.alloc, bytes)?;
+        let statement = read_statement(self.alloc, bytes)?;
+        let sets = sets_in(&statement)?;
         let Some(def) = &self.def else {
             return Err(RowErr::Unread);
         };
-        match updated(self.alloc, def, &self.vars, &sets, &self.row) {
+        match updated(self.alloc, def, &self.vars, sets, &self.row) {
             Ok(row) => Ok(row_words(self.alloc, row.as_slice())?),
             Err(err) => Ok(cause_words(self.alloc, err)?),
         }

@@ -60,7 +60,7 @@ fn add_act(alloc: Global, out: &mut Vec<u8>, act: &Act) -> Result<(), AllocError
         }
         Act::Do(statement) => {
             out.extend_from_slice(b" do ")?;
-            print_statement(out, &statement.copy(alloc)?)
+            print_statement(out, statement.copy(alloc)?.get())
         }
     }
 }

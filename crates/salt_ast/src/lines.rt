@@ -1,6 +1,7 @@
 //! The trees of a script's lines.
 
 use crate::programs::ProgramDef;
+use crate::shared::Shared;
 use crate::trees::{Statement, TableDef};
 use salt_values::{Id, Name, Row};
 use sqlite_items::Items;
@@ -18,7 +19,7 @@ pub enum Act {
     /// Do the next turn of the unit that a call began.
     Step,
     Call { program: Name, args: Row },
-    Do(Statement),
+    Do(Shared<Statement>),
 }
 
 impl Drop for Act {

@@ -7,12 +7,13 @@ ghost use Rattle.salt_ast.specs.ProgramTexts.{program_text, retry_text, then_tex
 
 use crate::printer::{Canonical, Printer};
 use crate::programs::{Body, Next, PartDef, ProgramDef};
+use crate::shared::Shared;
 use crate::trees::{Field, Statement};
 use salt_io::Sink;
 
 impl<K: Sink> Printer<'_, K> {
     /// Prints the statements of a unit in braces.
-    fn block(&mut self, block: &[Statement])
+    fn block(&mut self, block: &[Shared<Statement>])
         ensures { Prints K.held K.faults self.old self.new (block_text block.now) }
     {
         match block {

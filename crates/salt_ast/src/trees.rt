@@ -1,5 +1,6 @@
 //! The trees of tables and statements.
 
+use crate::shared::Shared;
 use salt_values::{Name, Names, Value};
 use sqlite_items::{Boxed, Items};
 
@@ -182,7 +183,7 @@ pub enum Statement {
 }
 
 /// Statements in the order of the text.
-pub type Statements = Items<Statement>;
+pub type Statements = Items<Shared<Statement>>;
 
 impl Drop for Statement {
     fn drop(self) {

@@ -14,7 +14,7 @@ ghost use Rattle.salt_values.specs.Id.{has_id};
 
 use crate::state::{Begun, State, Units};
 use law_definitions::definitions_are_read;
-use salt_ast::{Line, Scope, Statement, print_statement, same_bytes};
+use salt_ast::{Line, Scope, Shared, Statement, print_statement, same_bytes};
 use salt_cont::limited_are_few;
 use salt_events::read_definition;
 use salt_model::{Event, UnitKind};
@@ -108,7 +108,7 @@ fn is_same(alloc: Global, statement: &Statement, other: &Statement) -> Result<bo
 }
 
 /// The statement that the unit has to do next.
-fn next_of(note: &Begun) -> Option<&Statement>
+fn next_of(note: &Begun) -> Option<&Shared<Statement>>
     ensures { option_copied result ≡ next_of note.now }
 {
     match &note.block {
@@ -122,7 +122,7 @@ fn is_next(alloc: Global, statement: &Statement, note: &Begun) -> Result<bool, A
     ensures { IfOk result (λ same. same ≡ is_same_statement statement.now (next_of note.now)) }
 {
     match next_of(note) {
-        Some(next) => is_same(alloc, statement, next),
+        Some(next) => is_same(alloc, statement, next.get()),
         None => Ok(false),
     }
 }

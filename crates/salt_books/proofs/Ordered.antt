@@ -14,7 +14,7 @@ use Rattle.std.proofs.Common.{ap, arith, refl, subst, sym, ◌∙◌}
 use Rattle.std.proofs.lemmas.Bool.{both_ways, cases_order}
 use Rattle.std.specs.List.{filter, find, remove}
 use Rattle.std.specs.List.Sorted.{IsPartitionPoint, IsPartitionedBy}
-use Rattle.std.specs.Prelude.{Bool, List, None, Some, [], cond, false, get_or, is_some, length, not, set, suc, true, zero, ℕ, ◌+◌, ◌++◌, ◌<◌, ◌∷◌, ◌≡◌}
+use Rattle.std.specs.Prelude.{Bool, List, None, Some, [], cond, false, get_or, is_some, length, not, set, suc, true, zero, ℕ, ◌++◌, ◌<◌, ◌∷◌, ◌≡◌}
 
 -- of two names of which one is older neither is the other
 older-other : (a b : Id) → is_older a b ≡ true → is_same_id b a ≡ false

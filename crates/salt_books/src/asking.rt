@@ -6,7 +6,7 @@ ghost use Rattle.std.specs.Prelude.{IfOk, ◌≡◌};
 
 use crate::books::Books;
 use crate::kinds::{family_of, program_of};
-use salt_ast::{Line, Statement};
+use salt_ast::{Line, Shared, Statement};
 use salt_model::{Family, Reach};
 use salt_values::{Id, TryCopy};
 use sqlite_items::Boxed;
@@ -19,7 +19,7 @@ pub struct Asking {
     /// The BASE program of the unit, if it is of one.
     pub base: Option<Id>,
     pub family: Family,
-    pub statement: Boxed<Statement>,
+    pub statement: Shared<Statement>,
     pub reach: Option<Boxed<Reach>>,
 }
 
@@ -71,8 +71,8 @@ impl Books {
             unit,
             base: program_of(&held.kind),
             family: family_of(&held.kind),
-            statement: Boxed::new(self.alloc, statement.copy(self.alloc)?)?,
-            reach: boxed(self.alloc, self.reach(held, statement)?)?,
+            statement: statement.copy(self.alloc)?,
+            reach: boxed(self.alloc, self.reach(held, statement.get())?)?,
         }))
     }
 }

@@ -5,11 +5,11 @@ ghost use Rattle.salt_model.specs.Refusals.{is_base_program};
 ghost use Rattle.std.specs.Option.{option_copied};
 ghost use Rattle.std.specs.Prelude.{◌≡◌};
 
-use salt_ast::{Body, ProgramDef, Statement};
+use salt_ast::{Body, ProgramDef, Shared, Statement};
 use salt_cont::{at_number, parts_of};
 
 /// The statements of a program that is one ACID unit; a BASE program has none of its own.
-pub fn block_of_call(def: &ProgramDef) -> &[Statement]
+pub fn block_of_call(def: &ProgramDef) -> &[Shared<Statement>]
     ensures { result.now ≡ block_of_call def.now }
 {
     match &def.body {
@@ -29,7 +29,7 @@ pub fn is_base_program(def: Option<&ProgramDef>) -> bool
 }
 
 /// The statements of a part, where the first is 1; there are none of a part that is not there.
-pub fn block_of_part(def: &ProgramDef, number: u32) -> &[Statement]
+pub fn block_of_part(def: &ProgramDef, number: u32) -> &[Shared<Statement>]
     ensures { result.now ≡ block_of_part def.now number }
 {
     match at_number(parts_of(def), number as u64) {

@@ -17,7 +17,7 @@ ghost use Rattle.std.specs.Prelude.{IfOk, List, OnOk, [], false, ◌≡◌};
 use crate::held::{Held, count_bases};
 use crate::known::Known;
 use crate::places::{place_named, stays_in_order};
-use salt_ast::Statement;
+use salt_ast::{Shared, Statement};
 use salt_model::UnitKind;
 use salt_queue::Queue;
 use salt_units::OpenUnit;
@@ -158,7 +158,7 @@ impl Books {
     }
 
     /// A unit waits, and asks for what the line asks for in which it begins to. That names rise is the law `names_rise`.
-    pub fn wait(&mut self, unit: Id, asks: Option<Statement>)
+    pub fn wait(&mut self, unit: Id, asks: Option<Shared<Statement>>)
         requires { HaveUnit self.old unit }
         ensures { (s : UnitState) (owners : List Owner) → AreBooks self.old s → Rising (names_in s.units) → asks ≡ statement_of_line s.line
             → AreBooks self.new (units_after (Event.Waits unit owners) s) }

@@ -16,12 +16,11 @@ ghost use Rattle.std.specs.Prelude.{IfOk, OnOk, Some, true, ◌≡◌};
 use crate::books::Books;
 use crate::held::Held;
 use crate::places::{named_among, place_named};
-use salt_ast::Statement;
+use salt_ast::{Shared, Statement};
 use salt_cont::Move;
 use salt_loaded::Loaded;
 use salt_model::Answer;
 use salt_values::Id;
-use sqlite_items::Boxed;
 use std::alloc::AllocError;
 
 impl Books {
@@ -30,7 +29,7 @@ impl Books {
         &mut self,
         unit: Id,
         rows: &Loaded,
-        statement: &Boxed<Statement>,
+        statement: &Shared<Statement>,
     ) -> Result<Answer, AllocError>
         requires there { HaveUnit self.old unit }
         requires leaves_keys { leaves_keys (tables_in self.old) statement.now ≡ true }

@@ -11,7 +11,7 @@ ghost use Rattle.std.specs.Prelude.{IfOk, if◌then◌else◌, is_some, nat_lt, 
 
 use crate::kinds::program_begun;
 use law_states::statements_are_done_under_edits;
-use salt_ast::Statement;
+use salt_ast::{Shared, Statement};
 use salt_eval::ViewErr;
 use salt_loaded::{Loaded, LoadedView};
 use salt_model::{Answer, UnitKind};
@@ -30,7 +30,7 @@ pub struct Held {
     pub single: bool,
     pub waiting: bool,
     /// While it waits, the statement of the line in which it began to.
-    pub asks: Option<Statement>,
+    pub asks: Option<Shared<Statement>>,
     /// How many statements of its block are done; a unit without a block counts none.
     pub done: u64,
 }

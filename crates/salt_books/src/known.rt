@@ -23,7 +23,7 @@ use crate::ids::bases_among;
 use crate::moves::{move_of_branch, move_of_commit};
 use crate::tables::base_tables;
 use crate::texts::{program_text, table_text};
-use salt_ast::{ProgramDef, Statement, TableDef};
+use salt_ast::{ProgramDef, Shared, Statement, TableDef};
 use salt_cont::Move;
 use salt_model::{UnitKind, Vars};
 use salt_program::Catalogue;
@@ -233,7 +233,7 @@ impl Known {
         }
     }
 
-    fn block_next(&self, base: Id, part: u32) -> Option<&[Statement]>
+    fn block_next(&self, base: Id, part: u32) -> Option<&[Shared<Statement>]>
         ensures { (k : Kept) → IsKnown self.now k → option_copied result ≡ block_of_kind k (Later base part) }
     {
         let cont = self.cont(base)?;
@@ -242,7 +242,7 @@ impl Known {
     }
 
     /// The statements of a unit's program or part; a unit of a session has none.
-    pub fn block_of_kind(&self, kind: &UnitKind) -> Option<&[Statement]>
+    pub fn block_of_kind(&self, kind: &UnitKind) -> Option<&[Shared<Statement>]>
         ensures { (k : Kept) → IsKnown self.now k → option_copied result ≡ block_of_kind k kind.now }
     {
         match kind {

@@ -22,13 +22,13 @@ use crate::held::Held;
 use crate::kinds::program_begun;
 use crate::known::Known;
 use crate::places::named_among;
-use salt_ast::{Act, Line, Statement};
+use salt_ast::{Act, Line, Shared, Statement};
 use salt_model::Reach;
 use salt_values::{Id, next_number};
 use std::alloc::{AllocError, Global};
 
 /// The statement of a session's line.
-fn statement_of_line(line: &Line) -> Option<&Statement>
+fn statement_of_line(line: &Line) -> Option<&Shared<Statement>>
     ensures { option_copied result ≡ statement_of_line line.now }
 {
     match line {
@@ -41,7 +41,7 @@ fn statement_of_line(line: &Line) -> Option<&Statement>
 }
 
 /// What a unit without a block asks for: the statement of the line, or of the one in which it began to wait.
-fn asked_by_line<'a>(held: &'a Held, line: &'a Line) -> Option<&'a Statement>
+fn asked_by_line<'a>(held: &'a Held, line: &'a Line) -> Option<&'a Shared<Statement>>
     ensures { option_copied result ≡ asking line.now (seen held.now) None }
 {
     if held.waiting {
@@ -55,8 +55,8 @@ fn asked_by_line<'a>(held: &'a Held, line: &'a Line) -> Option<&'a Statement>
 fn asked<'a>(
     held: &'a Held,
     line: &'a Line,
-    block: Option<&'a [Statement]>,
-) -> Option<&'a Statement>
+    block: Option<&'a [Shared<Statement>]>,
+) -> Option<&'a Shared<Statement>>
     ensures { option_copied result ≡ asking line.now (seen held.now) (option_copied block.entry) }
 {
     match block {
@@ -65,7 +65,7 @@ fn asked<'a>(
     }
 }
 
-fn ends_block(held: &Held, block: Option<&[Statement]>) -> bool
+fn ends_block(held: &Held, block: Option<&[Shared<Statement>]>) -> bool
     ensures { result ≡ is_at_end_in (seen held.now) (option_copied block.entry) }
 {
     match block {
@@ -139,7 +139,7 @@ impl Books {
 
     /// The statement that a unit asks for in a line: the next of its block; without a block that of the line, or of the one in
     /// which it began to wait.
-    pub fn asks_next<'a>(&'a self, held: &'a Held, line: &'a Line) -> Option<&'a Statement>
+    pub fn asks_next<'a>(&'a self, held: &'a Held, line: &'a Line) -> Option<&'a Shared<Statement>>
         ensures { (s : UnitState) → AreBooks self.now s → line.now ≡ s.line → option_copied result ≡ asks_next s (seen held.now) }
     {
         let block = self.known.block_of_kind(&held.kind);

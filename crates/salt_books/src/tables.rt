@@ -6,7 +6,7 @@ ghost use Rattle.std.specs.List.{list_any};
 ghost use Rattle.std.specs.Option.{option_copied, option_map_or};
 ghost use Rattle.std.specs.Prelude.{IfOk, OnOk, [], false, if◌then◌else◌, ◌++◌, ◌∷◌, ◌≡◌};
 
-use salt_ast::{ProgramDef, Statement, TableDef, same_bytes};
+use salt_ast::{ProgramDef, Shared, Statement, TableDef, same_bytes};
 use salt_cont::parts_of;
 use salt_eval::table_in;
 use salt_program::Catalogue;
@@ -25,10 +25,12 @@ fn is_of_table(name: &Name, statement: &Statement) -> bool
 }
 
 /// Whether one of the statements is.
-fn is_in_block(name: &Name, block: &[Statement]) -> bool
+fn is_in_block(name: &Name, block: &[Shared<Statement>]) -> bool
     ensures { result ≡ list_any (is_of_table name.now) block.now }
 {
-    block.iter().any(|statement| is_of_table(name, statement))
+    block
+        .iter()
+        .any(|statement| is_of_table(name, statement.get()))
 }
 
 /// Whether a statement of a part of the program is on the table of this name. A program that is one ACID unit has no parts.

@@ -11,10 +11,10 @@ use crate::lists::{bases, owners, stops};
 use crate::parts::{end, kind, whole_number};
 use crate::refusals::refusal;
 use crate::statements::{answer, before_arrow, behind_arrow, statement};
-use salt_ast::same_bytes;
+use salt_ast::{Shared, same_bytes};
 use salt_model::{Event, Why};
 use salt_values::Id;
-use sqlite_items::{Boxed, Items};
+use sqlite_items::Items;
 use std::alloc::{AllocError, Global};
 
 fn began(alloc: Global, unit: Id, bytes: &[u8]) -> Result<Option<Event>, AllocError>
@@ -51,7 +51,7 @@ fn did(alloc: Global, unit: Id, bytes: &[u8]) -> Result<Option<Event>, AllocErro
     };
     Ok(Some(Event::Did {
         unit,
-        statement: Boxed::new(alloc, statement)?,
+        statement: Shared::new(alloc, statement)?,
         answer,
     }))
 }

@@ -1,9 +1,9 @@
 //! The events of a story.
 
 use crate::shown::Items as ShownItems;
-use salt_ast::{LimitName, Pairs, Statement};
+use salt_ast::{LimitName, Pairs, Shared, Statement};
 use salt_values::{Bytes, Id, Ids, Name, Row, Rows, TryCopy, Value};
-use sqlite_items::{Boxed, Items};
+use sqlite_items::Items;
 use std::alloc::{AllocError, Global};
 
 /// A unit, or a BASE program.
@@ -215,8 +215,8 @@ pub enum Event {
     /// A unit's statement is done.
     Did {
         unit: Id,
-        /// Boxed: each event takes the room of the widest, and is moved often.
-        statement: Boxed<Statement>,
+        /// Shared with the line or the program that it is of; and each event takes the room of the widest, and is moved often.
+        statement: Shared<Statement>,
         answer: Answer,
     },
     /// A unit's statement clashes with what these hold.

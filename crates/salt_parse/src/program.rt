@@ -110,10 +110,10 @@ impl<'a> Parser<'a> {
     {
         let mut statements = Items::new(self.alloc());
         let first = self.counted_statement(room, deeper, 0)?;
-        first.push_to(&mut statements)?;
+        statements.push(first.share(self.alloc())?)?;
         while self.skip_sign(Sign::Semicolon) {
             let statement = self.counted_statement(room, deeper, statements.len())?;
-            statement.push_to(&mut statements)?;
+            statements.push(statement.share(self.alloc())?)?;
         }
         Ok(statements)
     }

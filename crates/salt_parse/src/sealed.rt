@@ -1,9 +1,10 @@
 //! What is read, while more is read around it.
 
-ghost use Rattle.std.specs.Prelude.{◌≡◌, [], ◌∷◌, ◌++◌, OnOk};
+ghost use Rattle.std.specs.Prelude.{◌≡◌, [], ◌∷◌, ◌++◌, IfOk, OnOk};
 
+use salt_ast::Shared;
 use sqlite_items::Items;
-use std::alloc::AllocError;
+use std::alloc::{AllocError, Global};
 use std::marker::Model;
 
 /// What is read, which contracts see as itself: a proof that passes it on, or drops it, sees none of its parts.
@@ -47,5 +48,13 @@ impl<T: Drop> Sealed<T> {
     {
         let Sealed { inner } = self;
         items.push(inner)
+    }
+
+    /// Gives it one holder.
+    pub fn share(self, alloc: Global) -> Result<Shared<T>, AllocError>
+        ensures { IfOk result (λ made. made ≡ self) }
+    {
+        let Sealed { inner } = self;
+        Shared::new(alloc, inner)
     }
 }

@@ -8,7 +8,7 @@ ghost use Rattle.salt_ast.specs.Paths.{body_statements, part_block, statements_i
 ghost use Rattle.salt_ast.specs.Words.{first_in};
 ghost use Rattle.salt_schema.specs.Names.{scope_of};
 
-use salt_ast::{Body, PartDef, Statement};
+use salt_ast::{Body, PartDef, Shared, Statement};
 use salt_schema::{
     Bindings, Schema, doubled_in_statement, is_typed_statement, unknown_in_statement,
 };
@@ -17,12 +17,12 @@ use salt_values::Name;
 fn unknown_in_block<'a>(
     schema: &Schema,
     bindings: &Bindings<'_>,
-    block: &'a [Statement],
+    block: &'a [Shared<Statement>],
 ) -> Option<&'a Name>
     ensures { option_copied result ≡ first_in (unknown_in_statement schema.now (scope_of bindings.now)) block.now }
 {
     for statement in block {
-        if let Some(name) = unknown_in_statement(schema, bindings, statement) {
+        if let Some(name) = unknown_in_statement(schema, bindings, statement.get()) {
             return Some(name);
         }
     }
@@ -60,11 +60,11 @@ pub fn unknown_in_body<'a>(
     }
 }
 
-fn doubled_in_block(block: &[Statement]) -> Option<&Name>
+fn doubled_in_block(block: &[Shared<Statement>]) -> Option<&Name>
     ensures { option_copied result ≡ first_in doubled_in_statement block.now }
 {
     for statement in block {
-        if let Some(name) = doubled_in_statement(statement) {
+        if let Some(name) = doubled_in_statement(statement.get()) {
             return Some(name);
         }
     }
@@ -92,10 +92,10 @@ pub fn doubled_in_body(body: &Body) -> Option<&Name>
     }
 }
 
-fn is_typed_block(schema: &Schema, bindings: &Bindings<'_>, block: &[Statement]) -> bool
+fn is_typed_block(schema: &Schema, bindings: &Bindings<'_>, block: &[Shared<Statement>]) -> bool
     ensures { result ≡ list_all (is_typed_statement schema.now (scope_of bindings.now)) block.now }
 {
-    block.iter().all(|statement| is_typed_statement(schema, bindings, statement))
+    block.iter().all(|statement| is_typed_statement(schema, bindings, statement.get()))
 }
 
 fn are_typed_parts(schema: &Schema, bindings: &Bindings<'_>, parts: &[PartDef]) -> bool

@@ -64,7 +64,7 @@ fn act_refusal(
 {
     match act {
         Act::Call { program, args } => call_refusal(alloc, catalogue, unreleased, program, args),
-        Act::Do(statement) => statement_refusal(alloc, schema, statement),
+        Act::Do(statement) => statement_refusal(alloc, schema, statement.get()),
         Act::Begin | Act::Commit | Act::Rollback | Act::Step => Ok(None),
     }
 }

@@ -4,7 +4,7 @@ ghost use Rattle.std.specs.Prelude.{◌≡◌, IfOk};
 ghost use Rattle.salt_model.specs.Turns.{is_statement_line};
 ghost use Rattle.salt_model.specs.Waiting.{statement_of_line};
 
-use salt_ast::{Act, Line, Statement};
+use salt_ast::{Act, Line, Shared, Statement};
 use salt_values::TryCopy;
 use std::alloc::{AllocError, Global};
 
@@ -22,7 +22,7 @@ pub fn is_statement_line(line: &Line) -> bool
 }
 
 /// A copy of the statement of a line, if it is one.
-pub fn copy_statement(alloc: Global, line: &Line) -> Result<Option<Statement>, AllocError>
+pub fn copy_statement(alloc: Global, line: &Line) -> Result<Option<Shared<Statement>>, AllocError>
     ensures { IfOk result (λ made. made ≡ statement_of_line line.now) }
 {
     match line {

@@ -12,7 +12,7 @@ ghost use Rattle.salt_ast.specs.Symbols.{Symbols, symbols_in};
 
 use crate::args::call_args;
 use crate::form::{ActForm, act_form};
-use salt_ast::{Act, Lexeme, LimitName, Sign};
+use salt_ast::{Act, Lexeme, LimitName, Shared, Sign};
 use salt_parse::{ParseErr, statement_in};
 use salt_values::limits::NAME_MOST;
 use salt_values::{Name, Row};
@@ -90,7 +90,7 @@ pub fn act_in<'a>(alloc: Global, tokens: &'a [Lexeme<'a>]) -> Result<Act, ParseE
         ActForm::Step(rest) => alone(Act::Step, rest),
         ActForm::Call(rest) => call_act(alloc, rest),
         ActForm::Statement => match statement_in(alloc, tokens) {
-            Ok(statement) => Ok(Act::Do(statement)),
+            Ok(statement) => Ok(Act::Do(Shared::new(alloc, statement)?)),
             Err(e) => Err(e),
         },
     }

@@ -8,7 +8,7 @@ ghost use Rattle.salt_values.specs.declared.id.Id.{Id};
 ghost use Rattle.std.specs.Prelude.{IfOk, None, OnOk, Some, [], if◌then◌else◌, ◌≡◌};
 
 use crate::ledger::{Act, Acts};
-use salt_ast::Statement;
+use salt_ast::{Shared, Statement};
 use salt_model::{Answer, Binding, Vars};
 use salt_values::{Id, TryCopy};
 use sqlite_items::Items;
@@ -60,7 +60,7 @@ pub fn note(
     alloc: Global,
     acts: &mut Acts,
     unit: Id,
-    statement: Statement,
+    statement: Shared<Statement>,
     answer: Answer,
 ) -> Result<(), AllocError>
     ensures { OnOk result ((u : Id) → act_in u acts.new

@@ -6,7 +6,7 @@ ghost use Rattle.salt_verdict.specs.Again.{GivesOutcome};
 ghost use Rattle.std.specs.Prelude.{IfOk, ◌≡◌};
 
 use law_states::edits_make_the_tables;
-use salt_ast::Statement;
+use salt_ast::{Shared, Statement};
 use salt_audit::has_failed;
 use salt_eval::{RowView, ViewErr};
 use salt_model::{Answer, Vars};
@@ -31,7 +31,7 @@ pub fn do_again<V: RowView>(
     schema: &Schema,
     view: &mut V,
     vars: Vars,
-    done: &[Statement],
+    done: &[Shared<Statement>],
 ) -> Result<Again, ViewErr>
     requires { IsKeyed (V.tables view.old) }
     ensures { IfOk result (λ again. GivesOutcome again (serial schema.now (V.tables view.old) vars done.now)) }
@@ -44,10 +44,10 @@ pub fn do_again<V: RowView>(
         let [statement, rest @ ..] = left else {
             return Ok(Again { answers, unit });
         };
-        if !leaves_keys(schema, statement) {
+        if !leaves_keys(schema, statement.get()) {
             return Err(ViewErr::Memory);
         }
-        let answer = unit.act(alloc, view, schema, statement)?;
+        let answer = unit.act(alloc, view, schema, statement.get())?;
         let failed = has_failed(&answer);
         answers.push(answer)?;
         if failed {

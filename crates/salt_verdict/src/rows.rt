@@ -6,7 +6,7 @@ ghost use Rattle.std.specs.Prelude.{◌≡◌};
 
 use crate::again::{Again, do_again};
 use law_states::edits_make_the_tables;
-use salt_ast::Statement;
+use salt_ast::{Shared, Statement};
 use salt_eval::{MapView, Tables, ViewErr};
 use salt_model::Vars;
 use salt_schema::Schema;
@@ -62,7 +62,7 @@ impl Rows {
         alloc: Global,
         schema: &Schema,
         vars: Vars,
-        done: &[Statement],
+        done: &[Shared<Statement>],
     ) -> Result<Again, ViewErr>
         ensures { IfOk result (λ again. GivesOutcome again (serial schema.now (tables_made self.now) vars done.now)) }
     {

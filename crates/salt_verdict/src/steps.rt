@@ -16,12 +16,12 @@ use crate::goings::tell_commit;
 use crate::laws::runs_make_the_tables;
 use crate::ledger::{Acts, Ledger};
 use crate::variables::vars_begun;
-use salt_ast::Statement;
+use salt_ast::{Shared, Statement};
 use salt_audit::{State, tell};
 use salt_eval::ViewErr;
 use salt_model::{Answer, End, Event, UnitKind};
 use salt_values::{Id, Ids, TryCopy, drop_ids};
-use sqlite_items::{Boxed, Items};
+use sqlite_items::Items;
 use std::alloc::{AllocError, Global};
 
 /// The commit of a unit by the decision of a number.
@@ -91,12 +91,12 @@ fn note_did(
     state: &State,
     acts: &mut Acts,
     unit: Id,
-    statement: &Boxed<Statement>,
+    statement: &Shared<Statement>,
     answer: &Answer,
 ) -> Result<(), AllocError>
     ensures { OnOk result ((u : Id) → act_in u acts.new ≡ act_by (Did unit statement.now answer.now) state.now acts.old u) }
 {
-    let statement = statement.get().copy(alloc)?;
+    let statement = statement.copy(alloc)?;
     let answer = copy_answer(alloc, answer)?;
     note(alloc, acts, unit, statement, answer)?;
     Ok(())

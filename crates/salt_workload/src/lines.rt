@@ -8,7 +8,8 @@ ghost use Rattle.salt_promise.specs.Workload.{account_def, balance, deposit, tra
 
 use crate::trees::{balance_column, int_field, move_amount, name, number, one, operation, part};
 use salt_ast::{
-    Act, Body, Bound, Fields, Line, Next, Op, Parts, ProgramDef, Scan, Statement, TableDef, What,
+    Act, Body, Bound, Fields, Line, Next, Op, Parts, ProgramDef, Scan, Shared, Statement, TableDef,
+    What,
 };
 use salt_values::limits::SESSION_MOST;
 use salt_values::{Row, Value};
@@ -78,9 +79,10 @@ pub fn deposit(alloc: Global, account: u64) -> Result<Line, AllocError>
     let mut values = one(alloc, number(account as i64))?;
     values.push(number(1000))?;
     let table = name(alloc, b"acct")?;
+    let statement = Statement::Insert { table, values };
     Ok(Line::Session {
         session: 1,
-        act: Act::Do(Statement::Insert { table, values }),
+        act: Act::Do(Shared::new(alloc, statement)?),
     })
 }
 
@@ -121,12 +123,13 @@ pub fn balance(alloc: Global) -> Result<Line, AllocError>
         bound: Bound::All,
         filter: None,
     };
+    let statement = Statement::Select {
+        what: What::Sum(column),
+        table,
+        scan,
+    };
     Ok(Line::Session {
         session: SESSION_MOST as u8,
-        act: Act::Do(Statement::Select {
-            what: What::Sum(column),
-            table,
-            scan,
-        }),
+        act: Act::Do(Shared::new(alloc, statement)?),
     })
 }

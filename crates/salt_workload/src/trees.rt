@@ -6,7 +6,7 @@ ghost use Rattle.salt_ast.specs.Trees.{number, operation};
 ghost use Rattle.salt_ast.specs.declared.trees.ColType.TheVariants as kind;
 ghost use Rattle.salt_ast.specs.declared.trees.Expr.{Column, Variable};
 
-use salt_ast::{Bound, ColType, Expr, Field, Next, Op, PartDef, Scan, Set, Statement};
+use salt_ast::{Bound, ColType, Expr, Field, Next, Op, PartDef, Scan, Set, Shared, Statement};
 use salt_values::{Name, Value};
 use sqlite_items::{Boxed, Items};
 use std::alloc::{AllocError, Global};
@@ -96,7 +96,7 @@ pub fn part(
     ensures { IfOk result (λ made. made ≡ part (statement ∷ []) then on_failure) }
 {
     Ok(PartDef {
-        block: one(alloc, statement)?,
+        block: one(alloc, Shared::new(alloc, statement)?)?,
         then,
         retry: None,
         on_failure,

@@ -1,6 +1,7 @@
 use Rattle.salt_verdict.proofs.Doing.{OfEdits, ended_gives, failed_first, made, serial_outcome}
 use Rattle.salt_verdict.proofs.again.do_again.Goals as goal
 use Rattle.law_states.specs.Overlays.{edits_of, with_edits}
+use Rattle.salt_ast.specs.declared.trees.Statement.{Statement}
 use Rattle.salt_model.specs.Statements.{outcome_of}
 use Rattle.salt_model.specs.Tables.{Tables}
 use Rattle.salt_model.specs.declared.events.Answer.{Answer}
@@ -22,10 +23,14 @@ returns-then-failed g c =
     let laws : OfEdits = record { rows = λ ds es q o. c.edits_make_the_tables.ensures.rows ds es q o; made = λ ds es now o h. c.edits_make_the_tables.ensures.made ds es now o h } in
     let es = g.V.RowView.tables c.args.view.now in
     let before = c.statements in
-    let done = subst
-    (λ (t : Tables). HasDone (outcome_of c.args.schema.now (with_edits (edits_of before.unit.changes.items) t) before.unit.vars c.statement-item.result) c.in_ok-answer.answer
+    let shown = subst
+    (λ (t : Tables). HasDone (outcome_of c.args.schema.now (with_edits (edits_of before.unit.changes.items) t) before.unit.vars c.get-in-statements.result.now) c.in_ok-answer.answer
     (edits_of before.unit.changes.items) (edits_of c.act.new.self.changes.items) c.act.new.self.vars)
     before.invariant.kept c.in_ok-answer.ensures.done in
+    let done = subst
+    (λ (st : Statement). HasDone (outcome_of c.args.schema.now (with_edits (edits_of before.unit.changes.items) es) before.unit.vars st) c.in_ok-answer.answer
+    (edits_of before.unit.changes.items) (edits_of c.act.new.self.changes.items) c.act.new.self.vars)
+    c.get-in-statements.ensures shown in
     record {
       outcome =
           ap (λ (as_ : List Answer). made as_ c.act.new.self.vars (edits_of c.act.new.self.changes.items)) c.in_ok-push.ensures.ok

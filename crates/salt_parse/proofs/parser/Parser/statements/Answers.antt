@@ -1,4 +1,4 @@
-use Rattle.std.proofs.Common.{◌≡◌, ◌++◌, ◌∷◌, [], arith, refl}
+use Rattle.std.proofs.Common.{◌≡◌, ◌++◌, ◌∙◌, ◌∷◌, [], ap, arith, refl}
 use Rattle.std.proofs.lemmas.Result.{err_from_is_err_and}
 use Rattle.salt_parse.specs.Lists.{counted_at}
 use Rattle.salt_parse.specs.Reading.{after, within_at}
@@ -22,7 +22,7 @@ returns-in_err-statement c =
 
 pub loop-self-preserved : goal.loop-self-preserved
 loop-self-preserved c =
-    let more : c.push_to-in-loop-self.new.items ≡ c.loop-self.statements ++ c.in_ok-statement.statement ∷ [] = c.in_ok-push_to-2.ensures in
+    let more : c.push-in-loop-self.new.self ≡ c.loop-self.statements ++ c.in_ok-statement.statement ∷ [] = c.in_ok-push-2.ensures.ok ∙ ap (λ s. c.loop-self.statements ++ s ∷ []) c.in_ok-share-2.ensures in
     record {
       listing = rw more (IsListing-goes_on (after (sign mark.Semicolon)) (counted_at STATEMENTS_MOST limit.Statements (statement_at (within_at c.args.room) (within_at c.args.deeper))) (after_shortens (sign mark.Semicolon)) c.loop-self.statements
           c.len.result c.loop-self.self c.skip_sign.new.self c.counted_statement-in-loop-self.new.self c.in_ok-statement.statement _ c.len.ensures
