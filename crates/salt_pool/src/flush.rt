@@ -72,7 +72,7 @@ fn zeros_up_to<D: Disks>(disks: &mut D, dev: u32, len: &mut u64, at: u64) -> Res
     Ok(())
 }
 
-/// One page, on its side.
+/// One page, on its side; the buffer is for its bytes.
 fn write_one<P, C: PageCodec<P>, D: Disks>(
     disks: &mut D,
     dev: u32,
@@ -80,6 +80,7 @@ fn write_one<P, C: PageCodec<P>, D: Disks>(
     frames: &LruCache<u32, P>,
     dirty: Dirty,
     len: &mut u64,
+    buffer: &mut [u8; PAGE],
 ) -> Result<(), DiskErr>
     requires known { dev < (D.view disks.old).count }
     requires length { IsTrue (D.view disks.old).told → len.old ≡ length ((D.view disks.old).bytes dev) }
@@ -101,17 +102,16 @@ fn write_one<P, C: PageCodec<P>, D: Disks>(
     let Some(page) = frames.peek(&dirty.page) else {
         unreachable!()
     };
-    let mut bytes = [0; PAGE];
-    codec.write(page, &mut bytes);
+    codec.write(page, buffer);
     let at = place_of(dirty);
     let end = length_with(*len, dirty);
     zeros_up_to(disks, dev, len, at)?;
-    put(disks, dev, at, &bytes)?;
+    put(disks, dev, at, buffer)?;
     *len = end;
     Ok(())
 }
 
-/// Dirty pages, one after another.
+/// Dirty pages, one after another, each by way of the buffer.
 pub fn write_dirty<P, C: PageCodec<P>, D: Disks>(
     disks: &mut D,
     dev: u32,
@@ -119,6 +119,7 @@ pub fn write_dirty<P, C: PageCodec<P>, D: Disks>(
     frames: &LruCache<u32, P>,
     dirty: &[Dirty],
     len: &mut u64,
+    buffer: &mut [u8; PAGE],
 ) -> Result<(), DiskErr>
     requires known { dev < (D.view disks.old).count }
     requires length { IsTrue (D.view disks.old).told → len.old ≡ length ((D.view disks.old).bytes dev) }
@@ -141,8 +142,8 @@ pub fn write_dirty<P, C: PageCodec<P>, D: Disks>(
     match dirty {
         [] => Ok(()),
         [first, rest @ ..] => {
-            write_one(disks, dev, codec, frames, *first, len)?;
-            write_dirty(disks, dev, codec, frames, rest, len)
+            write_one(disks, dev, codec, frames, *first, len, buffer)?;
+            write_dirty(disks, dev, codec, frames, rest, len, buffer)
         }
     }
 }

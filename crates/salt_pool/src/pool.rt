@@ -16,7 +16,7 @@ ghost use Rattle.std.specs.Result.{result_err};
 
 use crate::codec::PageCodec;
 use crate::error::PoolErr;
-use crate::flush::write_dirty;
+use crate::flush::{PAGE, write_dirty};
 use crate::places::{Dirty, FRAMES, is_among, put_dirty};
 use crate::reading::page_on;
 use arrayvec::ArrayVec;
@@ -231,6 +231,7 @@ impl<P: Drop, C: PageCodec<P>> Pool<P, C> {
         ensures full { FullOnly (device_of self.old) ((D.view disks.old).limit (device_of self.old)) (end_of (dirty_of self.old)) (result_err result) }
         ensures fits { OnOk result (end_of (dirty_of self.old) ≤ (D.view disks.old).limit (device_of self.old)) }
     {
+        let mut buffer = [0; PAGE];
         write_dirty(
             disks,
             self.dev,
@@ -238,6 +239,7 @@ impl<P: Drop, C: PageCodec<P>> Pool<P, C> {
             &self.frames,
             self.dirty.as_slice(),
             &mut self.len,
+            &mut buffer,
         )?;
         self.dirty.clear();
         Ok(())
