@@ -3,18 +3,19 @@
 
 Both programs read a script that fills a table, in an order of keys by chance, and then does one kind of statement again and again, each
 statement a transaction of its own. What they print goes nowhere. The time of the script that only fills the table is taken off, and there
-is work enough to take about as long. Times are of the processor in the programs themselves, the least of several rounds in which both take
-turns, which other work on the machine disturbs least.
+is work enough to take about as long. Times are of the processor, the least of several rounds in which both take turns, which other work on the
+machine disturbs least.
 
 Prints for each kind and size the statements per second of both (of a sum, the rows per second), the ratio, and how much a statement's
 cost grew from the size before. Ends with 1 where Salt is slower than sqlite3 at a statement on one row of up to 10,000, slower than 0.7 of it
-at a range of 100 rows of up to 10,000, or than a third of it at a sum of up to 10,000 rows and a sixth of more; or where a statement on one row
-costs more than 1.6 times as much at the last size as at the first.
+at a range of 100 rows of up to 10,000, or than a third of it at a sum of up to 10,000 rows and a sixth of more. With another program of Salt's,
+which takes turns with both, also where a statement on one row takes more than 1.05 times as long as in that one over up to 10,000 rows, and
+more than 1.6 times over more: a table of more pages than frames reads a page for most rows.
 
-    bench/statements.py [PROGRAM]                    with the program of another commit
-    bench/statements.py --folder [PROGRAM]           over a folder in memory, in place of devices in memory
-    bench/statements.py --points [PROGRAM]           statements on one row alone, over up to 10,000 rows
-    bench/statements.py --instructions [PROGRAM]     what a statement on one row costs, in instructions, which do not vary; judges nothing
+    bench/statements.py [PROGRAM [OTHER]]                    with the programs of other commits
+    bench/statements.py --folder [PROGRAM [OTHER]]           over a folder in memory, in place of devices in memory
+    bench/statements.py --points [PROGRAM [OTHER]]           statements on one row alone, over up to 10,000 rows
+    bench/statements.py --instructions [PROGRAM]             what a statement on one row costs, in instructions, which do not vary; judges nothing
 """
 import random, shutil, sys, tempfile
 from pathlib import Path
@@ -29,9 +30,10 @@ POINTS = 30_000
 RANGES = 10_000
 SUMMED = 10_000_000
 WIDTH = 100
-# How fast each kind has to be over tables of these sizes, where sqlite3 is 1; a statement on one row of the last size is held to its own growth.
+# How fast each kind has to be over tables of these sizes, where sqlite3 is 1.
 SLOWEST = {"insert": [1.0, 1.0], "point select": [1.0, 1.0], "point update": [1.0, 1.0], "delete": [1.0, 1.0], "range of 100": [0.7, 0.7], "sum of all": [1 / 3, 1 / 3, 1 / 6]}
-GROWTH = 1.6
+# How many times as long as in another program a statement on one row may take over these sizes.
+LONGEST = [1.05, 1.05, 1.6]
 # Statements that are counted of each kind, and the seconds that a count may take.
 COUNTED = 2_000
 LIMIT = 60
@@ -80,10 +82,11 @@ class Measured:
         self.command, self.script_of, self.folder, self.costs = command, script_of, folder, {}
 
     def seconds(self, script):
-        """The time in the program itself, over nothing that was there before."""
+        """The time of the processor, over nothing that was there before. What is the program's own of it some systems count by ticks, too long for this."""
         if self.folder:
             shutil.rmtree(self.folder, ignore_errors=True)
-        return usage(self.command, script).ru_utime
+        used = usage(self.command, script)
+        return used.ru_utime + used.ru_stime
 
     def growth(self, kind, cost):
         """How much the cost of a statement grew from the size before."""
@@ -99,12 +102,13 @@ def least_seconds(programs, statements, rounds):
 
 
 def tell(kind, rows, count, programs, took):
-    """Prints a row; answers how fast the first program is, where the second is 1."""
+    """Prints a row; answers how fast the first program is, where the second is 1, and where the third is, if there is one."""
     rates = [count / seconds for seconds in took]
     growths = [program.growth(kind, seconds / count) for program, seconds in zip(programs, took)]
-    ratio = rates[0] / rates[1]
-    print(f"{kind:12} {rows:7} rows: {rates[0]:11.0f} a second, sqlite3 {rates[1]:11.0f}, ratio {ratio:5.2f}, cost grew {growths[0]} and {growths[1]}", flush=True)
-    return ratio
+    ratios = [rates[0] / rate for rate in rates[1:]]
+    beside = "".join(f"; the other {rate:11.0f}, ratio {ratio:5.2f}" for rate, ratio in zip(rates[2:], ratios[1:]))
+    print(f"{kind:12} {rows:7} rows: {rates[0]:11.0f} a second, sqlite3 {rates[1]:11.0f}, ratio {ratios[0]:5.2f}, cost grew {growths[0]} and {growths[1]}{beside}", flush=True)
+    return ratios
 
 
 def counted(program):
@@ -136,30 +140,31 @@ def timed(programs, sizes, kinds, rounds):
     return ratios
 
 
-def judged(ratios, growths):
+def judged(ratios):
     """Prints what is slower than it has to be; answers the status."""
-    slow = [(kind, SIZES[at], found[at]) for kind, found in ratios.items() for at, least in enumerate(SLOWEST[kind]) if at < len(found) and found[at] < least]
-    for kind, rows, ratio in slow:
-        print(f"{kind} over {rows} rows: {ratio:.2f} of sqlite3, and is to be at least {SLOWEST[kind][SIZES.index(rows)]:.2f}")
-    grown = [(kind, growth) for kind, growth in growths.items() if GROWTH < growth]
-    for kind, growth in grown:
-        print(f"{kind}: {growth:.2f} times as much over the most rows as over the fewest, and is to be at most {GROWTH}")
-    return 1 if slow or grown else 0
+    slow = [(kind, rows, found[0], least) for kind, sizes in ratios.items() for rows, found, least in zip(SIZES, sizes, SLOWEST[kind]) if found[0] < least]
+    for kind, rows, ratio, least in slow:
+        print(f"{kind} over {rows} rows: {ratio:.2f} of sqlite3, and is to be at least {least:.2f}")
+    beside = [(kind, rows, found[1:], most) for kind in ["insert", *ON_ONE_ROW] for rows, found, most in zip(SIZES, ratios[kind], LONGEST)]
+    longer = [(kind, rows, 1 / ratio, most) for kind, rows, others, most in beside for ratio in others if most < 1 / ratio]
+    for kind, rows, times, most in longer:
+        print(f"{kind} over {rows} rows: {times:.2f} times as long as in the other program, and is to take at most {most}")
+    return 1 if slow or longer else 0
 
 
 def main():
-    words = [word for word in sys.argv[1:] if not word.startswith("--")]
-    salt = Path(words[0]) if words else made("salt", "run")
+    salts = [Path(word) for word in sys.argv[1:] if not word.startswith("--")] or [made("salt", "run")]
     if "--instructions" in sys.argv:
-        counted(salt)
+        counted(salts[0])
         return 0
     with tempfile.TemporaryDirectory(dir="/dev/shm") as top:
-        folder = f"{top}/rows"
-        here = Measured([salt, "run", "--dir", folder], salt_script, folder) if "--folder" in sys.argv else Measured([salt, "run"], salt_script)
-        programs = [here, Measured(["sqlite3", ":memory:"], sqlite_script)]
+        folder = f"{top}/rows" if "--folder" in sys.argv else None
+        place = ["--dir", folder] if folder else []
+        here, *other = [Measured([salt, "run", *place], salt_script, folder) for salt in salts]
+        programs = [here, Measured(["sqlite3", ":memory:"], sqlite_script), *other]
         points = "--points" in sys.argv
         ratios = timed(programs, SIZES[:2], ON_ONE_ROW, POINT_ROUNDS) if points else timed(programs, SIZES, KINDS, ROUNDS)
-    return judged(ratios, {kind: here.costs[kind][-1] / here.costs[kind][0] for kind in ["insert", *ON_ONE_ROW]})
+    return judged(ratios)
 
 
 if __name__ == "__main__":
