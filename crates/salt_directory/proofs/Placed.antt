@@ -1,16 +1,16 @@
 -- What stands in a sorted list is found there at its place.
 use Rattle.salt_directory.proofs.Alike.{own_place}
 use Rattle.salt_directory.proofs.Keys.{first, lookup_is, second}
-use Rattle.salt_directory.specs.Directories.{HasPagesBelow}
 use Rattle.salt_directory.specs.Pages.{page_of}
-use Rattle.salt_model.specs.Tables.{place_cmp}
+use Rattle.salt_model.specs.Tables.{place_cmp, place_total}
 use Rattle.salt_model.specs.Words.{first_of_list}
 use Rattle.salt_model.specs.declared.places.Place.{Place}
 use Rattle.salt_stands.proofs.Places.{equal_is, place_same}
-use Rattle.std.proofs.Common.{Bool, IfSome, List, None, Option, Some, [], ap, cond, false, filter, length, refl, slice_get, subst, suc, sym, true, zero, ℕ, ◌++◌, ◌<◌, ◌≡◌, ◌∙◌, ◌∷◌}
+use Rattle.std.proofs.Common.{Bool, IfSome, IsSome, List, None, Option, Some, [], ap, cond, false, filter, refl, slice_get, subst, suc, sym, true, zero, ℕ, ◌≡◌, ◌∙◌, ◌∷◌}
+use Rattle.std.proofs.lemmas.Cmp.{tied_itself}
 use Rattle.std.specs.FinMap.Entries.{below_all, find, is_sorted}
-use Rattle.std.specs.Map.Iter.{TakesFirst, TakesLast, deref_pair}
-use Rattle.std.specs.Ordering.{is_eq, is_lt}
+use Rattle.std.specs.Map.Iter.{TakesFirst, deref_pair}
+use Rattle.std.specs.Ordering.{is_eq, is_gt, is_lt}
 use Rattle.std.specs.declared.cmp.Ordering.TheVariants.{Equal, Greater, Less}
 use Rattle.std.specs.declared.cmp.Ordering.{Ordering}
 use denote.Ref.{Bor}
@@ -59,20 +59,22 @@ module _ {X : Type 0} where
 pub page_there : (p : Place → Bool) (directory : List (Place × ℕ)) → T (is_sorted place_cmp directory) → (i : ℕ) (e : Place × ℕ) → slice_get (filter (λ f. p f.0) directory) i ≡ Some e → page_of directory e.0 ≡ Some e.1
 page_there p directory sorted i e is = lookup_is e.0 directory ∙ found_filtered p directory sorted i e is
 
--- each page that stands there is one of the first
-pub page_low : (p : Place → Bool) (directory : List (Place × ℕ)) (count : ℕ) → T (is_sorted place_cmp directory) → HasPagesBelow directory count → (i : ℕ) (e : Place × ℕ) → slice_get (filter (λ f. p f.0) directory) i ≡ Some e → e.1 < count
-page_low p directory count sorted below i e is = below e.0 e.1 (page_there p directory sorted i e is)
-
--- as an iterator takes the first one, and the last one
+-- as an iterator takes the first one
 pub page_first : (p : Place → Bool) (directory left : List (Place × ℕ)) → T (is_sorted place_cmp directory) → (o : Option (Bor Place × Bor ℕ)) → TakesFirst deref_pair (filter (λ f. p f.0) directory) o left → IfSome o (λ e. page_of directory e.0.now ≡ Some e.1.now)
 page_first p directory left sorted None takes = tt
 page_first p directory left sorted (Some e) takes = page_there p directory sorted 0 (deref_pair e) (ap (λ (l : List (Place × ℕ)). slice_get l 0) takes)
 
-pub page_last : (p : Place → Bool) (directory left : List (Place × ℕ)) (count : ℕ) → T (is_sorted place_cmp directory) → HasPagesBelow directory count → (o : Option (Bor Place × Bor ℕ)) → TakesLast deref_pair (filter (λ f. p f.0) directory) o left → IfSome o (λ e. e.1.now < count)
-page_last p directory left count sorted below None takes = tt
-page_last p directory left count sorted below (Some e) takes =
-    page_low p directory count sorted below (length left) (deref_pair e) (ap (λ (l : List (Place × ℕ)). slice_get l (length left)) takes ∙ last_there left (deref_pair e))
-  where
-    last_there : (xs : List (Place × ℕ)) (x : Place × ℕ) → slice_get (xs ++ x ∷ []) (length xs) ≡ Some x
-    last_there [] x = refl
-    last_there (y ∷ xs) x = last_there xs x
+-- WHAT IS UP TO A PLACE
+
+pub up_to_itself : (q : Place) → is_gt (place_cmp q q) ≡ false
+up_to_itself q = ap is_gt (tied_itself place_total q)
+
+no_order : (o : Ordering) → is_gt o ≡ false → is_eq o ≡ false → is_lt o ≡ false → ⊥
+no_order Less up other more = cc
+no_order Equal up other more = cc
+no_order Greater up other more = cc
+
+-- the greatest place up to q is another one, so there is no row at q
+pub none_at : (q last : Place) (found : Option ℕ) → is_gt (place_cmp last q) ≡ false → is_eq (place_cmp last q) ≡ false → (IsSome found → is_lt (place_cmp last q) ≡ false) → found ≡ None
+none_at q last None up other greatest = refl
+none_at q last (Some page) up other greatest = absurd (no_order (place_cmp last q) up other (greatest refl))

@@ -3,7 +3,7 @@
 ghost use Rattle.salt_directory.specs.declared.error.ListErr.TheVariants.{Memory};
 ghost use Rattle.std.specs.Prelude.{◌≡◌};
 
-use std::alloc::{AllocError, AllocFailed};
+use std::alloc::AllocError;
 
 /// Why rows of a page are not listed.
 #[derive(Clone, Copy, Debug, PartialEq, Eq)]
@@ -20,14 +20,6 @@ impl From<AllocError> for ListErr {
     ghost from_gives = { λ _ e. e ≡ Memory };
 
     fn from(_: AllocError) -> Self {
-        ListErr::Memory
-    }
-}
-
-impl<T: Drop> From<AllocFailed<T>> for ListErr {
-    ghost from_gives = { λ _ e. e ≡ Memory };
-
-    fn from(_: AllocFailed<T>) -> Self {
         ListErr::Memory
     }
 }

@@ -142,7 +142,7 @@ pub fn put_places(
     places: Vec<Place>,
     page: u32,
 ) -> Result<(), AllocError>
-    ensures { OnOk result (directory.new.entries ≡ placed_on page places.items directory.old.entries) }
+    ensures { OnOk result (directory.new ≡ placed_on page places.items directory.old) }
 {
     for place in places {
         directory.insert(place, page)?;

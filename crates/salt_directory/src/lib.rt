@@ -10,7 +10,7 @@ mod page;
 mod seats;
 mod space;
 
-pub use directory::{Directory, Extent, extent_of, is_last, next_place, page_before, page_of};
+pub use directory::{Directory, Extent, extent_of, next_place};
 pub use error::ListErr;
 pub use halving::{Half, put_places, split_page};
 pub use judge::{AnyRow, RowJudge};

@@ -30,10 +30,10 @@ fn list_row<J: RowJudge>(
     judge: &J,
 ) -> Result<(), ListErr>
     requires { J.can_judge judge.now }
-    ensures entries { OnOk result (directory.new.entries ≡ insert_entry place_cmp directory.old.entries (place table (key_of row.now)) page) }
-    ensures absent { OnOk result (page_of directory.old.entries (place table (key_of row.now)) ≡ None) }
+    ensures entries { OnOk result (directory.new ≡ insert_entry place_cmp directory.old (place table (key_of row.now)) page) }
+    ensures absent { OnOk result (page_of directory.old (place table (key_of row.now)) ≡ None) }
     ensures sound { OnOk result (J.sound judge.now (record { table = table; row = row.now }) ≡ true) }
-    ensures twin { result ≡ Err Twins → is_some (page_of directory.old.entries (place table (key_of row.now))) ≡ true }
+    ensures twin { result ≡ Err Twins → is_some (page_of directory.old (place table (key_of row.now))) ≡ true }
     ensures unsound { result ≡ Err Unsound → J.sound judge.now (record { table = table; row = row.now }) ≡ false }
 {
     let key = key_of(alloc, row.as_slice())?;
@@ -56,11 +56,11 @@ pub fn list_page<J: RowJudge>(
     judge: &J,
 ) -> Result<(), ListErr>
     requires { J.can_judge judge.now }
-    ensures listed { OnOk result ((pages : List (List TableRow)) → number ≡ length pages → IsDirectory directory.old.entries (pages ++ [] ∷ []) → IsDirectory directory.new.entries (pages ++ page.now ∷ [])) }
+    ensures listed { OnOk result ((pages : List (List TableRow)) → number ≡ length pages → IsDirectory directory.old (pages ++ [] ∷ []) → IsDirectory directory.new (pages ++ page.now ∷ [])) }
     ensures sound { OnOk result (list_all (J.sound judge.now) page.now ≡ true) }
-    ensures twins { result ≡ Err Twins → (pages : List (List TableRow)) → number ≡ length pages → IsDirectory directory.old.entries (pages ++ [] ∷ []) → HaveTwins (all_rows (pages ++ page.now ∷ [])) }
+    ensures twins { result ≡ Err Twins → (pages : List (List TableRow)) → number ≡ length pages → IsDirectory directory.old (pages ++ [] ∷ []) → HaveTwins (all_rows (pages ++ page.now ∷ [])) }
     ensures unsound { result ≡ Err Unsound → list_all (J.sound judge.now) page.now ≡ false }
-    ensures below { OnOk result (HasPagesBelow directory.old.entries number → HasPagesBelow directory.new.entries (number + 1)) }
+    ensures below { OnOk result (HasPagesBelow directory.old number → HasPagesBelow directory.new (number + 1)) }
 {
     for i in 0..page.count() {
         let (table, row) = page.row(alloc, i)?;

@@ -9,7 +9,6 @@ use salt_model::first_place;
 use salt_ranges::KeyRange;
 use salt_values::{Key, TryCopy};
 use std::alloc::{AllocError, Global};
-use std::ops::Bound;
 
 /// The key of a row, and the page on which it stands.
 #[derive(Drop)]
@@ -28,12 +27,12 @@ pub fn few_seats(
     table: u16,
     range: &KeyRange,
 ) -> Result<Option<Vec<Seat>>, AllocError>
-    ensures seats { IfOk result (λ few. IfSome few (λ seats. seats.items ≡ seats_in table range.now directory.now.entries)) }
-    ensures seated { IfOk result (λ few. IfSome few (λ seats. Every (IsSeated table directory.now.entries) seats.items)) }
+    ensures seats { IfOk result (λ few. IfSome few (λ seats. seats.items ≡ seats_in table range.now directory.now)) }
+    ensures seated { IfOk result (λ few. IfSome few (λ seats. Every (IsSeated table directory.now) seats.items)) }
 {
     let mut seats = Vec::new(alloc);
     let start = first_place(alloc, table, &range.lo)?;
-    for (place, page) in directory.range((start, Bound::Unbounded)) {
+    for (place, page) in directory.rows_from(start) {
         if place.table != table || !range.has(&place.key) {
             break;
         }

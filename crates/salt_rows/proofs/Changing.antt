@@ -93,28 +93,28 @@ module _ (d e : View) (x : RowStore) (dev : ℕ) (named : List ℕ) (t : Tables)
       (space : z.space ≡ set x.space page free)
       (names : z.named ≡ x.named)
       (framed : IsPool (with_frame x.pool page rows)) (is_pool : IsPool z.pool)
-      (below : HasPagesBelow z.directory.entries (length x.sides.items))
+      (below : HasPagesBelow z.directory (length x.sides.items))
       (shown : IsTrue d.told → shown_page (d.bytes x.pool.dev) x.pool.frames.entries page (get_or x.sides.items page 0) ≡ Some before)
       (own : free ≡ free_on rows) (t' : Tables)
-      (change : (pages : List (List TableRow)) → AreRowsOf x.directory.entries pages t → page < length pages → before ≡ get_or pages page [] → AreRowsOf z.directory.entries (set pages page rows) t') where
+      (change : (pages : List (List TableRow)) → AreRowsOf x.directory pages t → page < length pages → before ≡ get_or pages page [] → AreRowsOf z.directory (set pages page rows) t') where
     made : Frames
     made = with_dirty (with_frame x.pool page rows) (record { page = page; side = spare_side x.named page })
 
-    kept : AreKept z.pool z.named z.sides.items z.space z.directory.entries
+    kept : AreKept z.pool z.named z.sides.items z.space z.directory
     unfolding made
     kept =
-        kept_as made z.pool x.named z.named (set x.sides.items page (spare_side x.named page)) z.sides.items (set x.space page free) z.space z.directory.entries (sym pool) (sym names) (sym sides) (sym space)
-        (kept_directory made x.named (set x.sides.items page (spare_side x.named page)) (set x.space page free) x.directory.entries z.directory.entries
-        (kept_marked (with_frame x.pool page rows) x.named x.sides.items x.space x.directory.entries (kept_framed x.pool x.named x.sides.items x.space x.directory.entries is.kept page rows low framed) page free low (subst (λ (p : Frames). IsPool p) pool is_pool))
-        (pointed_more z.directory.entries (length x.sides.items) (length (set x.sides.items page (spare_side x.named page))) (omega (arith, length-set x.sides.items page (spare_side x.named page))) below))
+        kept_as made z.pool x.named z.named (set x.sides.items page (spare_side x.named page)) z.sides.items (set x.space page free) z.space z.directory (sym pool) (sym names) (sym sides) (sym space)
+        (kept_directory made x.named (set x.sides.items page (spare_side x.named page)) (set x.space page free) x.directory z.directory
+        (kept_marked (with_frame x.pool page rows) x.named x.sides.items x.space x.directory (kept_framed x.pool x.named x.sides.items x.space x.directory is.kept page rows low framed) page free low (subst (λ (p : Frames). IsPool p) pool is_pool))
+        (pointed_more z.directory (length x.sides.items) (length (set x.sides.items page (spare_side x.named page))) (omega (arith, length-set x.sides.items page (spare_side x.named page))) below))
 
-    told_so : IsTrue d.told → HavePages (e.bytes dev) z.pool z.sides.items z.space z.directory.entries t'
+    told_so : IsTrue d.told → HavePages (e.bytes dev) z.pool z.sides.items z.space z.directory t'
     unfolding made
     told_so told =
         let has = is.told told in
         let there : page < length has.pages = omega (arith, low, has.are.count) in
-        subst (λ (bytes : List ℕ). HavePages bytes z.pool z.sides.items z.space z.directory.entries t') (sym same)
-        (have_as (d.bytes dev) made z.pool (set x.sides.items page (spare_side x.named page)) z.sides.items (set x.space page free) z.space z.directory.entries t' (sym pool) (sym sides) (sym space) (record {
+        subst (λ (bytes : List ℕ). HavePages bytes z.pool z.sides.items z.space z.directory t') (sym same)
+        (have_as (d.bytes dev) made z.pool (set x.sides.items page (spare_side x.named page)) z.sides.items (set x.space page free) z.space z.directory t' (sym pool) (sym sides) (sym space) (record {
           pages = set has.pages page rows;
           are = pages_marked (d.bytes dev) x.pool is.kept.is_pool x.pool.dirty.items x.sides.items has.pages has.are page (spare_side x.named page) rows low;
           rows = change has.pages has.rows there (shown_rows d x dev named t is page low told before (shown told));
@@ -183,34 +183,34 @@ module _ (d : View) (x : RowStore) (dev : ℕ) (named : List ℕ) (t : Tables) (
       (sides : z.sides.items ≡ x.sides.items ++ 0 ∷ [])
       (space : z.space ≡ x.space ++ free ∷ [])
       (names : z.named ≡ x.named)
-      (entries : z.directory.entries ≡ insert_entry place_cmp x.directory.entries q (length x.sides.items))
+      (entries : z.directory ≡ insert_entry place_cmp x.directory q (length x.sides.items))
       (is_pool : IsPool z.pool) where
     made_fresh : Frames
     made_fresh = with_dirty (with_frame x.pool (length x.sides.items) rows) (record { page = length x.sides.items; side = 0 })
 
-    kept_now : AreKept z.pool z.named z.sides.items z.space z.directory.entries
+    kept_now : AreKept z.pool z.named z.sides.items z.space z.directory
     unfolding made_fresh
     kept_now =
-        kept_as made_fresh z.pool x.named z.named (x.sides.items ++ 0 ∷ []) z.sides.items (x.space ++ free ∷ []) z.space z.directory.entries (sym pool) (sym names) (sym sides) (sym space)
-        (kept_directory made_fresh x.named (x.sides.items ++ 0 ∷ []) (x.space ++ free ∷ []) x.directory.entries z.directory.entries
-        (kept_fresh x.pool x.named x.sides.items x.space x.directory.entries is.kept rows free (subst (λ (p : Frames). IsPool p) pool is_pool))
+        kept_as made_fresh z.pool x.named z.named (x.sides.items ++ 0 ∷ []) z.sides.items (x.space ++ free ∷ []) z.space z.directory (sym pool) (sym names) (sym sides) (sym space)
+        (kept_directory made_fresh x.named (x.sides.items ++ 0 ∷ []) (x.space ++ free ∷ []) x.directory z.directory
+        (kept_fresh x.pool x.named x.sides.items x.space x.directory is.kept rows free (subst (λ (p : Frames). IsPool p) pool is_pool))
         (subst (λ (D : List (Place × ℕ)). HasPagesBelow D (length (x.sides.items ++ 0 ∷ []))) (sym entries)
-        (below_put x.directory.entries q (length x.sides.items) (length (x.sides.items ++ 0 ∷ [])) (omega (arith, length_push x.sides.items 0)) (pointed_more x.directory.entries (length x.sides.items) (length (x.sides.items ++ 0 ∷ [])) (omega (arith, length_push x.sides.items 0)) is.kept.pointed))))
+        (below_put x.directory q (length x.sides.items) (length (x.sides.items ++ 0 ∷ [])) (omega (arith, length_push x.sides.items 0)) (pointed_more x.directory (length x.sides.items) (length (x.sides.items ++ 0 ∷ [])) (omega (arith, length_push x.sides.items 0)) is.kept.pointed))))
 
-    told_fresh : IsTrue d.told → HavePages (d.bytes dev) z.pool z.sides.items z.space z.directory.entries (put_row q row t)
+    told_fresh : IsTrue d.told → HavePages (d.bytes dev) z.pool z.sides.items z.space z.directory (put_row q row t)
     unfolding made_fresh
     told_fresh told =
         let has = is.told told in
         let wide = has.pages ++ [] ∷ [] in
         let count : length has.pages ≡ length x.sides.items = has.are.count in
-        let more : AreRowsOf x.directory.entries wide t = page_more x.directory.entries has.pages t has.rows (λ p i found. omega (arith, is.kept.pointed p i found, count)) in
+        let more : AreRowsOf x.directory wide t = page_more x.directory has.pages t has.rows (λ p i found. omega (arith, is.kept.pointed p i found, count)) in
         let empty : [] ≡ get_or wide (length x.sides.items) [] = sym (get_or_push has.pages [] [] (length x.sides.items) count) in
-        let put = put_beside x.directory.entries wide t more (length x.sides.items) (omega (arith, count, length_push has.pages [])) q [] rows row empty key none made_of in
-        have_as (d.bytes dev) made_fresh z.pool (x.sides.items ++ 0 ∷ []) z.sides.items (x.space ++ free ∷ []) z.space z.directory.entries (put_row q row t) (sym pool) (sym sides) (sym space) (record {
+        let put = put_beside x.directory wide t more (length x.sides.items) (omega (arith, count, length_push has.pages [])) q [] rows row empty key none made_of in
+        have_as (d.bytes dev) made_fresh z.pool (x.sides.items ++ 0 ∷ []) z.sides.items (x.space ++ free ∷ []) z.space z.directory (put_row q row t) (sym pool) (sym sides) (sym space) (record {
           pages = has.pages ++ rows ∷ [];
           are = pages_fresh (d.bytes dev) x.pool is.kept.is_pool x.pool.dirty.items x.sides.items has.pages has.are 0 rows;
           rows = subst (λ (D : List (Place × ℕ)). AreRowsOf D (has.pages ++ rows ∷ []) (put_row q row t)) (sym entries)
-              (subst (λ (ps : List (List TableRow)). AreRowsOf (insert_entry place_cmp x.directory.entries q (length x.sides.items)) ps (put_row q row t)) (set_at has.pages [] [] rows (length x.sides.items) count) put);
+              (subst (λ (ps : List (List TableRow)). AreRowsOf (insert_entry place_cmp x.directory q (length x.sides.items)) ps (put_row q row t)) (set_at has.pages [] [] rows (length x.sides.items) count) put);
           free = (λ i. has.free i ++ own i ∷ []) ∙ sym (map_push free_on has.pages rows);
           long = has.long;
         })
@@ -227,7 +227,7 @@ module _ (d : View) (x : RowStore) (dev : ℕ) (named : List ℕ) (t : Tables) (
 -- NOTHING TO DO
 
 -- a place that the directory lacks
-pub store_without : (d : View) (x : RowStore) (dev : ℕ) (named : List ℕ) (t : Tables) (q : Place) → IsStanding d x dev named t → page_of x.directory.entries q ≡ None → IsStanding d x dev named (remove_at q t)
+pub store_without : (d : View) (x : RowStore) (dev : ℕ) (named : List ℕ) (t : Tables) (q : Place) → IsStanding d x dev named t → page_of x.directory q ≡ None → IsStanding d x dev named (remove_at q t)
 store_without d x dev named t q is lacks = record {
   device = is.device;
   known = is.known;
@@ -235,5 +235,5 @@ store_without d x dev named t q is lacks = record {
   kept = is.kept;
   told = λ told.
       let has = is.told told in
-      subst (λ (u : Tables). HavePages (d.bytes dev) x.pool x.sides.items x.space x.directory.entries u) (sym (none_removed q t (none_at x.directory.entries has.pages t has.rows q lacks))) has;
+      subst (λ (u : Tables). HavePages (d.bytes dev) x.pool x.sides.items x.space x.directory u) (sym (none_removed q t (none_at x.directory has.pages t has.rows q lacks))) has;
 }

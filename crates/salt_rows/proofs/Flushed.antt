@@ -43,7 +43,7 @@ full_of_flush named sides ds spare o dev limit full = full_later o dev limit (en
 
 module _ (d e : View) (x : RowStore) (dev : ℕ) (named : List ℕ) (t : Tables) (is : IsStanding d x dev named t) where
   spared_here : AreSpared named x.pool.len x.pool.dirty.items
-  spared_here = subst (λ (l : List ℕ). AreSpared l x.pool.len x.pool.dirty.items) is.names (spared x.pool x.named x.sides.items x.space x.directory.entries is.kept)
+  spared_here = subst (λ (l : List ℕ). AreSpared l x.pool.len x.pool.dirty.items) is.names (spared x.pool x.named x.sides.items x.space x.directory is.kept)
 
   pub images_of_flush : KeepsSides x.pool.len x.pool.dirty.items d e x.pool.dev → KeepsNamed named d e dev
   images_of_flush keeps = keeps_named named x.pool.len x.pool.dirty.items d e dev spared_here (subst (λ n. KeepsSides x.pool.len x.pool.dirty.items d e n) is.device keeps)

@@ -71,10 +71,10 @@ module _ (d : View) (x : RowStore) (dev : ℕ) (named : List ℕ) (t : Tables) (
       loaded_point range key (Some made.row) t old new point made.at
       (λ own same. ap key_of (sym (some_same made.row own same)) ∙ made.own) made.came
 
-  pub none_loaded : (range : KeyRange) → point_of range ≡ Some key → page_of x.directory.entries (place old.table key) ≡ None → HasLoaded range t old old
+  pub none_loaded : (range : KeyRange) → point_of range ≡ Some key → page_of x.directory (place old.table key) ≡ None → HasLoaded range t old old
   none_loaded range point none =
       let has = is.is.told told in
-      loaded_point range key None t old old point (sym (none_at x.directory.entries has.pages t has.rows (place old.table key) none)) (λ own same. cc) (sym (with_none old))
+      loaded_point range key None t old old point (sym (none_at x.directory has.pages t has.rows (place old.table key) none)) (λ own same. cc) (sym (with_none old))
 
 -- ONE PAGE
 
@@ -172,11 +172,11 @@ pub record IsLoadingSeats (d0 d : View) (x0 x : RowStore) (start now : RowsOf) (
   pub cause : HasCause d0 d None
   pub stands : (dev : ℕ) (named : List ℕ) (t : Tables) → IsRowStore d0 x0 dev named t → IsRowStore d x dev named t
   pub table : now.table ≡ start.table
-  pub seated : Every (IsSeated start.table x0.directory.entries) left
+  pub seated : Every (IsSeated start.table x0.directory) left
   pub rows : (dev : ℕ) (named : List ℕ) (t : Tables) → IsRowStore d0 x0 dev named t → IsTrue d0.told
       → (more : List (List Value)) × (now ≡ with_rows more start) × ((behind : List (List Value)) → AreRowsAt start.table t left behind → AreRowsAt start.table t all (more ++ behind))
 
-pub seats_begin : (d : View) (x : RowStore) (start : RowsOf) (all : List Seat) → Every (IsSeated start.table x.directory.entries) all → IsLoadingSeats d d x x start start all all
+pub seats_begin : (d : View) (x : RowStore) (start : RowsOf) (all : List Seat) → Every (IsSeated start.table x.directory) all → IsLoadingSeats d d x x start start all all
 seats_begin d x start all seated = record {
   same = record { directory = refl; sides = refl };
   kept = keeps_same (λ _. ⊥) d;
@@ -195,8 +195,8 @@ module _ (d0 d : View) (x0 x : RowStore) (start now : RowsOf) (all : List Seat) 
   pub seats_stand : StandsOnPages d0 x0 → StandsOnPages d x
   seats_stand some = record { dev = some.dev; named = some.named; t = some.t; is = so.stands some.dev some.named some.t some.is }
 
-  pub seat_there : page_of x.directory.entries (place now.table s.key) ≡ Some s.page
-  seat_there = (λ i. page_of (so.same.directory i).entries (place (so.table i) s.key)) ∙ so.seated.0
+  pub seat_there : page_of x.directory (place now.table s.key) ≡ Some s.page
+  seat_there = (λ i. page_of (so.same.directory i) (place (so.table i) s.key)) ∙ so.seated.0
 
   pub seats_go : (e : View) (y : RowStore) (new : RowsOf) → LooksOn x y → KeepsAll d e None → HasCause d e None
       → ((dev : ℕ) (named : List ℕ) (t : Tables) → IsRowStore d x dev named t → IsRowStore e y dev named t)
@@ -222,10 +222,10 @@ module _ (d0 d : View) (x0 x : RowStore) (start now : RowsOf) (all : List Seat) 
 
 -- none are left
 pub seats_loaded : (d0 d : View) (x0 x : RowStore) (start now : RowsOf) (all : List Seat) (i : ℕ) → length all ≤ i → IsLoadingSeats d0 d x0 x start now all (drop i all) → (dev : ℕ) (named : List ℕ) (t : Tables) → IsRowStore d0 x0 dev named t → IsTrue d0.told
-    → (range : KeyRange) → all ≡ seats_in start.table range x0.directory.entries → HasLoaded range t start now
+    → (range : KeyRange) → all ≡ seats_in start.table range x0.directory → HasLoaded range t start now
 seats_loaded d0 d x0 x start now all i end so dev named t is told range whole =
     let done = (subst (IsLoadingSeats d0 d x0 x start now all) (drop_all i all end) so).rows dev named t is told in
-    loaded_seats range x0.directory.entries t start now done.0 (is.is.told told).rows.keys
+    loaded_seats range x0.directory t start now done.0 (is.is.told told).rows.keys
     (subst (λ (seats : List Seat). AreRowsAt start.table t seats done.0) whole (subst (AreRowsAt start.table t all) (append-nil done.0) (done.2 [] tt))) done.1
 
 -- ALL ROWS OF A RANGE
@@ -237,10 +237,10 @@ module _ (d : View) (x : RowStore) (dev : ℕ) (named : List ℕ) (t : Tables) (
   pub on_own : HasOnPages d x own_pages
   on_own _ = subst (λ n. ArePages (d.bytes n) x.pool.frames.entries x.pool.dirty.items x.sides.items own_pages) (sym is.is.device) (is.is.told told).are
 
-  pub marked_none : (u : ℕ) (range : KeyRange) (marks : List Bool) → length marks ≡ length x.sides.items → HaveAllOf u range x.directory.entries marks → HaveOthersNone u range marks own_pages
+  pub marked_none : (u : ℕ) (range : KeyRange) (marks : List Bool) → length marks ≡ length x.sides.items → HaveAllOf u range x.directory marks → HaveOthersNone u range marks own_pages
   marked_none u range marks count all =
       let has = is.is.told told in
-      others_none x.directory.entries has.pages t has.rows u range marks (count ∙ sym has.are.count) all
+      others_none x.directory has.pages t has.rows u range marks (count ∙ sym has.are.count) all
 
   pub each_marked : (u : ℕ) (range : KeyRange) (marks : List Bool) → length marks ≡ length x.sides.items → ((i : ℕ) → i < length marks → get_or marks i false ≡ true) → HaveOthersNone u range marks own_pages
   each_marked u range marks count all = all_marked u range marks own_pages (count ∙ sym (is.is.told told).are.count) all
@@ -248,8 +248,8 @@ module _ (d : View) (x : RowStore) (dev : ℕ) (named : List ℕ) (t : Tables) (
   pub range_loaded : (range : KeyRange) (old new : RowsOf) → new ≡ with_rows (rows_within old.table range (all_rows own_pages)) old → HasLoaded range t old new
   range_loaded range old new came =
       let has = is.is.told told in
-      loaded_range x.directory.entries has.pages t has.rows range old new came
+      loaded_range x.directory has.pages t has.rows range old new came
 
   -- as many came as the directory has places
-  pub range_counted : (range : KeyRange) (old new : RowsOf) → HasLoaded range t old new → length new.rows ≡ length old.rows + count_in old.table range x.directory.entries
-  range_counted range old new has = loaded_count range x.directory.entries t old new (is.is.told told).rows.keys has
+  pub range_counted : (range : KeyRange) (old new : RowsOf) → HasLoaded range t old new → length new.rows ≡ length old.rows + count_in old.table range x.directory
+  range_counted range old new has = loaded_count range x.directory t old new (is.is.told told).rows.keys has

@@ -264,23 +264,23 @@ module _ (sound : TableRow → Bool) (d0 d : View) (dev : ℕ) (nulls : Bool) (s
         nowhere own e = cc
 
     module _ (e : View) (x : RowStore) (kept : KeepsAll d e None) (known : dev < d0.count) (device : pool.dev ≡ dev) (long : IsTrue d.told → pool.len ≡ length (d.bytes dev)) (pools : pool ≡ x.pool) (names : sides ≡ x.named) (on : sides ≡ x.sides.items) (spaces : space ≡ x.space)
-        (entries : directory ≡ x.directory.entries) where
-      kept_now : AreKept x.pool x.named x.sides.items x.space x.directory.entries
+        (entries : directory ≡ x.directory) where
+      kept_now : AreKept x.pool x.named x.sides.items x.space x.directory
       unfolding kept_opened
       kept_now = subst (λ (D : List (Place × ℕ)). AreKept x.pool x.named x.sides.items x.space D) entries (kept_as pool x.pool sides x.named sides x.sides.items space x.space directory pools names on spaces kept_opened)
 
-      told_now : (told : IsTrue d0.told) → HavePages (e.bytes dev) x.pool x.sides.items x.space x.directory.entries (tables_on (so.told told).pages)
+      told_now : (told : IsTrue d0.told) → HavePages (e.bytes dev) x.pool x.sides.items x.space x.directory (tables_on (so.told told).pages)
       unfolding have_opened
       told_now told =
           let t = tables_on (so.told told).pages in
           let bytes : e.bytes dev ≡ d.bytes dev = (kept.kept dev (λ h. h)).bytes in
           let before : d.bytes dev ≡ d0.bytes dev = (so.kept.kept dev (λ h. h)).bytes in
           let has = have_opened told (long (so.kept.shape.told ∙ told) ∙ ap (λ (l : List ℕ). length l) before) in
-          subst (λ (b : List ℕ). HavePages b x.pool x.sides.items x.space x.directory.entries t) (sym (bytes ∙ before))
+          subst (λ (b : List ℕ). HavePages b x.pool x.sides.items x.space x.directory t) (sym (bytes ∙ before))
           (subst (λ (D : List (Place × ℕ)). HavePages (d0.bytes dev) x.pool x.sides.items x.space D t) entries
           (have_as (d0.bytes dev) pool x.pool sides x.sides.items space x.space directory t pools on spaces has))
 
-      store : (t : Tables) → (IsTrue e.told → HavePages (e.bytes dev) x.pool x.sides.items x.space x.directory.entries t) → IsRowStore e x dev sides t
+      store : (t : Tables) → (IsTrue e.told → HavePages (e.bytes dev) x.pool x.sides.items x.space x.directory t) → IsRowStore e x dev sides t
       unfolding kept_now
       store t told = record {
         is = record {

@@ -26,7 +26,7 @@ use Rattle.std.specs.BTreeMap.{insert_entry}
 
 pub fresh_made : (x z : RowStore) (q : Place) (row : List Value) (made : List TableRow) (free page : ℕ) → made ≡ one_row q.table (Some row) → free ≡ free_on made → page ≡ length x.sides.items
     → z.pool ≡ with_dirty (with_frame x.pool page made) (record { page = page; side = 0 }) → IsPool z.pool → z.sides.items ≡ x.sides.items ++ 0 ∷ [] → z.space ≡ x.space ++ free ∷ [] → z.named ≡ x.named
-    → z.directory.entries ≡ insert_entry place_cmp x.directory.entries q page → IsFresh x z q row
+    → z.directory ≡ insert_entry place_cmp x.directory q page → IsFresh x z q row
 fresh_made x z q row made free page is own at pool is_pool sides space names entries = record {
   free = free;
   own = own ∙ ap free_on is;
@@ -35,7 +35,7 @@ fresh_made x z q row made free page is own at pool is_pool sides space names ent
   sides = sides;
   space = space;
   named = names;
-  directory = entries ∙ ap (λ n. insert_entry place_cmp x.directory.entries q n) at;
+  directory = entries ∙ ap (λ n. insert_entry place_cmp x.directory q n) at;
 }
 
 module _ (d : View) (x z : RowStore) (dev : ℕ) (named : List ℕ) (t : Tables) (is : IsRowStore d x dev named t) where
@@ -45,7 +45,7 @@ module _ (d : View) (x z : RowStore) (dev : ℕ) (named : List ℕ) (t : Tables)
   -- it is needed only where the others are full
   pub fresh_within : (row : List Value) → IsTrue d.told → HasRoom x.space (row_bytes row) None → row_bytes row ≤ 4115 → page_count z ≤ page_count x + 1 → IsWithin (page_count x) (bytes_of_entries t.list) (page_count z)
   fresh_within row told none small more =
-      within_one (page_count x) (bytes_of_entries t.list) (page_count z) (few_in (d.bytes dev) x.pool x.sides.items x.space x.directory.entries t (is.is.told told) (row_bytes row) small none) more
+      within_one (page_count x) (bytes_of_entries t.list) (page_count z) (few_in (d.bytes dev) x.pool x.sides.items x.space x.directory t (is.is.told told) (row_bytes row) small none) more
 
 -- A ROW PUT where the old one was taken out
 
@@ -83,4 +83,4 @@ within_put q t n k m first second =
 -- a page is split only where there may be one more
 pub split_within : (d : View) (x z : RowStore) (dev : ℕ) (named : List ℕ) (t : Tables) → IsRowStore d x dev named t → IsTrue d.told → may_grow x.space ≡ true → page_count z ≤ page_count x + 1 → IsWithin (page_count x) (bytes_of_entries t.list) (page_count z)
 split_within d x z dev named t is told grows more =
-    within_one (page_count x) (bytes_of_entries t.list) (page_count z) (few_growing (d.bytes dev) x.pool x.sides.items x.space x.directory.entries t (is.is.told told) grows) more
+    within_one (page_count x) (bytes_of_entries t.list) (page_count z) (few_growing (d.bytes dev) x.pool x.sides.items x.space x.directory t (is.is.told told) grows) more

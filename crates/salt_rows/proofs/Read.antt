@@ -22,7 +22,7 @@ use Rattle.std.specs.Map.{lookup}
 
 module _ (d : View) (x : RowStore) (dev : ℕ) (named : List ℕ) (t : Tables) (is : IsRowStore d x dev named t) where
   -- the directory's pages are the store's
-  pub page_within : (table : ℕ) (key : Value) (page : ℕ) → page_of x.directory.entries (place table key) ≡ Some page → page < length x.sides.items
+  pub page_within : (table : ℕ) (key : Value) (page : ℕ) → page_of x.directory (place table key) ≡ Some page → page < length x.sides.items
   page_within table key page placed = is.is.kept.pointed (place table key) page placed
 
   module _ (page : ℕ) (low : page < length x.sides.items) where
@@ -53,7 +53,7 @@ module _ (d : View) (x : RowStore) (dev : ℕ) (named : List ℕ) (t : Tables) (
       row_behind told row found = found_row_is d x dev named t is.is page low told table key rows row (shown_rows d x dev named t is.is page low told rows (framed.shown told)) found
 
       -- where none is found, the disks do not tell
-      pub none_behind : page_of x.directory.entries (place table key) ≡ Some page → IsRowFound table key rows None → d.told ≡ false
+      pub none_behind : page_of x.directory (place table key) ≡ Some page → IsRowFound table key rows None → d.told ≡ false
       none_behind placed none = not_told d.told (λ told. found_row_there d x dev named t is.is page low told table key rows (shown_rows d x dev named t is.is page low told rows (framed.shown told)) placed none)
 
 -- a row that is found has the key

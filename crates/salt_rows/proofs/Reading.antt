@@ -108,8 +108,8 @@ bytes_kept d e (Some (Full n)) dev kept = (kept.kept dev (λ h. h)).bytes
 bytes_kept d e (Some Memory) dev kept = (kept.kept dev (λ h. h)).bytes
 
 module _ (d : View) (x : RowStore) (dev : ℕ) (named : List ℕ) (t : Tables) (is : IsStanding d x dev named t) where
-  here : IsTrue d.told → HavePages (d.bytes x.pool.dev) x.pool x.sides.items x.space x.directory.entries t
-  here told = subst (λ n. HavePages (d.bytes n) x.pool x.sides.items x.space x.directory.entries t) (sym is.device) (is.told told)
+  here : IsTrue d.told → HavePages (d.bytes x.pool.dev) x.pool x.sides.items x.space x.directory t
+  here told = subst (λ n. HavePages (d.bytes n) x.pool x.sides.items x.space x.directory t) (sym is.device) (is.told told)
 
   -- as it was, on devices that are
   pub standing_kept : (e : View) → SameShape d e → e.bytes dev ≡ d.bytes dev → IsStanding e x dev named t
@@ -118,7 +118,7 @@ module _ (d : View) (x : RowStore) (dev : ℕ) (named : List ℕ) (t : Tables) (
     known = omega (arith, is.known, shape.count);
     names = is.names;
     kept = is.kept;
-    told = λ told. subst (λ (bytes : List ℕ). HavePages bytes x.pool x.sides.items x.space x.directory.entries t) (sym same) (is.told (sym shape.told ∙ told));
+    told = λ told. subst (λ (bytes : List ℕ). HavePages bytes x.pool x.sides.items x.space x.directory t) (sym same) (is.told (sym shape.told ∙ told));
   }
 
   module _ (page : ℕ) (low : page < length x.sides.items) where
@@ -129,15 +129,15 @@ module _ (d : View) (x : RowStore) (dev : ℕ) (named : List ℕ) (t : Tables) (
       pool = is.kept.is_pool;
       codec = is.kept.codec;
       few = few;
-      shown = λ told. (get_or (here told).pages page [], shows (d.bytes x.pool.dev) x.pool x.sides.items x.space x.directory.entries t (here told) is.kept.is_pool page low);
+      shown = λ told. (get_or (here told).pages page [], shows (d.bytes x.pool.dev) x.pool x.sides.items x.space x.directory t (here told) is.kept.is_pool page low);
     }
 
     -- the rows that are shown are the page's
     pub shown_rows : (told : IsTrue d.told) (rows : List TableRow) → shown_page (d.bytes x.pool.dev) x.pool.frames.entries page (get_or x.sides.items page 0) ≡ Some rows → rows ≡ get_or (is.told told).pages page []
     shown_rows told rows shown = by dev is.device (is.told told)
       where
-        by : (n : ℕ) → x.pool.dev ≡ n → (has : HavePages (d.bytes n) x.pool x.sides.items x.space x.directory.entries t) → rows ≡ get_or has.pages page []
-        by n same has = some_same rows (get_or has.pages page []) (sym shown ∙ ap (λ m. shown_page (d.bytes m) x.pool.frames.entries page (get_or x.sides.items page 0)) same ∙ shows (d.bytes n) x.pool x.sides.items x.space x.directory.entries t has is.kept.is_pool page low)
+        by : (n : ℕ) → x.pool.dev ≡ n → (has : HavePages (d.bytes n) x.pool x.sides.items x.space x.directory t) → rows ≡ get_or has.pages page []
+        by n same has = some_same rows (get_or has.pages page []) (sym shown ∙ ap (λ m. shown_page (d.bytes m) x.pool.frames.entries page (get_or x.sides.items page 0)) same ∙ shows (d.bytes n) x.pool x.sides.items x.space x.directory t has is.kept.is_pool page low)
 
     pub standing_framed : (e : View) (rows : List TableRow) → SameShape d e → e.bytes dev ≡ d.bytes dev → IsPool (with_frame x.pool page rows)
         → (IsTrue d.told → shown_page (d.bytes x.pool.dev) x.pool.frames.entries page (get_or x.sides.items page 0) ≡ Some rows) → IsStanding e (record x { pool = with_frame x.pool page rows }) dev named t
@@ -145,14 +145,14 @@ module _ (d : View) (x : RowStore) (dev : ℕ) (named : List ℕ) (t : Tables) (
       device = is.device;
       known = omega (arith, is.known, shape.count);
       names = is.names;
-      kept = kept_framed x.pool x.named x.sides.items x.space x.directory.entries is.kept page rows low pool;
+      kept = kept_framed x.pool x.named x.sides.items x.space x.directory is.kept page rows low pool;
       told = λ told. framed (sym shape.told ∙ told);
     }
       where
-        framed : IsTrue d.told → HavePages (e.bytes dev) (with_frame x.pool page rows) x.sides.items x.space x.directory.entries t
+        framed : IsTrue d.told → HavePages (e.bytes dev) (with_frame x.pool page rows) x.sides.items x.space x.directory t
         framed told =
             let has = is.told told in
-            subst (λ (bytes : List ℕ). HavePages bytes (with_frame x.pool page rows) x.sides.items x.space x.directory.entries t) (sym same) (record {
+            subst (λ (bytes : List ℕ). HavePages bytes (with_frame x.pool page rows) x.sides.items x.space x.directory t) (sym same) (record {
               pages = has.pages;
               are = pages_framed (d.bytes dev) x.pool is.kept.is_pool x.pool.dirty.items x.sides.items has.pages has.are page rows (shown_rows told rows (shown told));
               rows = has.rows;
@@ -166,10 +166,10 @@ module _ (d : View) (x : RowStore) (dev : ℕ) (named : List ℕ) (t : Tables) (
         let has = is.told told in
         let at = subst (λ (rs : List TableRow). slice_get rs found.0 ≡ Some found.1) same found.2 in
         ap (λ (r : List Value). Some r) (sym found.4)
-        ∙ sym (found_on x.directory.entries has.pages t has.rows page (omega (arith, low, has.are.count)) found.0 found.1 at)
+        ∙ sym (found_on x.directory has.pages t has.rows page (omega (arith, low, has.are.count)) found.0 found.1 at)
         ∙ ap (λ (q : Place). row_at q t) (row_place table key found.1 found.3)
 
-    pub found_row_there : (told : IsTrue d.told) (table : ℕ) (key : Value) (rows : List TableRow) → rows ≡ get_or (is.told told).pages page [] → page_of x.directory.entries (place table key) ≡ Some page → IsRowFound table key rows None → ⊥
+    pub found_row_there : (told : IsTrue d.told) (table : ℕ) (key : Value) (rows : List TableRow) → rows ≡ get_or (is.told told).pages page [] → page_of x.directory (place table key) ≡ Some page → IsRowFound table key rows None → ⊥
     found_row_there told table key rows same placed none =
         let has = is.told told in
         let on : is_some (found_row (place table key) rows) ≡ true = ap (λ (rs : List TableRow). is_some (found_row (place table key) rs)) same ∙ has.rows.placed (place table key) page placed in

@@ -48,7 +48,7 @@ module _ (d e : View) (x : RowStore) (pool : Frames) (dev : ℕ) (named : List �
   shown_before = subst (λ s. IsTrue d.told → shown_page (d.bytes x.pool.dev) x.pool.frames.entries page s ≡ Some before) at framed.shown
 
   -- where the page lacks the row that the directory has on it, the disks do not tell
-  pub missing_told : (q : Place) → page_of x.directory.entries q ≡ Some page → IsRowFound q.table q.key before None → d.told ≡ false
+  pub missing_told : (q : Place) → page_of x.directory q ≡ Some page → IsRowFound q.table q.key before None → d.told ≡ false
   missing_told q placed none = not_told d.told (λ told. found_row_there d x dev named t is.is page low told q.table q.key before (shown_rows d x dev named t is.is page low told before (shown_before told)) placed none)
 
   module _ (free : ℕ) (z : RowStore) (marked : IsMarked (record x { pool = pool }) z page free) where
@@ -58,36 +58,36 @@ module _ (d e : View) (x : RowStore) (pool : Frames) (dev : ℕ) (named : List �
     pub framed_pool : IsPool (with_frame x.pool page rows)
     framed_pool = subst (λ (p : Frames). IsPool p) framed.is framed.pool
 
-    pub same_entries : z.directory.entries ≡ x.directory.entries
-    same_entries = λ i. (marked.directory i).entries
+    pub same_entries : z.directory ≡ x.directory
+    same_entries = marked.directory
 
-    module _ (q : Place) (placed : page_of x.directory.entries q ≡ Some page) where
+    module _ (q : Place) (placed : page_of x.directory q ≡ Some page) where
       pub put_here : (row : Option (List Value)) → NamesKey q row → IsReplaced q.table q.key row before rows (Put free) → IsStanding e z dev named (set_row q row t)
       put_here None key done = absurd (none_given done.0.0 done.0.1)
       put_here (Some row) key done =
           standing_marked d e x dev named t is.is kept.shape (kept.kept dev (λ h. h)).bytes page low before rows free z marked_pool marked.sides marked.space marked.named framed_pool marked.is_pool
           (subst (λ (D : List (Place × ℕ)). HasPagesBelow D (length x.sides.items)) (sym same_entries) is.is.kept.pointed) shown_before done.1 (put_row q row t)
-          (λ pages are there same. subst (λ (D : List (Place × ℕ)). AreRowsOf D (set pages page rows) (put_row q row t)) (sym same_entries) (replaced x.directory.entries pages t are page there q before rows row same placed key (given_exchanged q.table q.key row before rows done.0)))
+          (λ pages are there same. subst (λ (D : List (Place × ℕ)). AreRowsOf D (set pages page rows) (put_row q row t)) (sym same_entries) (replaced x.directory pages t are page there q before rows row same placed key (given_exchanged q.table q.key row before rows done.0)))
 
       -- the directory lacks it then
-      pub gone_here : (row : Option (List Value)) (w : RowStore) → w.pool ≡ z.pool → w.sides.items ≡ z.sides.items → w.space ≡ z.space → w.named ≡ z.named → w.directory.entries ≡ remove_entry (is_at (place_cmp q)) z.directory.entries
-          → ((p : Place) → page_of w.directory.entries p ≡ cond (is_eq (place_cmp q p)) None (page_of z.directory.entries p)) → IsReplaced q.table q.key row before rows (Gone free) → IsStanding e w dev named (remove_at q t)
+      pub gone_here : (row : Option (List Value)) (w : RowStore) → w.pool ≡ z.pool → w.sides.items ≡ z.sides.items → w.space ≡ z.space → w.named ≡ z.named → w.directory ≡ remove_entry (is_at (place_cmp q)) z.directory
+          → ((p : Place) → page_of w.directory p ≡ cond (is_eq (place_cmp q p)) None (page_of z.directory p)) → IsReplaced q.table q.key row before rows (Gone free) → IsStanding e w dev named (remove_at q t)
       gone_here row w pools sides spaces names removed looked done =
-          let here : (p : Place) → page_of w.directory.entries p ≡ cond (is_eq (place_cmp q p)) None (page_of x.directory.entries p) =
+          let here : (p : Place) → page_of w.directory p ≡ cond (is_eq (place_cmp q p)) None (page_of x.directory p) =
           λ p. looked p ∙ ap (λ (D : List (Place × ℕ)). cond (is_eq (place_cmp q p)) None (page_of D p)) same_entries in
           standing_marked d e x dev named t is.is kept.shape (kept.kept dev (λ h. h)).bytes page low before rows free w (pools ∙ marked_pool) (sides ∙ marked.sides) (spaces ∙ marked.space) (names ∙ marked.named) framed_pool
-          (subst (λ (p : Frames). IsPool p) (sym pools) marked.is_pool) (below_gone x.directory.entries w.directory.entries q (length x.sides.items) here is.is.kept.pointed) shown_before done.1 (remove_at q t)
-          (λ pages are there same. gone x.directory.entries pages t are page there q before rows w.directory.entries same done.0 (removed ∙ ap (λ (D : List (Place × ℕ)). remove_entry (is_at (place_cmp q)) D) same_entries) here)
+          (subst (λ (p : Frames). IsPool p) (sym pools) marked.is_pool) (below_gone x.directory w.directory q (length x.sides.items) here is.is.kept.pointed) shown_before done.1 (remove_at q t)
+          (λ pages are there same. gone x.directory pages t are page there q before rows w.directory same done.0 (removed ∙ ap (λ (D : List (Place × ℕ)). remove_entry (is_at (place_cmp q)) D) same_entries) here)
 
     -- a row was put beside others, where there was none
-    pub beside_here : (q : Place) (row : List Value) (w : RowStore) → w.pool ≡ z.pool → w.sides.items ≡ z.sides.items → w.space ≡ z.space → w.named ≡ z.named → w.directory.entries ≡ insert_entry place_cmp z.directory.entries q page
+    pub beside_here : (q : Place) (row : List Value) (w : RowStore) → w.pool ≡ z.pool → w.sides.items ≡ z.sides.items → w.space ≡ z.space → w.named ≡ z.named → w.directory ≡ insert_entry place_cmp z.directory q page
         → key_of row ≡ q.key → row_at q t ≡ None → IsPut q.table row before rows (Some free) → IsStanding e w dev named (put_row q row t)
     beside_here q row w pools sides spaces names inserted key none done =
-        let entries : w.directory.entries ≡ insert_entry place_cmp x.directory.entries q page = inserted ∙ ap (λ (D : List (Place × ℕ)). insert_entry place_cmp D q page) same_entries in
+        let entries : w.directory ≡ insert_entry place_cmp x.directory q page = inserted ∙ ap (λ (D : List (Place × ℕ)). insert_entry place_cmp D q page) same_entries in
         standing_marked d e x dev named t is.is kept.shape (kept.kept dev (λ h. h)).bytes page low before rows free w (pools ∙ marked_pool) (sides ∙ marked.sides) (spaces ∙ marked.space) (names ∙ marked.named) framed_pool
         (subst (λ (p : Frames). IsPool p) (sym pools) marked.is_pool)
-        (subst (λ (D : List (Place × ℕ)). HasPagesBelow D (length x.sides.items)) (sym entries) (below_put x.directory.entries q page (length x.sides.items) low is.is.kept.pointed)) shown_before done.1 (put_row q row t)
-        (λ pages are there same. subst (λ (D : List (Place × ℕ)). AreRowsOf D (set pages page rows) (put_row q row t)) (sym entries) (put_beside x.directory.entries pages t are page there q before rows row same key none done.0))
+        (subst (λ (D : List (Place × ℕ)). HasPagesBelow D (length x.sides.items)) (sym entries) (below_put x.directory q page (length x.sides.items) low is.is.kept.pointed)) shown_before done.1 (put_row q row t)
+        (λ pages are there same. subst (λ (D : List (Place × ℕ)). AreRowsOf D (set pages page rows) (put_row q row t)) (sym entries) (put_beside x.directory pages t are page there q before rows row same key none done.0))
 
   -- a page on which the directory has room for a row has it, where the disks tell
   pub no_room_told : (table : ℕ) (row : List Value) → HasRoom x.space (row_bytes row) (Some page) → IsPut table row before rows None → d.told ≡ false

@@ -39,7 +39,7 @@ module _ (d e1 : View) (x x1 : RowStore) (q : Place) (row : Option (List Value))
 
 -- WITHOUT ONE
 
-pub left_without : (d : View) (x : RowStore) (q : Place) → page_of x.directory.entries q ≡ None → (dev : ℕ) (named : List ℕ) (t : Tables) → IsRowStore d x dev named t → IsRowStore d x dev named (remove_at q t)
+pub left_without : (d : View) (x : RowStore) (q : Place) → page_of x.directory q ≡ None → (dev : ℕ) (named : List ℕ) (t : Tables) → IsRowStore d x dev named t → IsRowStore d x dev named (remove_at q t)
 left_without d x q lacks dev named t is = record { is = store_without d x dev named t q is.is lacks; few = is.few }
 
 -- no row is given

@@ -100,7 +100,7 @@ module _ (d e : View) (x : RowStore) (dev : ℕ) (named : List ℕ) (t : Tables)
   pub flushable : IsFlushable d x.pool
   flushable = record {
     length = λ told. (is.told told).long ∙ ap (λ n. length (d.bytes n)) (sym is.device);
-    near = near x.pool x.named x.sides.items x.space x.directory.entries is.kept;
+    near = near x.pool x.named x.sides.items x.space x.directory is.kept;
   }
 
   pub store_flushed : (pool : Frames) → pool ≡ flushed x.pool → IsPool pool → SameShape d e → IsLeftBy x.pool.len x.pool.dirty.items d e x.pool.dev pool.len
@@ -111,17 +111,17 @@ module _ (d e : View) (x : RowStore) (dev : ℕ) (named : List ℕ) (t : Tables)
       device = is.device;
       known = omega (arith, is.known, shape.count);
       names = is.names;
-      kept = kept_flushed x.pool x.named x.sides.items x.space x.directory.entries is.kept (subst (λ (p : Frames). IsPool p) made is_pool);
+      kept = kept_flushed x.pool x.named x.sides.items x.space x.directory is.kept (subst (λ (p : Frames). IsPool p) made is_pool);
       told = λ told. told_so (sym shape.told ∙ told);
     };
     few = omega arith;
   })
     where
-      told_so : IsTrue d.told → HavePages (e.bytes dev) (flushed x.pool) x.sides.items x.space x.directory.entries t
+      told_so : IsTrue d.told → HavePages (e.bytes dev) (flushed x.pool) x.sides.items x.space x.directory t
       told_so told =
-          subst (λ n. HavePages (e.bytes n) (flushed x.pool) x.sides.items x.space x.directory.entries t) is.device
-          (have_flushed x.pool x.named x.sides.items x.space x.directory.entries is.kept (d.bytes x.pool.dev) (e.bytes x.pool.dev) t
-          (subst (λ n. HavePages (d.bytes n) x.pool x.sides.items x.space x.directory.entries t) (sym is.device) (is.told told))
+          subst (λ n. HavePages (e.bytes n) (flushed x.pool) x.sides.items x.space x.directory t) is.device
+          (have_flushed x.pool x.named x.sides.items x.space x.directory is.kept (d.bytes x.pool.dev) (e.bytes x.pool.dev) t
+          (subst (λ n. HavePages (d.bytes n) x.pool x.sides.items x.space x.directory t) (sym is.device) (is.told told))
           (left.sides told) (stand told) back (ap (λ (p : Frames). p.len) (sym made) ∙ left.ends told))
 
 -- the header names the sides now
@@ -131,7 +131,7 @@ store_named d x dev named sides t is clean same = record {
     device = is.is.device;
     known = is.is.known;
     names = refl;
-    kept = subst (λ (l : List ℕ). AreKept x.pool l x.sides.items x.space x.directory.entries) (sym same) (kept_named x.pool x.named x.sides.items x.space x.directory.entries is.is.kept clean);
+    kept = subst (λ (l : List ℕ). AreKept x.pool l x.sides.items x.space x.directory) (sym same) (kept_named x.pool x.named x.sides.items x.space x.directory is.is.kept clean);
     told = is.is.told;
   };
   few = is.few;

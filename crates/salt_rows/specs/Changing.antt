@@ -44,7 +44,7 @@ pub record IsFresh (old new : RowStore) (q : Place) (row : List Value) : Type 0 
   pub sides : new.sides.items ≡ old.sides.items ++ 0 ∷ []
   pub space : new.space ≡ old.space ++ free ∷ []
   pub named : new.named ≡ old.named
-  pub directory : new.directory.entries ≡ insert_entry place_cmp old.directory.entries q (length old.sides.items)
+  pub directory : new.directory ≡ insert_entry place_cmp old.directory q (length old.sides.items)
 
 -- a new page behind the others has the half of another one; all else is as it was
 pub record IsHalfPut (half : Half) (old new : RowStore) : Type 0 where
@@ -53,4 +53,4 @@ pub record IsHalfPut (half : Half) (old new : RowStore) : Type 0 where
   pub sides : new.sides.items ≡ old.sides.items ++ 0 ∷ []
   pub space : new.space ≡ old.space ++ half.free ∷ []
   pub named : new.named ≡ old.named
-  pub directory : new.directory.entries ≡ placed_on (length old.sides.items) half.places.items old.directory.entries
+  pub directory : new.directory ≡ placed_on (length old.sides.items) half.places.items old.directory

@@ -42,7 +42,7 @@ pub record AreKept (pool : Frames) (named sides space : List ℕ) (directory : L
   pub side_end : (page : ℕ) → page < length sides → is_dirty (dirty_of pool) page ≡ false → page_place page (get_or sides page 0) + page_length ≤ length_of pool
 
 abbrev pub IsKept : RowStore → Type 0
-IsKept x = AreKept x.pool x.named x.sides.items x.space x.directory.entries
+IsKept x = AreKept x.pool x.named x.sides.items x.space x.directory
 
 -- The rows on the pages are those of the tables, where their device has these bytes.
 pub record HavePages (bytes : List ℕ) (pool : Frames) (sides space : List ℕ) (directory : List (Place × ℕ)) (t : Tables) : Type 0 where
@@ -53,7 +53,7 @@ pub record HavePages (bytes : List ℕ) (pool : Frames) (sides space : List ℕ)
   pub long : length_of pool ≡ length bytes
 
 abbrev pub HasRows : List ℕ → RowStore → Tables → Type 0
-HasRows bytes x t = HavePages bytes x.pool x.sides.items x.space x.directory.entries t
+HasRows bytes x t = HavePages bytes x.pool x.sides.items x.space x.directory t
 
 -- The value keeps the rows of these tables on the pages of device `dev`, of which the header names these sides.
 pub record IsStanding (d : View) (x : RowStore) (dev : ℕ) (named : List ℕ) (t : Tables) : Type 0 where
@@ -101,7 +101,7 @@ page_count x = length x.sides.items
 
 -- the places of its rows, whatever the disks tell, as tables in which each row is its key alone
 abbrev pub places_of : RowStore → Tables
-places_of x = places_in x.directory.entries
+places_of x = places_in x.directory
 
 -- with a header that names these sides
 abbrev pub with_named : RowStore → List ℕ → RowStore

@@ -22,7 +22,7 @@ ghost use Rattle.std.specs.Result.{result_err};
 use crate::frame::{put_row, replace_row};
 use crate::split::Way;
 use crate::store::RowStore;
-use salt_directory::{Replaced, new_page, page_of};
+use salt_directory::{Replaced, new_page};
 use salt_disk::{DiskErr, Disks};
 use salt_gatelog::rejected;
 use salt_model::Place;
@@ -60,7 +60,7 @@ impl RowStore {
         page: u32,
     ) -> Result<bool, DiskErr>
         requires stands { StandsOnPages (D.view disks.old) self.old }
-        requires page { page_of self.old.directory.entries place.now ≡ Some page }
+        requires page { page_of self.old.directory place.now ≡ Some page }
         requires row { HasRowTo (option_copied row) }
         requires key { NamesKey place.now (option_copied row) }
         ensures put { (dev : ℕ) (named : List ℕ) (t : Tables) → IsRowStore (D.view disks.old) self.old dev named t
@@ -121,7 +121,7 @@ impl RowStore {
         ensures cause { HasCause (D.view disks.old) (D.view disks.new) (result_err result) }
         ensures full { FullOnly (device_of self.old) ((D.view disks.old).limit (device_of self.old)) (page_place (page_count self.old) 0) (result_err result) }
     {
-        match page_of(&self.directory, place) {
+        match self.directory.page_of(place) {
             Some(page) => {
                 let put = self.replace(disks, place, row, page)?;
                 self.make_room(disks)?;

@@ -22,7 +22,6 @@ use salt_pages::{Page, read_page};
 use salt_pool::{PageSpelling, Pool};
 use salt_values::copies;
 use std::alloc::{AllocError, Global};
-use std::collections::BTreeMap;
 
 /// How many bytes a page takes.
 const PAGE: usize = 8192;
@@ -105,7 +104,7 @@ fn store_on(
     ensures frames { IfOk result (λ x. (frames_of x.pool ≡ []) × (dirty_of x.pool ≡ [])) }
     ensures device { IfOk result (λ x. (codec_of x.pool ≡ record { nulls = true }) × (device_of x ≡ dev) × (length_of x.pool ≡ len)) }
     ensures pool { IfOk result (λ x. IsPool x.pool) }
-    ensures rows { IfOk result (λ x. (x.named ≡ sides.now) × (x.sides.items ≡ sides.now) × (x.directory.entries ≡ directory.entries) × (x.space ≡ space)) }
+    ensures rows { IfOk result (λ x. (x.named ≡ sides.now) × (x.sides.items ≡ sides.now) × (x.directory ≡ directory) × (x.space ≡ space)) }
 {
     let pool = Pool::new(alloc, PageSpelling { nulls: true }, dev, len)?;
     Ok(RowStore {
@@ -142,7 +141,7 @@ pub fn open_rows<D: Disks, J: RowJudge>(
     ensures cause { HasCause (D.view disks.old) (D.view disks.new) (rows_disk_err result) }
     ensures answers { OnlyFails (rows_disk_err result) }
 {
-    let mut directory = BTreeMap::new(alloc);
+    let mut directory = Directory::new(alloc);
     let mut space = Space::new(alloc);
     for number in 0..sides.len() {
         let page = page_on(alloc, disks, dev, nulls, number as u32, sides[number])?;

@@ -19,7 +19,7 @@ ghost use Rattle.std.specs.Result.{result_err};
 
 use crate::frame::{load_key, load_range, row_on};
 use crate::store::RowStore;
-use salt_directory::{Seat, extent_of, few_seats, next_place, page_of};
+use salt_directory::{Seat, extent_of, few_seats, next_place};
 use salt_disk::{DiskErr, Disks};
 use salt_eval::point_of;
 use salt_gatelog::rejected;
@@ -39,7 +39,7 @@ impl RowStore {
         page: u32,
     ) -> Result<Row, DiskErr>
         requires stands { StandsOnPages (D.view disks.old) self.old }
-        requires page { page_of self.old.directory.entries (place table key.now) ≡ Some page }
+        requires page { page_of self.old.directory (place table key.now) ≡ Some page }
         ensures row { (dev : ℕ) (named : List ℕ) (t : Tables) → IsRowStore (D.view disks.old) self.old dev named t → IsTrue (D.view disks.old).told
             → IfOk result (λ row. Some row ≡ row_at (place table key.now) t) }
         ensures key { IfOk result (λ row. key_of row ≡ key.now) }
@@ -77,9 +77,9 @@ impl RowStore {
             table,
             key: key.copy(self.alloc)?,
         };
-        match page_of(&self.directory, &place) {
+        match self.directory.look_for(place) {
             Some(page) => {
-                let row = self.read(disks, table, &place.key, page)?;
+                let row = self.read(disks, table, key, page)?;
                 Ok(Some(row))
             }
             None => Ok(None),
@@ -126,7 +126,7 @@ impl RowStore {
         out: &mut Loading,
     ) -> Result<(), DiskErr>
         requires stands { StandsOnPages (D.view disks.old) self.old }
-        requires page { page_of self.old.directory.entries (place out.old.table key.now) ≡ Some page }
+        requires page { page_of self.old.directory (place out.old.table key.now) ≡ Some page }
         ensures row { (dev : ℕ) (named : List ℕ) (t : Tables) → IsRowStore (D.view disks.old) self.old dev named t → IsTrue (D.view disks.old).told
             → OnOk result (IsRowLoaded t key.now out.old out.new) }
         ensures table { OnOk result (out.new.table ≡ out.old.table) }
@@ -165,7 +165,7 @@ impl RowStore {
             table: out.table(),
             key: key.copy(self.alloc)?,
         };
-        match page_of(&self.directory, &place) {
+        match self.directory.look_for(place) {
             Some(page) => self.load_seat(disks, key, page, out),
             None => Ok(()),
         }
@@ -179,9 +179,9 @@ impl RowStore {
         out: &mut Loading,
     ) -> Result<(), DiskErr>
         requires stands { StandsOnPages (D.view disks.old) self.old }
-        requires seated { Every (IsSeated out.old.table self.old.directory.entries) seats.now }
+        requires seated { Every (IsSeated out.old.table self.old.directory) seats.now }
         ensures rows { (dev : ℕ) (named : List ℕ) (t : Tables) → IsRowStore (D.view disks.old) self.old dev named t → IsTrue (D.view disks.old).told
-            → (range : KeyRange) → seats.now ≡ seats_in out.old.table range self.old.directory.entries → OnOk result (HasLoaded range t out.old out.new) }
+            → (range : KeyRange) → seats.now ≡ seats_in out.old.table range self.old.directory → OnOk result (HasLoaded range t out.old out.new) }
         ensures stands { (dev : ℕ) (named : List ℕ) (t : Tables) → IsRowStore (D.view disks.old) self.old dev named t
             → UnlessDown (result_err result) (IsRowStore (D.view disks.new) self.new dev named t) }
         ensures same { LooksOn self.old self.new }

@@ -16,7 +16,7 @@ ghost use Rattle.std.specs.Result.{result_err};
 
 use crate::frame::half_of;
 use crate::store::RowStore;
-use salt_directory::{Half, is_last, page_before, put_places};
+use salt_directory::{Half, put_places};
 use salt_disk::{DiskErr, Disks};
 use salt_model::Place;
 use salt_pages::row_room;
@@ -118,14 +118,14 @@ impl RowStore {
         ensures cause { HasCause (D.view disks.old) (D.view disks.new) (result_err result) }
         ensures full { FullOnly (device_of self.old) ((D.view disks.old).limit (device_of self.old)) (page_place (page_count self.new) 0) (result_err result) }
     {
-        let beside = page_before(&self.directory, place);
+        let beside = self.directory.page_before(place);
         match beside {
             Some(page)
                 if self.space.free_on(page) < needed
                     && self.space.may_grow()
-                    && !is_last(&self.directory, place) => {
+                    && !self.directory.is_last(place) => {
                 self.split(disks, page)?;
-                Ok(page_before(&self.directory, place))
+                Ok(self.directory.page_before(place))
             }
             _ => Ok(beside),
         }

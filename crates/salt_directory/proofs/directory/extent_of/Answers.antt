@@ -14,13 +14,13 @@ use Rattle.std.specs.declared.ops.Bound.TheVariants.{Unbounded}
 
 pub loop-place-init : goal.loop-place-init
 loop-place-init c =
-    let es = c.args.directory.now.entries in
+    let es = c.args.directory.now in
     record {
       can_next = tt;
       is_finite = tt;
-      so_far = marking_begins c.args.table c.args.range.now es c.in_ok-pages.pages.items c.into_iter-place-iterator.result (in_order place_cmp es c.range-place-items.ensures.ordered)
-          (c.into_iter-place-iterator.ensures.into_iter_gives ∙ c.range-place-items.ensures.between tt ∙ ap (λ s. entries_between place_cmp s Unbounded es) c.in_ok-start.ensures)
-          (subst (λ l. length l < 2 ^ 63) (sym c.into_iter-place-iterator.ensures.into_iter_gives) c.range-place-items.ensures.fits);
+      so_far = marking_begins c.args.table c.args.range.now es c.in_ok-pages.pages.items c.into_iter-place-iterator.result (in_order place_cmp es c.rows_from-place-items.ensures.ordered)
+          (c.into_iter-place-iterator.ensures.into_iter_gives ∙ c.rows_from-place-items.ensures.between ∙ ap (λ s. entries_between place_cmp s Unbounded es) c.in_ok-start.ensures)
+          (subst (λ l. length l < 2 ^ 63) (sym c.into_iter-place-iterator.ensures.into_iter_gives) c.rows_from-place-items.ensures.fits);
       count = search rules;
     }
 
@@ -35,18 +35,18 @@ loop-place-preserved c =
     record {
       can_next = tt;
       is_finite = tt;
-      so_far = marking_goes c.args.table c.args.range.now c.args.directory.now.entries l.pages.items l.rows l.place-iterator l.invariant.so_far (c.in-Some.place.now, c.in-Some.page.now) c.next.new.self c.mark.new.pages.items c.in-Some.ensures.steps within c.mark.ensures;
+      so_far = marking_goes c.args.table c.args.range.now c.args.directory.now l.pages.items l.rows l.place-iterator l.invariant.so_far (c.in-Some.place.now, c.in-Some.page.now) c.next.new.self c.mark.new.pages.items c.in-Some.ensures.steps within c.mark.ensures;
       count = ap length c.mark.ensures ∙ length-set l.pages.items c.in-Some.page.now true ∙ l.invariant.count;
     }
 
 pub returns : goal.returns
 returns c =
     let l = c.loop-place in
-    let ended : HaveAllOf c.args.table c.args.range.now c.args.directory.now.entries l.pages.items × (l.rows ≡ count_in c.args.table c.args.range.now c.args.directory.now.entries) =
+    let ended : HaveAllOf c.args.table c.args.range.now c.args.directory.now l.pages.items × (l.rows ≡ count_in c.args.table c.args.range.now c.args.directory.now) =
     elim c.match-next.branch [
-      | in-None w ↦ marking_ends c.args.table c.args.range.now c.args.directory.now.entries l.pages.items l.rows l.place-iterator l.invariant.so_far w.in-None.ensures.steps.0
+      | in-None w ↦ marking_ends c.args.table c.args.range.now c.args.directory.now l.pages.items l.rows l.place-iterator l.invariant.so_far w.in-None.ensures.steps.0
       | in-Some+then-place-table w ↦
-          let past = marking_stops c.args.table c.args.range.now c.args.directory.now.entries l.pages.items l.rows l.place-iterator l.invariant.so_far (w.in-Some.place.now, w.in-Some.page.now) c.next.new.self w.in-Some.ensures.steps in
+          let past = marking_stops c.args.table c.args.range.now c.args.directory.now l.pages.items l.rows l.place-iterator l.invariant.so_far (w.in-Some.place.now, w.in-Some.page.now) c.next.new.self w.in-Some.ensures.steps in
           elim w.then-place-table.branch [
             | then-place-table-via-then-place-table v ↦ past (ap (λ b. b && has_key c.args.range.now w.in-Some.place.now.key) (ne_eqb c.args.table w.in-Some.place.now.table (λ e. v.if-place-table.true (sym e))))
             | then-place-table-via-else-place-table+then-not-has v ↦

@@ -11,7 +11,7 @@ use Rattle.std.specs.declared.ops.Bound.TheVariants.{Unbounded}
 
 pub returns-in_ok-copy-clause-next : goal.returns-in_ok-copy-clause-next
 returns-in_ok-copy-clause-next c =
-    let es = c.args.directory.now.entries in
+    let es = c.args.directory.now in
     let first : first_behind c.args.table c.args.range.now (option_copied c.args.after) es ≡ Some (c.in-Some.place.now, c.in-Some.page.now) =
     ap (λ s. first_of_list (entries_between place_cmp s Unbounded es)) (sym c.in_ok-start.ensures) ∙ sym c.in-Some.ensures.first in
     let here : (c.args.table == c.in-Some.place.now.table) ≡ true = eq-eqb _ _ (sym c.if-place-table.true) in

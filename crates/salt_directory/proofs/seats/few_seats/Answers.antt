@@ -15,12 +15,12 @@ use Rattle.std.specs.declared.ops.Bound.TheVariants.{Unbounded}
 
 pub loop-place-init : goal.loop-place-init
 loop-place-init c =
-    let es = c.args.directory.now.entries in
+    let es = c.args.directory.now in
     record {
       can_next = tt;
       is_finite = tt;
-      so_far = seating_begins c.args.table c.args.range.now es c.into_iter-place-iterator.result c.new-seats.result.items c.new-seats.ensures.items (in_order place_cmp es c.range-place-items.ensures.ordered)
-          (c.into_iter-place-iterator.ensures.into_iter_gives ∙ c.range-place-items.ensures.between tt ∙ ap (λ s. entries_between place_cmp s Unbounded es) c.in_ok-start.ensures);
+      so_far = seating_begins c.args.table c.args.range.now es c.into_iter-place-iterator.result c.new-seats.result.items c.new-seats.ensures.items (in_order place_cmp es c.rows_from-place-items.ensures.ordered)
+          (c.into_iter-place-iterator.ensures.into_iter_gives ∙ c.rows_from-place-items.ensures.between ∙ ap (λ s. entries_between place_cmp s Unbounded es) c.in_ok-start.ensures);
     }
 
 pub loop-place-preserved : goal.loop-place-preserved
@@ -32,13 +32,13 @@ loop-place-preserved c =
     record {
       can_next = tt;
       is_finite = tt;
-      so_far = seating_goes c.args.table c.args.range.now c.args.directory.now.entries l.seats.items l.place-iterator l.invariant.so_far (c.in-Some.place.now, c.in-Some.page.now) c.next.new.self c.push.new.self.items c.in-Some.ensures.steps within made;
+      so_far = seating_goes c.args.table c.args.range.now c.args.directory.now l.seats.items l.place-iterator l.invariant.so_far (c.in-Some.place.now, c.in-Some.page.now) c.next.new.self c.push.new.self.items c.in-Some.ensures.steps within made;
     }
 
 pub returns : goal.returns
 returns c =
     let l = c.loop-place in
-    let es = c.args.directory.now.entries in
+    let es = c.args.directory.now in
     let all : l.seats.items ≡ seats_in c.args.table c.args.range.now es =
     elim c.match-next.branch [
       | in-None w ↦ seating_ends c.args.table c.args.range.now es l.seats.items l.place-iterator l.invariant.so_far w.in-None.ensures.steps.0
@@ -53,5 +53,5 @@ returns c =
     ] in
     record {
       seats = all;
-      seated = subst (λ (seats : List Seat). Every (IsSeated c.args.table es) seats) (sym all) (seated c.args.table c.args.range.now es (in_order place_cmp es c.range-place-items.ensures.ordered));
+      seated = subst (λ (seats : List Seat). Every (IsSeated c.args.table es) seats) (sym all) (seated c.args.table c.args.range.now es (in_order place_cmp es c.rows_from-place-items.ensures.ordered));
     }

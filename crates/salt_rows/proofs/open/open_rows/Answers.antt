@@ -17,8 +17,8 @@ loop-number-init g c =
     let sound = g.J.RowJudge.sound c.args.judge.now in
     let d0 = g.D.Disks.view c.args.disks.now in
     let sides = c.args.sides.now in
-    subst (λ (s : List ℕ). IsListing sound d0 d0 c.args.dev c.args.nulls sides 0 c.new-directory.result.entries s) (sym c.new-space.ensures)
-    (subst (λ (D : List (Place × ℕ)). IsListing sound d0 d0 c.args.dev c.args.nulls sides 0 D []) (sym c.new-directory.ensures.empty) (listing_begins sound d0 c.args.dev c.args.nulls sides))
+    subst (λ (s : List ℕ). IsListing sound d0 d0 c.args.dev c.args.nulls sides 0 c.new-directory.result s) (sym c.new-space.ensures)
+    (subst (λ (D : List (Place × ℕ)). IsListing sound d0 d0 c.args.dev c.args.nulls sides 0 D []) (sym c.new-directory.ensures) (listing_begins sound d0 c.args.dev c.args.nulls sides))
 
 pub page_on-requires-clause-known : goal.page_on-requires-clause-known
 page_on-requires-clause-known g c = omega (arith, c.requires.known, c.loop-number.invariant.kept.shape.count)
@@ -38,7 +38,7 @@ loop-number-preserved g c =
     let low : l.number < length sides = omega (arith, c.loop-number-test.true) in
     let e = g.D.Disks.view c.page_on.new.disks in
     let list = c.in_ok-list_page.ensures in
-    one_more (g.J.RowJudge.sound c.args.judge.now) d0 d c.args.dev c.args.nulls sides l.number l.directory.entries l.space l.invariant low (get_or sides l.number 0) refl c.in_ok-page.page c.in_ok-page.ensures.page e c.list_page.new.directory.entries c.push.new.self
+    one_more (g.J.RowJudge.sound c.args.judge.now) d0 d c.args.dev c.args.nulls sides l.number l.directory l.space l.invariant low (get_or sides l.number 0) refl c.in_ok-page.page c.in_ok-page.ensures.page e c.list_page.new.directory c.push.new.self
     c.in_ok-page.ensures.kept c.in_ok-page.ensures.cause list.listed list.below (c.in_ok-push.ensures.ok ∙ ap (λ n. l.space ++ n ∷ []) c.free.ensures) list.sound
 
 -- A PAGE THAT IS NONE
@@ -52,7 +52,7 @@ returns-in_err-page-clause-not_page g c = λ is told.
     let low : l.number < length sides = omega (arith, c.loop-number-test.true) in
     let p = err_from_is_err_and c.from_residual.result c.from_residual.ensures.1 in
     let none : c.in_err-page.field-0.0 ≡ NotPage = cc (p.1, p.2, is) in
-    none_found (g.J.RowJudge.sound c.args.judge.now) d0 d c.args.dev c.args.nulls sides l.number l.directory.entries l.space l.invariant low (get_or sides l.number 0) refl (c.in_err-page.ensures.not_page (λ i. Err (none i))) told
+    none_found (g.J.RowJudge.sound c.args.judge.now) d0 d c.args.dev c.args.nulls sides l.number l.directory l.space l.invariant low (get_or sides l.number 0) refl (c.in_err-page.ensures.not_page (λ i. Err (none i))) told
 
 pub returns-in_err-page-clause-not_row : goal.returns-in_err-page-clause-not_row
 returns-in_err-page-clause-not_row g c = λ is told.
@@ -71,7 +71,7 @@ returns-in_err-list_page-clause-not_page g c = λ is told.
     let low : l.number < length sides = omega (arith, c.loop-number-test.true) in
     let p = err_from_is_err_and c.from_residual-in_err-list_page.result c.from_residual-in_err-list_page.ensures.1 in
     let twins : c.in_err-list_page.field-0.0 ≡ Twins = are_twins c.in_err-list_page.field-0.0 (cc (p.1, p.2, is)) in
-    twins_found (g.J.RowJudge.sound c.args.judge.now) d0 d c.args.dev c.args.nulls sides l.number l.directory.entries l.space l.invariant low (get_or sides l.number 0) refl c.in_ok-page.page c.in_ok-page.ensures.page (c.in_err-list_page.ensures.twins (λ i. Err (twins i))) told
+    twins_found (g.J.RowJudge.sound c.args.judge.now) d0 d c.args.dev c.args.nulls sides l.number l.directory l.space l.invariant low (get_or sides l.number 0) refl c.in_ok-page.page c.in_ok-page.ensures.page (c.in_err-list_page.ensures.twins (λ i. Err (twins i))) told
 
 pub returns-in_err-list_page-clause-not_row : goal.returns-in_err-list_page-clause-not_row
 returns-in_err-list_page-clause-not_row g c = λ is told.
@@ -82,7 +82,7 @@ returns-in_err-list_page-clause-not_row g c = λ is told.
     let low : l.number < length sides = omega (arith, c.loop-number-test.true) in
     let p = err_from_is_err_and c.from_residual-in_err-list_page.result c.from_residual-in_err-list_page.ensures.1 in
     let unsound : c.in_err-list_page.field-0.0 ≡ Unsound = is_unsound c.in_err-list_page.field-0.0 (cc (p.1, p.2, is)) in
-    unsound_found (g.J.RowJudge.sound c.args.judge.now) d0 d c.args.dev c.args.nulls sides l.number l.directory.entries l.space l.invariant low (get_or sides l.number 0) refl c.in_ok-page.page c.in_ok-page.ensures.page (c.in_err-list_page.ensures.unsound (λ i. Err (unsound i))) told
+    unsound_found (g.J.RowJudge.sound c.args.judge.now) d0 d c.args.dev c.args.nulls sides l.number l.directory l.space l.invariant low (get_or sides l.number 0) refl c.in_ok-page.page c.in_ok-page.ensures.page (c.in_err-list_page.ensures.unsound (λ i. Err (unsound i))) told
 
 -- AN ERROR
 
@@ -202,8 +202,8 @@ length_from-requires-clause-end g c = λ told.
     let d = g.D.Disks.view l.disks in
     let sides = c.args.sides.now in
     let end : length sides ≤ l.number = omega (arith, c.loop-number-test.false) in
-    let so = all_pages sound d0 d c.args.dev c.args.nulls sides l.number l.directory.entries l.space end l.invariant in
-    subst (λ n. n * 8192 ≤ length (d.bytes c.args.dev)) (sym c.sides_up_to.ensures) (reaches sound d0 d c.args.dev c.args.nulls sides l.directory.entries l.space so c.requires.sides told)
+    let so = all_pages sound d0 d c.args.dev c.args.nulls sides l.number l.directory l.space end l.invariant in
+    subst (λ n. n * 8192 ≤ length (d.bytes c.args.dev)) (sym c.sides_up_to.ensures) (reaches sound d0 d c.args.dev c.args.nulls sides l.directory l.space so c.requires.sides told)
 
 pub returns-clause-opened : goal.returns-clause-opened
 returns-clause-opened g c =
@@ -214,11 +214,11 @@ returns-clause-opened g c =
     let sides = c.args.sides.now in
     let e = g.D.Disks.view c.length_from.new.disks in
     let end : length sides ≤ l.number = omega (arith, c.loop-number-test.false) in
-    let so = all_pages sound d0 d c.args.dev c.args.nulls sides l.number l.directory.entries l.space end l.invariant in
+    let so = all_pages sound d0 d c.args.dev c.args.nulls sides l.number l.directory l.space end l.invariant in
     let x = c.in_ok-store_on.field-0 in
     let made = c.in_ok-store_on.ensures in
     let least : sides_up_to sides * 8192 ≤ x.pool.len = omega (arith, c.in_ok-len.ensures.least, c.sides_up_to.ensures, made.device.2) in
-    opened sound d0 d c.args.dev c.args.nulls sides l.directory.entries l.space so c.requires.sides x.pool made.frames.0 made.frames.1 made.device.0 made.pool least e x c.in_ok-len.ensures.kept c.requires.known made.device.1
+    opened sound d0 d c.args.dev c.args.nulls sides l.directory l.space so c.requires.sides x.pool made.frames.0 made.frames.1 made.device.0 made.pool least e x c.in_ok-len.ensures.kept c.requires.known made.device.1
     (λ told. made.device.2 ∙ c.in_ok-len.ensures.length told) refl (sym made.rows.0) (sym made.rows.1) (sym made.rows.3) (sym made.rows.2)
 
 pub returns-clause-kept : goal.returns-clause-kept
@@ -250,5 +250,5 @@ returns-clause-judged g c = λ told.
     let d = g.D.Disks.view l.disks in
     let sides = c.args.sides.now in
     let end : length sides ≤ l.number = omega (arith, c.loop-number-test.false) in
-    let so = all_pages sound d0 d c.args.dev c.args.nulls sides l.number l.directory.entries l.space end l.invariant in
-    all_judged sound d0 d c.args.dev c.args.nulls sides l.directory.entries l.space so c.requires.sides told
+    let so = all_pages sound d0 d c.args.dev c.args.nulls sides l.number l.directory l.space end l.invariant in
+    all_judged sound d0 d c.args.dev c.args.nulls sides l.directory l.space so c.requires.sides told

@@ -10,4 +10,4 @@ returns-clause-reads g c = λ dev named t is told.
     let f = c.in_ok-flush.ensures in
     let stands = f.rows dev named t is in
     subst (λ (l : List ℕ). HaveRows true (e.bytes dev) l t) (f.sides ∙ sym (c.in_ok-sides.ensures ∙ c.as_slice.ensures.value))
-    (clean_rows (e.bytes dev) y.pool y.sides.items y.space y.directory.entries t (stands.is.told (f.others.shape.told ∙ told)) f.clean)
+    (clean_rows (e.bytes dev) y.pool y.sides.items y.space y.directory t (stands.is.told (f.others.shape.told ∙ told)) f.clean)

@@ -4,8 +4,8 @@ use Rattle.salt_model.specs.Tables.{place}
 use Rattle.salt_rows.proofs.store.RowStore.get.Goals as goal
 use Rattle.std.proofs.Common.{ap, sym, ◌∙◌}
 
-pub returns-clause-row : goal.returns-clause-row
-returns-clause-row g c = λ dev named t is told.
+pub returns-in-None-clause-row : goal.returns-in-None-clause-row
+returns-in-None-clause-row g c = λ dev named t is told.
     let has = is.is.told told in
-    let es = c.args.self.now.directory.entries in
-    sym (none_at es has.pages t has.rows (place c.args.table c.args.key.now) (ap (λ k. page_of es (place c.args.table k)) (sym c.in_ok-copy.ensures) ∙ sym c.page_of.ensures ∙ c.in-None.is))
+    let es = c.args.self.now.directory in
+    sym (none_at es has.pages t has.rows (place c.args.table c.args.key.now) (ap (λ k. page_of es (place c.args.table k)) (sym c.in_ok-copy.ensures) ∙ sym c.look_for.ensures.page ∙ c.in-None.is))

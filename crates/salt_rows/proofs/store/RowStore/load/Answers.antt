@@ -33,7 +33,7 @@ pub returns-in-Some-2-clause-rows : goal.returns-in-Some-2-clause-rows
 returns-in-Some-2-clause-rows g c dev named t is told =
     let x = c.args.self.now in
     c.load_seats.ensures.rows dev named t is told c.args.range.now
-    (c.as_slice-in-Some-2.ensures.value ∙ given _ _ c.in-Some-2.seats c.in-Some-2.is c.in_ok-seats.ensures.seats ∙ ap (λ u. seats_in u c.args.range.now x.directory.entries) c.table-table.ensures)
+    (c.as_slice-in-Some-2.ensures.value ∙ given _ _ c.in-Some-2.seats c.in-Some-2.is c.in_ok-seats.ensures.seats ∙ ap (λ u. seats_in u c.args.range.now x.directory) c.table-table.ensures)
 
 -- ROWS OF A RANGE
 
@@ -45,8 +45,8 @@ returns-then-came-extent-clause-rows g c dev named t is told =
     let range = c.args.range.now in
     let marks = c.as_slice-2.result.now in
     let count : length marks ≡ length x.sides.items = ap length c.as_slice-2.ensures.value ∙ c.in_ok-extent.ensures.count ∙ c.page_count-count.ensures in
-    let all : HaveAllOf old.table range x.directory.entries marks =
-    subst (HaveAllOf old.table range x.directory.entries) (sym c.as_slice-2.ensures.value) (subst (λ u. HaveAllOf u range x.directory.entries c.in_ok-extent.extent.pages.items) c.table-table.ensures c.in_ok-extent.ensures.all) in
+    let all : HaveAllOf old.table range x.directory marks =
+    subst (HaveAllOf old.table range x.directory) (sym c.as_slice-2.ensures.value) (subst (λ u. HaveAllOf u range x.directory c.in_ok-extent.extent.pages.items) c.table-table.ensures c.in_ok-extent.ensures.all) in
     range_loaded d x dev named t is told range old c.load_marked-2.new.out
     (c.in_ok-load_marked.ensures.rows (own_pages d x dev named t is told) (on_own d x dev named t is told) (marked_none d x dev named t is told old.table range marks count all) told)
 
@@ -60,9 +60,9 @@ rejected-requires g c =
     let range = c.args.range.now in
     let marks = c.as_slice-2.result.now in
     let count : length marks ≡ length x.sides.items = ap length c.as_slice-2.ensures.value ∙ c.in_ok-extent.ensures.count ∙ c.page_count-count.ensures in
-    let all : HaveAllOf old.table range x.directory.entries marks =
-    subst (HaveAllOf old.table range x.directory.entries) (sym c.as_slice-2.ensures.value) (subst (λ u. HaveAllOf u range x.directory.entries c.in_ok-extent.extent.pages.items) c.table-table.ensures c.in_ok-extent.ensures.all) in
-    let rows : c.in_ok-extent.extent.rows ≡ count_in old.table range x.directory.entries = c.in_ok-extent.ensures.rows ∙ ap (λ u. count_in u range x.directory.entries) c.table-table.ensures in
+    let all : HaveAllOf old.table range x.directory marks =
+    subst (HaveAllOf old.table range x.directory) (sym c.as_slice-2.ensures.value) (subst (λ u. HaveAllOf u range x.directory c.in_ok-extent.extent.pages.items) c.table-table.ensures c.in_ok-extent.ensures.all) in
+    let rows : c.in_ok-extent.extent.rows ≡ count_in old.table range x.directory = c.in_ok-extent.ensures.rows ∙ ap (λ u. count_in u range x.directory) c.table-table.ensures in
     c.in_ok-load_marked.ensures.kept.shape.told ∙ not_told d.told (λ told.
     let loaded = range_loaded d x s.dev s.named s.t s.is told range old new
     (c.in_ok-load_marked.ensures.rows (own_pages d x s.dev s.named s.t s.is told) (on_own d x s.dev s.named s.t s.is told) (marked_none d x s.dev s.named s.t s.is told old.table range marks count all) told) in

@@ -50,4 +50,4 @@ returns-in_ok-mark-in-Gone-clause-gone g c = λ dev named t is put.
     let f = c.in_ok-free.ensures.rows in
     let q = c.args.place.now in
     gone_here d e x c.replace_row.new.pool dev named t is c.in_ok-free.ensures.kept c.args.page c.index-side.result.now low side f.0 f.1 f.2 c.in-Gone.free z c.in_ok-mark-in-Gone.ensures.marked q c.requires.page
-    (option_copied c.args.row) (record z { directory = c.remove.new.self }) refl refl refl refl c.remove.ensures.entries c.remove.ensures.updates.0 (subst (IsReplaced q.table q.key (option_copied c.args.row) f.0 f.1) c.in-Gone.is f.3)
+    (option_copied c.args.row) (record z { directory = c.remove.new.self }) refl refl refl refl c.remove.ensures.entries c.remove.ensures.others (subst (IsReplaced q.table q.key (option_copied c.args.row) f.0 f.1) c.in-Gone.is f.3)
