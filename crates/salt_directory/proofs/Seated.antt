@@ -4,7 +4,7 @@ use Rattle.salt_directory.proofs.Keys.{first, second}
 use Rattle.salt_directory.proofs.Marking.{all_pass, in_from, narrowed, none_behind}
 use Rattle.salt_directory.proofs.Placed.{found_filtered, less_apart, page_there}
 use Rattle.salt_directory.specs.Directories.{is_in}
-use Rattle.salt_directory.specs.Loading.{HasLoaded, IsSeated, part_of, seat_of, seats_in}
+use Rattle.salt_directory.specs.Loading.{HasLoaded, IsSeated, count_in, part_of, seat_of, seats_in}
 use Rattle.salt_directory.specs.Pages.{page_of}
 use Rattle.salt_directory.specs.declared.seats.Seat.{Seat}
 use Rattle.salt_eval.proofs.InOrder.{parted, tables_of-list}
@@ -19,7 +19,7 @@ use Rattle.salt_stands.proofs.Booleans.{join, left, right}
 use Rattle.salt_stands.proofs.Places.{same_tables}
 use Rattle.salt_values.specs.Value.{is_same_value, key_of}
 use Rattle.salt_values.specs.declared.value.Value.{Value}
-use Rattle.std.proofs.Common.{Bool, List, None, Some, [], ap, append_assoc, cond, eqb-true, false, map, not, refl, subst, suc, sym, true, ℕ, ◌++◌, ◌==◌, ◌≡◌, ◌∙◌, ◌∷◌}
+use Rattle.std.proofs.Common.{Bool, List, None, Some, [], ap, append_assoc, arith, cond, eqb-true, false, length, map, not, refl, subst, suc, sym, take, true, zero, ℕ, ◌+◌, ◌++◌, ◌<◌, ◌==◌, ◌≡◌, ◌∙◌, ◌∷◌}
 use Rattle.std.proofs.lemmas.Bool.{eq-eqb}
 use Rattle.std.proofs.lemmas.List.{append-nil}
 use Rattle.std.specs.BTreeMap.Range.{entries_between}
@@ -35,48 +35,97 @@ module _ (t : ℕ) (range : KeyRange) where
   abbrev within : List (Place × ℕ) → List (Place × ℕ)
   within es = where_key place_cmp (is_in t range) es
 
-  -- LISTED
+  -- COUNTED
 
-  -- What is left of the directory comes in order, at or behind the lower end. What is in the range is listed, or is left.
-  pub record IsSeating (directory : List (Place × ℕ)) (seats : List Seat) (rest : List (Place × ℕ)) : Type 0 where
+  -- What is left of the directory comes in order, at or behind the lower end. What is in the range is counted, or is left.
+  pub record IsCounting (directory : List (Place × ℕ)) (count : ℕ) (rest : List (Place × ℕ)) : Type 0 where
     pub in_order : T (is_sorted place_cmp rest)
     pub begun : list_all (λ (e : Place × ℕ). from t range None e.0) rest ≡ true
-    pub listed : seats ++ seats_in t range rest ≡ seats_in t range directory
+    pub counted : count + count_in t range rest ≡ count_in t range directory
 
-  pub seating_begins : (directory rest : List (Place × ℕ)) (seats : List Seat) → seats ≡ [] → T (is_sorted place_cmp directory) → rest ≡ entries_between place_cmp (start_of t range.lo None) Unbounded directory → IsSeating directory seats rest
-  seating_begins directory rest seats none sorted is = subst (λ l. IsSeating directory l rest) (sym none) (subst (IsSeating directory []) (sym is) (record {
+  pub counting_begins : (directory rest : List (Place × ℕ)) → T (is_sorted place_cmp directory) → rest ≡ entries_between place_cmp (start_of t range.lo None) Unbounded directory → IsCounting directory 0 rest
+  counting_begins directory rest sorted is = subst (IsCounting directory 0) (sym is) (record {
     in_order = is_sorted-where_key place_cmp (from t range None) directory sorted;
     begun = all_pass (from t range None) directory;
-    listed = ap (map seat_of) (narrowed (is_in t range) (from t range None) (in_from t range) directory);
-  }))
+    counted = omega (arith, ap (λ (l : List (Place × ℕ)). length l) (narrowed (is_in t range) (from t range None) (in_from t range) directory));
+  })
 
-  module _ (directory : List (Place × ℕ)) (seats : List Seat) (rest : List (Place × ℕ)) (so : IsSeating directory seats rest) where
-    -- a row of the range is listed
-    pub seating_goes : (e : Place × ℕ) (left_over : List (Place × ℕ)) (new : List Seat) → rest ≡ e ∷ left_over → is_in t range e.0 ≡ true → new ≡ seats ++ seat_of e ∷ [] → IsSeating directory new left_over
-    seating_goes e left_over new is inside made = subst (λ l. IsSeating directory l left_over) (sym made) (by (subst (IsSeating directory seats) is so))
+  module _ (directory : List (Place × ℕ)) (count : ℕ) (rest : List (Place × ℕ)) (so : IsCounting directory count rest) where
+    -- a row of the range is counted
+    pub counting_goes : (e : Place × ℕ) (left_over : List (Place × ℕ)) → rest ≡ e ∷ left_over → is_in t range e.0 ≡ true → IsCounting directory (count + 1) left_over
+    counting_goes e left_over is inside = by (subst (IsCounting directory count) is so)
       where
-        by : IsSeating directory seats (e ∷ left_over) → IsSeating directory (seats ++ seat_of e ∷ []) left_over
+        more : count_in t range (e ∷ left_over) ≡ suc (count_in t range left_over)
+        more = ap (λ b. length (cond b (e ∷ within left_over) (within left_over))) inside
+
+        by : IsCounting directory count (e ∷ left_over) → IsCounting directory (count + 1) left_over
         by h = record {
           in_order = (parted (below_all place_cmp e.0 left_over) (is_sorted place_cmp left_over) h.in_order).1;
           begun = right (from t range None e.0) (list_all (λ (f : Place × ℕ). from t range None f.0) left_over) h.begun;
-          listed = append_assoc seats (seat_of e ∷ []) (seats_in t range left_over)
-              ∙ ap (λ (l : List (Place × ℕ)). seats ++ map seat_of l) (sym (ap (λ b. cond b (e ∷ within left_over) (within left_over)) inside))
-              ∙ h.listed;
+          counted = omega (arith, h.counted, more);
         }
 
-    seated_all : within rest ≡ [] → seats ≡ seats_in t range directory
-    seated_all none = sym (append-nil seats) ∙ ap (λ (l : List (Place × ℕ)). seats ++ map seat_of l) (sym none) ∙ so.listed
+    counted_all : within rest ≡ [] → count ≡ count_in t range directory
+    counted_all none = omega (arith, so.counted, ap (λ (l : List (Place × ℕ)). length l) none)
 
     -- the directory is at its end
-    pub seating_ends : rest ≡ [] → seats ≡ seats_in t range directory
-    seating_ends done = seated_all (ap within done)
+    pub counting_ends : rest ≡ [] → count ≡ count_in t range directory
+    counting_ends done = counted_all (ap within done)
 
     -- or what comes is behind the range
-    pub seating_stops : (e : Place × ℕ) (left_over : List (Place × ℕ)) → rest ≡ e ∷ left_over → is_in t range e.0 ≡ false → seats ≡ seats_in t range directory
-    seating_stops e left_over is outside = seated_all (ap within is ∙ by (subst (IsSeating directory seats) is so))
+    pub counting_stops : (e : Place × ℕ) (left_over : List (Place × ℕ)) → rest ≡ e ∷ left_over → is_in t range e.0 ≡ false → count ≡ count_in t range directory
+    counting_stops e left_over is outside = counted_all (ap within is ∙ by (subst (IsCounting directory count) is so))
       where
-        by : IsSeating directory seats (e ∷ left_over) → within (e ∷ left_over) ≡ []
+        by : IsCounting directory count (e ∷ left_over) → within (e ∷ left_over) ≡ []
         by h = none_behind t range e left_over h.in_order h.begun outside
+
+  -- LISTED
+
+  -- rows that come in order, at or behind the lower end: those of the range come first
+  front : (rows : List (Place × ℕ)) → T (is_sorted place_cmp rows) → list_all (λ (e : Place × ℕ). from t range None e.0) rows ≡ true → take (count_in t range rows) rows ≡ within rows
+  front [] sorted begun = refl
+  front (e ∷ rows) sorted begun =
+      by (is_in t range e.0) refl (front rows (parted (below_all place_cmp e.0 rows) (is_sorted place_cmp rows) sorted).1 (right (from t range None e.0) (list_all (λ (f : Place × ℕ). from t range None f.0) rows) begun))
+    where
+      by : (b : Bool) → is_in t range e.0 ≡ b → take (count_in t range rows) rows ≡ within rows → take (count_in t range (e ∷ rows)) (e ∷ rows) ≡ within (e ∷ rows)
+      by true inside more =
+          let is : within (e ∷ rows) ≡ e ∷ within rows = ap (λ b. cond b (e ∷ within rows) (within rows)) inside in
+          ap (λ (l : List (Place × ℕ)). take (length l) (e ∷ rows)) is ∙ ap (λ (l : List (Place × ℕ)). e ∷ l) more ∙ sym is
+      by false outside more =
+          let is : within (e ∷ rows) ≡ [] = none_behind t range e rows sorted begun outside in
+          ap (λ (l : List (Place × ℕ)). take (length l) (e ∷ rows)) is ∙ sym is
+
+  -- so many rows as the range has, from its lower end on, are its rows
+  pub first_seats : (directory rows : List (Place × ℕ)) (count : ℕ) → T (is_sorted place_cmp directory) → rows ≡ entries_between place_cmp (start_of t range.lo None) Unbounded directory → count ≡ count_in t range directory → map seat_of (take count rows) ≡ seats_in t range directory
+  first_seats directory rows count sorted is all =
+      let begun = counting_begins directory rows sorted is in
+      let same : count_in t range directory ≡ count_in t range rows = omega (arith, begun.counted) in
+      ap (λ n. map seat_of (take n rows)) (all ∙ same)
+      ∙ ap (map seat_of) (front rows begun.in_order begun.begun)
+      ∙ ap (λ (l : List (Place × ℕ)). map seat_of (within l)) is
+      ∙ ap (map seat_of) (narrowed (is_in t range) (from t range None) (in_from t range) directory)
+
+  -- so many of the rows are left to be listed
+  pub seating_goes : (directory rows left_over : List (Place × ℕ)) (n m : ℕ) (seats new : List Seat) (e : Place × ℕ) → seats ++ map seat_of (take n rows) ≡ seats_in t range directory → rows ≡ e ∷ left_over → m + 1 ≡ n → new ≡ seats ++ seat_of e ∷ [] → new ++ map seat_of (take m left_over) ≡ seats_in t range directory
+  seating_goes directory rows left_over n m seats new e listed is one made =
+      ap (λ l. l ++ map seat_of (take m left_over)) made
+      ∙ append_assoc seats (seat_of e ∷ []) (map seat_of (take m left_over))
+      ∙ ap (λ (l : List (Place × ℕ)). seats ++ map seat_of l) first
+      ∙ listed
+    where
+      next : suc m ≡ n
+      next = omega (arith, one)
+
+      first : e ∷ take m left_over ≡ take n rows
+      first = ap (λ (l : List (Place × ℕ)). take (suc m) l) (sym is) ∙ ap (λ k. take k rows) next
+
+  -- none is left
+  pub seating_ends : (directory rows : List (Place × ℕ)) (n : ℕ) (seats : List Seat) → seats ++ map seat_of (take n rows) ≡ seats_in t range directory → (0 < n → rows ≡ []) → seats ≡ seats_in t range directory
+  seating_ends directory rows n seats listed done = sym (append-nil seats) ∙ ap (λ (l : List (Place × ℕ)). seats ++ map seat_of l) (sym (none n done)) ∙ listed
+    where
+      none : (k : ℕ) → (0 < k → rows ≡ []) → take k rows ≡ []
+      none zero done = refl
+      none (suc k) done = ap (λ (l : List (Place × ℕ)). take (suc k) l) (done (omega arith))
 
   own_place : (q : Place) → is_in t range q ≡ true → place t q.key ≡ q
   own_place q inside = λ i. place (eqb-true t q.table (left (t == q.table) (has_key range q.key) inside) i) q.key
