@@ -2,6 +2,7 @@
 #![tactic(auto)]
 
 mod calls;
+mod covers;
 mod device;
 mod devices;
 mod disks;
