@@ -38,11 +38,11 @@ LONGEST = [1.05, 1.05, 1.6]
 COUNTED = 2_000
 LIMIT = 60
 
-# How often a kind of statement is done over so many rows, and its text at a key.
+# How often a kind of statement is done over so many rows, and its text at a key. What fills the table is taken off, so of statements on one row there are at least as many.
 KINDS = {
-    "point select": (lambda rows: POINTS, lambda key: f"select * from t where key = {key}"),
-    "point update": (lambda rows: POINTS, lambda key: f"update t set n = n + 1 where key = {key}"),
-    "delete": (lambda rows: min(rows, POINTS), lambda key: f"delete from t where key = {key}"),
+    "point select": (lambda rows: max(rows, POINTS), lambda key: f"select * from t where key = {key}"),
+    "point update": (lambda rows: max(rows, POINTS), lambda key: f"update t set n = n + 1 where key = {key}"),
+    "delete": (lambda rows: rows, lambda key: f"delete from t where key = {key}"),
     "range of 100": (lambda rows: RANGES, lambda key: f"select * from t where key between {key} and {key + WIDTH - 1} and n < 500"),
     "sum of all": (lambda rows: SUMMED // rows, lambda key: "select sum(n) from t"),
 }
